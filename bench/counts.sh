@@ -1,0 +1,13 @@
+#!/usr/bin/env bash
+# Lines a second of a script of 16 MB of `counts` lines, and of a quarter of it, to see that time is linear.
+set -euo pipefail
+top=$(cd "$(dirname "${BASH_SOURCE[0]}")/.." && pwd)
+text=$(mktemp)
+trap 'rm -f "$text"' EXIT
+for lines in 466000 1864134; do
+    awk -v n="$lines" 'BEGIN { print "open 1"; for (i = 0; i < n; i++) print "counts 0" }' > "$text"
+    for _ in 1 2 3; do
+        TIMEFORMAT="$lines lines: %R s, %U s of processor time"
+        time "$top/eureka" script < "$text" > /dev/null
+    done
+done

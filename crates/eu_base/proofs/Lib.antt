@@ -1,0 +1,2 @@
+pub mod InstanceLemmas
+pub mod KeyLemmas

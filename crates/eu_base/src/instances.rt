@@ -1,0 +1,42 @@
+//! Instances, as they are registered.
+ghost use Rattle.std.specs.Prelude.{◌≡◌, ◌<◌, ◌≤◌, ◌^◌, IfOk};
+
+use crate::names::Key;
+use crate::statuses::Status;
+use std::alloc::{AllocError, Global};
+
+/// An instance, as it is registered (`InstanceInfo` in Eureka).
+#[derive(Debug, Drop)]
+pub struct Instance {
+    /// The key of its lease.
+    pub key: Key,
+    /// Its status, by which clients choose whom to ask.
+    pub status: Status,
+    /// The status that overrides its own; `Unknown` where none does.
+    pub overridden: Status,
+    /// The stamp of its last change: 0 to 2^63 - 1.
+    pub dirty: u64,
+    /// The duration of its lease, in seconds: 1 to 2,147,483.
+    pub secs: u32,
+    ghost dirty_bound: { dirty < 2 ^ 63 },
+    ghost secs_bound: { (1 ≤ secs) × (secs ≤ 2147483) },
+}
+
+impl Instance {
+    /// The seconds that a lease lasts where the registration gives none (`LeaseInfo.DEFAULT_LEASE_DURATION` in Eureka).
+    pub const DEFAULT_SECS: u32 = 90;
+
+    /// The same instance once more.
+    pub fn copy(&self, alloc: Global) -> Result<Instance, AllocError>
+        ensures { IfOk result (λ i. i ≡ self.now) }
+    {
+        let key = self.key.copy(alloc)?;
+        Ok(Instance {
+            key,
+            status: self.status,
+            overridden: self.overridden,
+            dirty: self.dirty,
+            secs: self.secs,
+        })
+    }
+}

@@ -1,0 +1,19 @@
+//! Names, moments, stamps, settings, instances and faults: the values that every layer speaks of.
+#![tactic(auto)]
+
+mod faults;
+mod instances;
+mod names;
+mod settings;
+mod statuses;
+mod times;
+
+pub use faults::Fault;
+pub use instances::Instance;
+pub use names::{App, Id, Key};
+pub use settings::Config;
+pub use statuses::Status;
+pub use times::{Moment, Stamp};
+
+#[cfg(test)]
+mod tests;

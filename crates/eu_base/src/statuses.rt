@@ -1,0 +1,62 @@
+//! The status of an instance.
+ghost use Rattle.std.specs.Prelude.{◌≡◌};
+ghost use Rattle.std.specs.Str.{bytes_eq};
+ghost use Rattle.eu_base.specs.Status.{status_name, status_of};
+
+/// The status of an instance (`InstanceInfo.InstanceStatus` in Eureka).
+#[derive(Clone, Copy, Debug, PartialEq, Eq)]
+pub enum Status {
+    /// Ready for traffic.
+    Up,
+    /// Its health check failed.
+    Down,
+    /// About to start.
+    Starting,
+    /// Taken out of traffic on purpose.
+    OutOfService,
+    /// Not known.
+    Unknown,
+}
+
+impl Status {
+    /// The status in Eureka's spelling, as `OUT_OF_SERVICE`.
+    pub fn name(self) -> &'static str
+        ensures { result.now ≡ status_name self }
+    {
+        match self {
+            Status::Up => "UP",
+            Status::Down => "DOWN",
+            Status::Starting => "STARTING",
+            Status::OutOfService => "OUT_OF_SERVICE",
+            Status::Unknown => "UNKNOWN",
+        }
+    }
+
+    /// The status of that name, in capitals. None for any other text.
+    pub fn read(text: &[u8]) -> Option<Status>
+        ensures { result ≡ status_of text.now }
+    {
+        if is_text(text, "UP") {
+            return Some(Status::Up);
+        }
+        if is_text(text, "DOWN") {
+            return Some(Status::Down);
+        }
+        if is_text(text, "STARTING") {
+            return Some(Status::Starting);
+        }
+        if is_text(text, "OUT_OF_SERVICE") {
+            return Some(Status::OutOfService);
+        }
+        if is_text(text, "UNKNOWN") {
+            return Some(Status::Unknown);
+        }
+        None
+    }
+}
+
+fn is_text(bytes: &[u8], text: &str) -> bool
+    ensures { result ≡ bytes_eq bytes.now text.now }
+{
+    bytes == text.as_bytes()
+}

@@ -1,0 +1,142 @@
+//! Values from Eureka's own names and from the limits of each type.
+use crate::*;
+use std::alloc::Global;
+use std::test::Fail;
+
+fn text_of(alloc: Global, bytes: usize) -> Result<String, Fail> {
+    let mut text = String::new(alloc);
+    for _ in 0..bytes {
+        text.push_str("a")?;
+    }
+    Ok(text)
+}
+
+#[test]
+fn applications_are_read_in_capitals(rt: HostRuntime) -> Result<(), Fail> {
+    let app = App::read(rt.alloc(), "my-aPp_é1")?;
+    assert_eq!(rt; app.as_str(), "MY-APP_é1");
+    assert_eq!(rt; app.copy(rt.alloc())?.as_str(), "MY-APP_é1");
+    assert!(rt; App::read(rt.alloc(), "") == Err(Fault::Empty));
+    let longest = text_of(rt.alloc(), 255)?;
+    assert_eq!(rt;
+        App::read(rt.alloc(), longest.as_str())?.as_str().len(),
+        255
+    );
+    let longer = text_of(rt.alloc(), 256)?;
+    assert!(rt; App::read(rt.alloc(), longer.as_str()) == Err(Fault::TooLong));
+    Ok(())
+}
+
+#[test]
+fn ids_are_read_as_given(rt: HostRuntime) -> Result<(), Fail> {
+    let id = Id::read(rt.alloc(), "Host:a:8080")?;
+    assert_eq!(rt; id.as_str(), "Host:a:8080");
+    assert_eq!(rt; id.copy(rt.alloc())?.as_str(), "Host:a:8080");
+    assert!(rt; Id::read(rt.alloc(), "") == Err(Fault::Empty));
+    let longer = text_of(rt.alloc(), 256)?;
+    assert!(rt; Id::read(rt.alloc(), longer.as_str()) == Err(Fault::TooLong));
+    Ok(())
+}
+
+fn key(alloc: Global, app: &str, id: &str) -> Result<Key, Fault> {
+    Ok(Key {
+        app: App::read(alloc, app)?,
+        id: Id::read(alloc, id)?,
+    })
+}
+
+#[test]
+fn keys_are_ordered_by_application_first(rt: HostRuntime) -> Result<(), Fail> {
+    let first = key(rt.alloc(), "a", "z")?;
+    let second = key(rt.alloc(), "B", "Y")?;
+    let third = key(rt.alloc(), "b", "a")?;
+    assert!(rt; first < second);
+    assert!(rt; second < third);
+    assert!(rt; second != third);
+    assert!(rt; third == third.copy(rt.alloc())?);
+    assert!(rt;
+        first.app < second.app
+            && first.app.partial_cmp(&second.app) == Some(std::cmp::Ordering::Less)
+    );
+    assert!(rt;
+        first.id > second.id
+            && first.id.partial_cmp(&second.id) == Some(std::cmp::Ordering::Greater)
+    );
+    Ok(())
+}
+
+#[test]
+fn statuses_have_eurekas_names(rt: HostRuntime) {
+    for (status, name) in [
+        (Status::Up, "UP"),
+        (Status::Down, "DOWN"),
+        (Status::Starting, "STARTING"),
+        (Status::OutOfService, "OUT_OF_SERVICE"),
+        (Status::Unknown, "UNKNOWN"),
+    ] {
+        assert!(rt; status.name() == name);
+        assert!(rt; Status::read(name.as_bytes()) == Some(status));
+    }
+    assert!(rt; Status::read(b"up").is_none());
+    assert!(rt; Status::read(b"").is_none());
+}
+
+#[test]
+fn moments_and_stamps_have_limits(rt: HostRuntime) {
+    assert_eq!(rt;
+        Moment::new(4_611_686_018_427_387_904).map(|moment| moment.ms()),
+        Some(4_611_686_018_427_387_904)
+    );
+    assert!(rt; Moment::new(4_611_686_018_427_387_905).is_none());
+    assert_eq!(rt;
+        Stamp::new(9_223_372_036_854_775_807).map(|stamp| stamp.value),
+        Some(9_223_372_036_854_775_807)
+    );
+    assert!(rt; Stamp::new(9_223_372_036_854_775_808).is_none());
+}
+
+#[test]
+fn settings_have_limits(rt: HostRuntime) -> Result<(), Fail> {
+    let config = Config::new(true, 85, 30, 60_000)?;
+    assert!(rt;
+        config.preservation
+            && config.percent == 85
+            && config.interval == 30
+            && config.evict_ms == 60_000
+    );
+    assert!(rt; Config::new(false, 0, 1, 0).is_ok());
+    assert!(rt; Config::new(false, 100, 3600, u32::MAX).is_ok());
+    assert!(rt; matches!(Config::new(true, 101, 0, 0), Err(Fault::BadPercent)));
+    assert!(rt; matches!(Config::new(true, 100, 0, 0), Err(Fault::BadInterval)));
+    assert!(rt; matches!(Config::new(true, 100, 3601, 0), Err(Fault::BadInterval)));
+    Ok(())
+}
+
+#[test]
+fn an_instance_is_copied(rt: HostRuntime) -> Result<(), Fail> {
+    let instance = Instance {
+        key: key(rt.alloc(), "a", "i1")?,
+        status: Status::Starting,
+        overridden: Status::OutOfService,
+        dirty: 7,
+        secs: 90,
+    };
+    let copy = instance.copy(rt.alloc())?;
+    assert!(rt; copy.key == instance.key);
+    assert!(rt; copy.status == Status::Starting && copy.overridden == Status::OutOfService);
+    assert!(rt; copy.dirty == 7 && copy.secs == 90);
+    Ok(())
+}
+
+#[test]
+fn faults_have_numbers(rt: HostRuntime) -> Result<(), Fail> {
+    assert_eq!(rt; Fault::Empty.number(), 1);
+    assert_eq!(rt; Fault::NoPeer.number(), 15);
+    assert_eq!(rt; Fault::NotJson.number(), 20);
+    assert_eq!(rt; Fault::BadEncoding.number(), 42);
+    assert_eq!(rt;
+        format!(in rt.alloc(); "{}", Fault::Full)?.as_str(),
+        "the registry is full"
+    );
+    Ok(())
+}

@@ -1,0 +1,5 @@
+pub mod EntryLemmas
+pub mod StoreLemmas
+pub mod JoinLemmas
+pub mod RegisterLemmas
+pub mod RenewLemmas

@@ -1,0 +1,29 @@
+use Rattle.std.proofs.Common.{refl, ap, ◌∙◌, subst, ◌<◌}
+use Rattle.std.specs.Prelude.{Some, unwrap_or}
+use Rattle.std.specs.Option.{option_map}
+use Rattle.eu_base.specs.declared.instances.Instance.{Instance}
+use Rattle.eu_model.specs.Override.{rule}
+use Rattle.eu_model.specs.Change.{row_after}
+use Rattle.eu_model.specs.Maps.{with_value}
+use Rattle.eu_core.specs.Store.{rejoined}
+use Rattle.eu_core.specs.Joins.{IsPart}
+use Rattle.eu_core.proofs.JoinLemmas.{joins_from, some_and, chosen_under, times_at}
+use Rattle.eu_core.proofs.joins.join_under.Goals as goal
+
+pub returns-clause-ok : goal.returns-clause-ok
+returns-clause-ok c =
+    let h = some_and (IsPart c.args.held) _ c.requires.held in
+    let l = h.0 in
+    let n = c.args.instance.now in
+    let j : Instance = record l.instance { secs = n.secs; secs_bound = n.secs_bound } in
+    let row = c.get-row.result in
+    let s = c.settle-settled.ensures in
+    joins_from _ _ _ _ _ n j c.args.replicated c.args.moment (Some l) _ row _ _ _ _
+    h.1 (chosen_under l n (subst (λ d. n.dirty < d) h.2.dirty c.requires.older)) c.get-row.ensures
+    (s.row ∙ ap (row_after row) h.2.overridden)
+    (s.overridden ∙ ap (λ o. unwrap_or (row_after row o) o) h.2.overridden)
+    (s.status ∙ ap (λ o. rule c.args.held.status (row_after row o) (Some c.args.held.status) c.args.replicated) h.2.overridden
+    ∙ ap (λ x. rule x (row_after row l.instance.overridden) (Some x) c.args.replicated) h.2.status)
+    refl (times_at _ _ _ _ _ c.times_now-times.ensures h.2.up)
+    (c.rejoin.ensures ∙ ap (λ o. with_value c.args.leases.now.held n.key (option_map (rejoined n c.settle-settled.result.status c.settle-settled.result.overridden c.times_now-times.result) o)) h.1)
+    c.prepare_row.ensures.rows c.in_ok-put.ensures.put c.put_row.ensures

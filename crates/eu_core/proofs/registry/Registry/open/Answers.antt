@@ -1,0 +1,20 @@
+use Rattle.std.proofs.Common.{◌≡◌, ap, sym, ◌∙◌, arith}
+use Rattle.std.specs.Prelude.{None}
+use Rattle.std.specs.FinMap.{len, len-empty}
+use Rattle.eu_base.specs.Key.{key_cmp}
+use Rattle.eu_model.specs.declared.views.Listed.{Listed}
+use Rattle.eu_model.specs.Plain.{Plain}
+use Rattle.eu_model.proofs.OpeningLemmas.{plain-opening}
+use Rattle.eu_core.proofs.registry.Registry.open.Goals as goal
+
+pub invariant_of-result : goal.invariant_of-result
+invariant_of-result c =
+    let none : len c.new.result.held ≡ 0 = ap len c.new.ensures ∙ len-empty key_cmp Listed in
+    omega (arith, none)
+
+pub returns : goal.returns
+returns c =
+    let t = c.open.ensures in
+    let r = c.new-3.ensures.counts in
+    (λ i. let p : Plain = record { config = (t i).config; leases = c.new.ensures i; rows = c.new-2.ensures i; expected = (t i).expected; last = (r i).last; since = (r i).since; previous = None } in p)
+    ∙ sym (plain-opening c.args.config c.args.expected)

@@ -1,0 +1,21 @@
+-- What a registry means, and what is true of its fields
+use Rattle.std.specs.Prelude.{◌≤◌}
+use Rattle.std.specs.FinMap.{len}
+use Rattle.eu_model.specs.Plain.{Plain}
+use Rattle.eu_core.specs.declared.registry.Registry.TheInside.{Inside}
+
+-- the plain form of the fields
+abbrev pub plain_of : Inside → Plain
+plain_of a = record {
+  config = a.threshold.config;
+  leases = a.leases.held;
+  rows = a.rows.rows;
+  expected = a.threshold.expected;
+  last = a.rate.last;
+  since = a.rate.since;
+  previous = a.previous;
+}
+
+-- there are no more leases than may be
+abbrev pub IsSound : Inside → Type 0
+IsSound a = len a.leases.held ≤ 65536

@@ -1,0 +1,63 @@
+//! Renewals, counted by the minute.
+ghost use Rattle.std.specs.Prelude.{◌≡◌, ◌+◌, ◌^◌, ◌↔◌, ◌++◌, ◌∷◌, [], List, IfErr, OnOk, OnErr};
+ghost use Rattle.eu_model.specs.Marks.{Mark};
+ghost use Rattle.eu_model.specs.Marks.Mark.{Renewal, Minute};
+ghost use Rattle.eu_core.specs.Meter.{CountsMarks};
+
+use eu_base::Fault;
+use std::marker::Model;
+
+/// The most renewals that are counted in one minute.
+const MOST_RENEWALS: u64 = 1 << 62;
+
+/// Renewals, counted by the minute (`MeasuredRate` in Eureka). Contracts see the two counts.
+#[derive(Debug, Drop)]
+pub struct Rate {
+    last: u64,
+    since: u64,
+}
+
+impl Model for Rate {
+    ghost use Rattle.std.specs.Prelude.{◌≤◌, ◌^◌};
+    ghost use Rattle.eu_core.specs.Meter.{Counted, coded_counted};
+
+    ghost Value = { Counted };
+
+    ghost coded = { coded_counted };
+
+    ghost view = { λ r. record { last = r.last; since = r.since } };
+
+    ghost invariant = { λ r. r.since ≤ 2 ^ 62 };
+}
+
+impl Rate {
+    /// No renewal, in no minute.
+    pub fn new() -> Rate
+        ensures counts { result ≡ record { last = 0; since = 0 } }
+        ensures marks { CountsMarks [] result }
+    {
+        Rate { last: 0, since: 0 }
+    }
+
+    /// Counts a renewal. `Exhausted` exactly where 2^62 were counted in this minute; that changes nothing.
+    pub fn count(&mut self) -> Result<(), Fault>
+        ensures counts { OnOk result (self.new ≡ record self.old { since = self.old.since + 1 }) }
+        ensures marks { OnOk result ((marks : List Mark) → CountsMarks marks self.old → CountsMarks (marks ++ Renewal ∷ []) self.new) }
+        ensures exhausted { (result ≡ Err Fault.Exhausted) ↔ (self.old.since ≡ 2 ^ 62) }
+        ensures no_other { IfErr result (λ f. f ≡ Fault.Exhausted) }
+        ensures err { OnErr result (self.new ≡ self.old) }
+    {
+        if self.since == MOST_RENEWALS {
+            return Err(Fault::Exhausted);
+        }
+        self.since += 1;
+        Ok(())
+    }
+
+    /// The renewals of the last whole minute.
+    pub fn last(&self) -> u64
+        ensures { result ≡ self.now.last }
+    {
+        self.last
+    }
+}

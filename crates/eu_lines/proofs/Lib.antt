@@ -1,0 +1,4 @@
+pub mod Texts
+pub mod Bytes
+pub mod Steps
+pub mod Stages

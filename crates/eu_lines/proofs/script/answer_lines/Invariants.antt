@@ -1,0 +1,16 @@
+use Rattle.std.proofs.Common.{◌≡◌, ◌≤◌, ◌-◌, [], vec_len}
+use Rattle.eu_lines.proofs.Stages.{Stage}
+use Rattle.eu_lines.proofs.script.answer_lines.Given as goal
+
+abbrev pub invariant-reads : goal.invariant-reads
+invariant-reads g l = record {
+  chunk : vec_len l.chunk ≡ 65536;
+  number : l.run.number ≤ l.taken;
+  written : l.run.waiting.items ≡ [];
+  same_reader : g.R.Source.stream l.reader ≡ g.R.Source.stream l.initial.reader;
+  same_writer : g.W.Sink.stream l.writer ≡ g.W.Sink.stream l.initial.writer;
+  so_far : Stage g.D.Answerer.answers l.initial.desk l.initial.context (g.W.Sink.contents l.initial.writer) (g.R.Source.remaining l.initial.reader) (g.R.Source.remaining l.reader) l.taken l.run l.desk l.context (g.W.Sink.contents l.writer);
+}
+
+abbrev pub decreases-reads : goal.decreases-reads
+decreases-reads g l = 16777217 - l.taken

@@ -1,0 +1,32 @@
+//! Whoever answers lines.
+ghost use Rattle.std.specs.Prelude.{◌≡◌, ◌≤◌, ◌<◌, ℕ, List, [], length, OnOk, Err, string_bytes};
+
+use crate::{LONGEST_LINE, LineError};
+use std::alloc::Global;
+
+/// Whoever answers lines, over a context that is lent for each.
+pub trait Answerer<X> {
+    // An answerer in one state, with one context, answers a line: what it prints, and the state and context after.
+    ghost answers: { Self → X → List ℕ → List ℕ → Self → X → Type 0 };
+
+    // An answerer in one state, with one context, finds the line bad.
+    ghost refuses: { Self → X → List ℕ → Type 0 };
+
+    /// Answers one line, without its LF: it isn't empty, and has at most `LONGEST_LINE` bytes. What the line
+    /// prints goes into `out`.
+    ///
+    /// Of a bad line the error is `Bad`, and where there is no memory for the answer `OutOfMemory`. What is then in
+    /// `out` isn't printed, and `self` and `context` are left open.
+    fn answer(
+        &mut self,
+        alloc: Global,
+        context: &mut X,
+        line: &[u8],
+        out: &mut String,
+    ) -> Result<(), LineError>
+        requires some { 0 < length line.now }
+        requires short { length line.now ≤ LONGEST_LINE }
+        requires empty { string_bytes out.old ≡ [] }
+        ensures ok { OnOk result (answers self.old context.old line.now (string_bytes out.new) self.new context.new) }
+        ensures bad { result ≡ Err LineError.Bad → refuses self.old context.old line.now };
+}

@@ -1,0 +1,23 @@
+//! A text of lines, answered as it comes.
+//!
+//! `answer_lines` reads a stream of bytes, cuts it into lines at LF, has each line answered by an `Answerer`, and
+//! writes what the lines print. Whole lines are answered, written and flushed before the next read. It takes time
+//! in proportion to the text, however the text is cut into reads, keeps no more of it than one read and the front of
+//! one line, and ends even where the reader never does.
+#![tactic(auto)]
+
+mod answerer;
+mod faults;
+mod lines;
+mod run;
+mod script;
+
+pub use answerer::Answerer;
+pub use faults::{LineError, ScriptFault};
+pub use script::{MOST_BYTES, answer_lines};
+
+/// The most bytes of a line, without its LF. A longer line is bad.
+pub const LONGEST_LINE: usize = 4096;
+
+#[cfg(test)]
+mod tests;

@@ -1,0 +1,30 @@
+//! Lines cut from a text, and the front of one that hasn't ended.
+ghost use Rattle.std.specs.Prelude.{◌≡◌, ◌≤◌, ◌++◌, ◌∷◌, ℕ, List, length, IfSome, IfNone, OnOk, OnErr, vec_len};
+ghost use Rattle.eu_lines.specs.Lines.{HasNoEnd, IsKept};
+
+use crate::LONGEST_LINE;
+use std::alloc::AllocError;
+
+/// The text before the first LF, and the text after it; none where there is no LF.
+pub fn cut(text: &[u8]) -> Option<(&[u8], &[u8])>
+    ensures whole { IfSome result (λ parts. text.now ≡ parts.0.now ++ 10 ∷ parts.1.now) }
+    ensures first { IfSome result (λ parts. HasNoEnd parts.0.now) }
+    ensures none { IfNone result (HasNoEnd text.now) }
+{
+    for (i, byte) in text.iter().enumerate() {
+        if *byte == b'\n' {
+            return Some((&text[..i], &text[i + 1..]));
+        }
+    }
+    None
+}
+
+/// Adds a part of a line to what is kept of it: of a line that is too long its front alone.
+pub fn keep(kept: &mut Vec<u8>, part: &[u8]) -> Result<(), AllocError>
+    ensures ok { OnOk result ((line : List ℕ) → IsKept kept.old.items line → IsKept kept.new.items (line ++ part.now)) }
+    ensures few { vec_len kept.old ≤ 4097 → vec_len kept.new ≤ 4097 }
+    ensures err { OnErr result (kept.new.items ≡ kept.old.items) }
+{
+    let room = (LONGEST_LINE + 1).saturating_sub(kept.len());
+    kept.extend_from_slice(&part[..part.len().min(room)])
+}

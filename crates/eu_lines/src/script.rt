@@ -1,0 +1,61 @@
+//! A script from its first byte to its end.
+ghost use Rattle.std.specs.Prelude.{◌≡◌, ◌≤◌, ℕ, List, Option, IfOk, vec_len};
+ghost use Rattle.std.specs.Io.KnownBytes.{Consumes};
+ghost use Rattle.eu_lines.specs.Script.{Wrote, Outcome};
+
+use crate::run::{Run, take_chunk, take_end};
+use crate::{Answerer, ScriptFault};
+use eu_stream::{Sink, Source};
+use std::alloc::{AllocError, Global};
+
+/// The most bytes of a script.
+pub const MOST_BYTES: usize = 16_777_216;
+
+/// So many bytes are read at once.
+const CHUNK: usize = 65_536;
+
+/// Room for so many bytes.
+fn room_for(alloc: Global, len: usize) -> Result<Vec<u8>, AllocError>
+    ensures { IfOk result (λ room. vec_len room ≡ len) }
+{
+    vec![in alloc; 0u8; len]
+}
+
+/// Answers a script: reads it to its end, has its lines answered one after the other, and writes what they print.
+///
+/// Lines end with LF, and the last one may end with the text. An empty line prints nothing. Each read's whole lines are
+/// answered, and what they print is written and flushed, before the next read. At most `MOST_BYTES` bytes are
+/// within a script; a longer one has the lines answered whose LF is within them, and then the fault is `Read`.
+///
+/// `BadLine` comes where a line has more than `LONGEST_LINE` bytes, or the answerer finds it bad, once its end is
+/// known; `Read` where a read failed, or the script is too long; `Write` where a write or a flush failed; and
+/// `OutOfMemory` where there was no memory, for which the line prints nothing. Before `BadLine`, `Read` and
+/// `OutOfMemory` what the lines before it print is written and flushed. After any of them more may have been
+/// read than was answered.
+pub fn answer_lines<R: Source, W: Sink, X, D: Answerer<X>>(
+    alloc: Global,
+    reader: &mut R,
+    writer: &mut W,
+    desk: &mut D,
+    context: &mut X,
+) -> Result<(), ScriptFault>
+    ensures answered { (read : List ℕ) × Consumes (R.remaining reader.old) (R.remaining reader.new) read
+        × Wrote (W.contents writer.old) (W.contents writer.new)
+        (Outcome D.answers D.refuses desk.old context.old desk.new context.new (R.remaining reader.new) (R.failed reader.new) (W.failed writer.new) read result) }
+    ensures same_reader { R.stream reader.new ≡ R.stream reader.old }
+    ensures same_writer { W.stream writer.new ≡ W.stream writer.old }
+{
+    let mut run = Run::new(alloc);
+    let mut chunk = room_for(alloc, CHUNK)?;
+    let mut taken = 0;
+    'reads: while taken <= MOST_BYTES {
+        let count = reader.read_some(chunk.as_mut_slice())?;
+        if count == 0 {
+            return take_end(alloc, &mut run, desk, context, writer);
+        }
+        let fresh = count.min(MOST_BYTES - taken);
+        take_chunk(alloc, &mut run, desk, context, writer, &chunk[..fresh])?;
+        taken += count;
+    }
+    Err(ScriptFault::Read)
+}

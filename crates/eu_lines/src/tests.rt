@@ -1,0 +1,352 @@
+ghost use Rattle.std.specs.Prelude.{None, false};
+
+use crate::{Answerer, LONGEST_LINE, LineError, MOST_BYTES, ScriptFault, answer_lines};
+use eu_stream::{Discarding, ReadFault, Reading, Sink, Source, WriteFault, Writing};
+use std::alloc::Global;
+use std::cell::Cell;
+use std::test::Fail;
+
+/// Prints the length of each line, and finds lines bad that begin with '!'. Its context counts the lines.
+#[derive(Drop)]
+struct Lengths;
+
+impl Answerer<u64> for Lengths {
+    ghost answers = { λ _ _ _ _ _ _. Unit {0} };
+
+    ghost refuses = { λ _ _ _. Unit {0} };
+
+    fn answer(
+        &mut self,
+        _alloc: Global,
+        context: &mut u64,
+        line: &[u8],
+        out: &mut String,
+    ) -> Result<(), LineError> {
+        let length = line.len();
+        writeln!(out, "{length}")?;
+        if line[0] == b'!' {
+            return Err(LineError::Bad);
+        }
+        *context = context.wrapping_add(1);
+        Ok(())
+    }
+}
+
+/// Gives a text, so many bytes at a time, and then ends or fails.
+#[derive(Drop)]
+struct Parts<'a> {
+    text: &'a [u8],
+    size: usize,
+    fails: bool,
+    has_failed: bool,
+}
+
+impl<'a> Parts<'a> {
+    fn new(text: &'a [u8], size: usize, fails: bool) -> Parts<'a> {
+        Parts {
+            text,
+            size,
+            fails,
+            has_failed: false,
+        }
+    }
+}
+
+impl Source for Parts<'_> {
+    ghost stream = { λ _. 0 };
+
+    ghost remaining = { λ _. None };
+
+    ghost failed = { λ s. s.has_failed };
+
+    fn read_some(&mut self, buffer: &mut [u8]) -> Result<usize, ReadFault> {
+        if self.text.is_empty() && self.fails {
+            self.has_failed = true;
+            return Err(ReadFault);
+        }
+        let count = self.text.len().min(self.size).min(buffer.len());
+        buffer[..count].copy_from_slice(&self.text[..count]);
+        self.text = &self.text[count..];
+        Ok(count)
+    }
+}
+
+/// Gives one byte again and again, as often as it's told to.
+#[derive(Drop)]
+struct Repeated {
+    byte: u8,
+    left: usize,
+}
+
+impl Source for Repeated {
+    ghost stream = { λ _. 0 };
+
+    ghost remaining = { λ _. None };
+
+    ghost failed = { λ _. false };
+
+    fn read_some(&mut self, buffer: &mut [u8]) -> Result<usize, ReadFault> {
+        let count = self.left.min(buffer.len());
+        self.left -= count;
+        buffer.fill(self.byte);
+        Ok(count)
+    }
+}
+
+/// Takes so many bytes at a time, and fails once it's full.
+#[derive(Drop)]
+struct Held {
+    text: Vec<u8>,
+    size: usize,
+    most: usize,
+    flushes: usize,
+    has_failed: bool,
+}
+
+impl Held {
+    fn new(alloc: Global, size: usize, most: usize) -> Held {
+        Held {
+            text: Vec::new(alloc),
+            size,
+            most,
+            flushes: 0,
+            has_failed: false,
+        }
+    }
+}
+
+impl Sink for Held {
+    ghost stream = { λ _. 0 };
+
+    ghost contents = { λ _. None };
+
+    ghost failed = { λ s. s.has_failed };
+
+    fn write_some(&mut self, bytes: &[u8]) -> Result<usize, WriteFault> {
+        let room = self.most.saturating_sub(self.text.len());
+        let count = bytes.len().min(self.size).min(room);
+        let is_full = count == 0 && !bytes.is_empty();
+        if is_full || self.text.extend_from_slice(&bytes[..count]).is_err() {
+            self.has_failed = true;
+            return Err(WriteFault);
+        }
+        Ok(count)
+    }
+
+    fn flush(&mut self) -> Result<(), WriteFault> {
+        self.flushes = self.flushes.wrapping_add(1);
+        Ok(())
+    }
+}
+
+/// Gives a line three times, and sees at each read how much was flushed before.
+#[derive(Drop)]
+struct Watching<'a> {
+    flushed: &'a Cell<usize>,
+    reads: usize,
+    is_behind: bool,
+}
+
+impl Source for Watching<'_> {
+    ghost stream = { λ _. 0 };
+
+    ghost remaining = { λ _. None };
+
+    ghost failed = { λ _. false };
+
+    fn read_some(&mut self, buffer: &mut [u8]) -> Result<usize, ReadFault> {
+        self.is_behind = self.is_behind || self.flushed.get() < self.reads;
+        if self.reads >= 3 || buffer.len() < 2 {
+            return Ok(0);
+        }
+        self.reads += 1;
+        buffer[0] = b'a';
+        buffer[1] = b'\n';
+        Ok(2)
+    }
+}
+
+/// Tells how many lines were written and flushed.
+#[derive(Drop)]
+struct Telling<'a> {
+    flushed: &'a Cell<usize>,
+    written: usize,
+}
+
+impl Sink for Telling<'_> {
+    ghost stream = { λ _. 0 };
+
+    ghost contents = { λ _. None };
+
+    ghost failed = { λ _. false };
+
+    fn write_some(&mut self, bytes: &[u8]) -> Result<usize, WriteFault> {
+        self.written = self.written.wrapping_add(bytes.len() / 2);
+        Ok(bytes.len())
+    }
+
+    fn flush(&mut self) -> Result<(), WriteFault> {
+        self.flushed.set(self.written);
+        Ok(())
+    }
+}
+
+#[test]
+fn answers_before_the_next_read(rt: HostRuntime) {
+    let flushed = Cell::new(0);
+    let mut reader = Watching {
+        flushed: &flushed,
+        reads: 0,
+        is_behind: false,
+    };
+    let mut writer = Telling {
+        flushed: &flushed,
+        written: 0,
+    };
+    let mut count = 0;
+    let result = answer_lines(
+        rt.alloc(),
+        &mut reader,
+        &mut writer,
+        &mut Lengths,
+        &mut count,
+    );
+    assert!(rt; result == Ok(()));
+    assert!(rt; reader.reads == 3);
+    assert!(rt; !reader.is_behind);
+}
+
+#[test]
+fn answers_over_std_readers_and_writers(rt: HostRuntime) {
+    let mut reader = b"a\n\nbbbb\ncc".as_slice();
+    let mut out = Vec::new(rt.alloc());
+    let mut count = 0;
+    let result = answer_lines(
+        rt.alloc(),
+        &mut Reading::new(&mut reader),
+        &mut Writing::new(&mut out),
+        &mut Lengths,
+        &mut count,
+    );
+    assert!(rt; result == Ok(()));
+    assert!(rt; out.as_slice() == b"1\n4\n2\n".as_slice());
+    assert!(rt; count == 3);
+}
+
+#[test]
+fn ends_as_the_script_says(rt: HostRuntime) -> Result<(), Fail> {
+    let cases = [
+        (b"".as_slice(), false, Ok(()), b"".as_slice()),
+        (b"\n", false, Ok(()), b""),
+        (b"a\nbb", false, Ok(()), b"1\n2\n"),
+        (b"a\nbb\n", false, Ok(()), b"1\n2\n"),
+        (b"a\nbb", true, Err(ScriptFault::Read), b"1\n"),
+        (b"a\n\n!\nb", false, Err(ScriptFault::BadLine(3)), b"1\n"),
+        (b"a\n!", false, Err(ScriptFault::BadLine(2)), b"1\n"),
+        (b"a\n!", true, Err(ScriptFault::Read), b"1\n"),
+        (b"!\nb", true, Err(ScriptFault::BadLine(1)), b""),
+    ];
+    for (text, fails, wanted, printed) in cases {
+        for size in [1usize, 2, 3, 100] {
+            let mut reader = Parts::new(text, size, fails);
+            let mut writer = Held::new(rt.alloc(), size, 100);
+            let mut count = 0;
+            let result = answer_lines(
+                rt.alloc(),
+                &mut reader,
+                &mut writer,
+                &mut Lengths,
+                &mut count,
+            );
+            assert!(rt; result == wanted, "at {size}");
+            assert!(rt; writer.text.as_slice() == printed, "at {size}");
+        }
+    }
+    Ok(())
+}
+
+#[test]
+fn a_writer_fails_after_some_bytes(rt: HostRuntime) -> Result<(), Fail> {
+    for (text, most) in [
+        (b"a\nbb\nccc".as_slice(), 5usize),
+        (b"a\nbb\n!\n", 3),
+        (b"a\nbb\nccc", 0),
+    ] {
+        for size in [1usize, 100] {
+            let mut reader = Parts::new(text, size, false);
+            let mut writer = Held::new(rt.alloc(), size, most);
+            let mut count = 0;
+            let result = answer_lines(
+                rt.alloc(),
+                &mut reader,
+                &mut writer,
+                &mut Lengths,
+                &mut count,
+            );
+            assert!(rt; result == Err(ScriptFault::Write), "at {most}");
+            assert!(rt;
+                writer.text.as_slice() == &b"1\n2\n3\n"[..most.min(6)],
+                "at {most}"
+            );
+        }
+    }
+    Ok(())
+}
+
+#[test]
+fn lines_are_answered_up_to_their_longest(rt: HostRuntime) -> Result<(), Fail> {
+    for (more, wanted) in [(0usize, Ok(())), (1, Err(ScriptFault::BadLine(2)))] {
+        let mut text = Vec::from_slice(rt.alloc(), b"a\n")?;
+        text.extend_from_slice(vec![in rt.alloc(); b'x'; LONGEST_LINE + more]?.as_slice())?;
+        text.push(b'\n')?;
+        let printed = if more == 0 {
+            b"1\n4096\n".as_slice()
+        } else {
+            b"1\n"
+        };
+        for (length, size) in [
+            (text.len(), 100_000usize),
+            (text.len(), 1000),
+            (text.len() - 1, 1),
+        ] {
+            let mut reader = Parts::new(&text[..length], size, false);
+            let mut writer = Held::new(rt.alloc(), 100, 100);
+            let mut count = 0;
+            let result = answer_lines(
+                rt.alloc(),
+                &mut reader,
+                &mut writer,
+                &mut Lengths,
+                &mut count,
+            );
+            assert!(rt; result == wanted, "at {size}");
+            assert!(rt; writer.text.as_slice() == printed, "at {size}");
+        }
+    }
+    Ok(())
+}
+
+#[test]
+fn a_script_has_a_bound(rt: HostRuntime) {
+    let cases = [
+        (b'\n', MOST_BYTES, Ok(())),
+        (b'\n', MOST_BYTES + 1, Err(ScriptFault::Read)),
+        (b'x', MOST_BYTES, Err(ScriptFault::BadLine(1))),
+        (b'x', MOST_BYTES + 1, Err(ScriptFault::Read)),
+        (b'x', usize::MAX, Err(ScriptFault::Read)),
+        (b'\n', usize::MAX, Err(ScriptFault::Read)),
+    ];
+    for (byte, left, wanted) in cases {
+        let mut reader = Repeated { byte, left };
+        let mut count = 0;
+        let result = answer_lines(
+            rt.alloc(),
+            &mut reader,
+            &mut Discarding,
+            &mut Lengths,
+            &mut count,
+        );
+        assert!(rt; result == wanted, "at {byte} {left}");
+        assert!(rt; count == 0);
+    }
+}

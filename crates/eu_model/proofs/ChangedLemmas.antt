@@ -1,0 +1,79 @@
+-- A change of one lease, in plain form
+use Rattle.std.proofs.Common.{◌≡◌, ℕ, ◌+◌, Bool, true, false, refl, sym, ap, ◌∙◌, subst}
+use Rattle.std.specs.Prelude.{cond, Option, Some, None, ◌==◌, ◌^◌, is_some, Ok, Err}
+use Rattle.std.specs.Option.{option_map}
+use Rattle.std.specs.FinMap.{FinMap, get, len, contains_key}
+use Rattle.eu_base.specs.declared.faults.Fault.{Fault}
+use Rattle.eu_base.specs.declared.faults.Fault.TheVariants.{Full, Exhausted}
+use Rattle.eu_base.specs.declared.names.Key.{Key}
+use Rattle.eu_base.specs.Key.{key_cmp}
+use Rattle.eu_base.proofs.KeyLemmas.{keys_total, keys_exact}
+use Rattle.eu_model.specs.declared.views.Listed.{Listed}
+use Rattle.eu_model.specs.declared.commands.Command.{Command}
+use Rattle.eu_model.specs.Record.{Record}
+use Rattle.eu_model.specs.Marks.{since, last}
+use Rattle.eu_model.specs.Maps.{map_values}
+use Rattle.eu_model.specs.Machine.{Machine}
+use Rattle.eu_model.specs.Change.{Change}
+use Rattle.eu_model.specs.Step.{Step, changed, marked}
+use Rattle.eu_model.specs.Run.{fault, join_fault}
+use Rattle.eu_model.specs.Plain.{Plain, listed, plain}
+use Rattle.eu_model.specs.Answers.{IsRefusal, IsAnswer, Answers}
+use Rattle.eu_model.specs.Kept.{kept, after, kept_join_fault}
+use Rattle.eu_model.proofs.MarkLemmas.{since_renewal, last_renewal}
+use Rattle.eu_model.proofs.MapLemmas.{get-map_values, len-map_values, map_values-with_value}
+
+last-marked : (counted : Bool) (s : Machine) → last (marked counted s.marks) ≡ last s.marks
+last-marked true s = last_renewal s.marks
+last-marked false s = refl
+
+since-marked : (counted : Bool) (s : Machine) → since (marked counted s.marks) ≡ cond counted (since s.marks + 1) (since s.marks)
+since-marked true s = since_renewal s.marks
+since-marked false s = refl
+
+-- what is kept of a changed machine is changed alike
+pub plain-changed : (s : Machine) (k : Key) (change : Change Record) → plain (changed s k change) ≡ after (plain s) k (kept change)
+plain-changed s k change =
+    let leases = map_values-with_value keys_total keys_exact listed s.leases k change.lease in
+    let lasts = last-marked change.counted s in
+    let sinces = since-marked change.counted s in
+    λ i. record (after (plain s) k (kept change)) { leases = leases i; last = lasts i; since = sinces i }
+
+is_some-map : {X Y : Type 0} (f : X → Y) (o : Option X) → is_some (option_map f o) ≡ is_some o
+is_some-map f None = refl
+is_some-map f (Some x) = refl
+
+contains-listed : (m : FinMap key_cmp Record) (k : Key) → contains_key (map_values listed m) k ≡ contains_key m k
+contains-listed m k = ap is_some (get-map_values key_cmp listed m k) ∙ is_some-map listed (get m k)
+
+pub join_fault-kept : (s : Machine) (k : Key) → join_fault s k ≡ kept_join_fault (plain s) k
+join_fault-kept s k =
+    ap (λ b. cond b None (cond (len s.leases == 65536) (Some Full) (cond (s.expected == 2 ^ 40) (Some Exhausted) None))) (sym (contains-listed s.leases k))
+    ∙ ap (λ n. cond (contains_key (map_values listed s.leases) k) None (cond (n == 65536) (Some Full) (cond (s.expected == 2 ^ 40) (Some Exhausted) None))) (sym (len-map_values key_cmp listed s.leases))
+
+-- the lease at a key, as it is kept
+pub held_of : (s : Machine) (k : Key) → option_map listed (get s.leases k) ≡ get (plain s).leases k
+held_of s k = sym (get-map_values key_cmp listed s.leases k)
+
+-- A command whose change and whose fault are functions of what is kept is answered so, from each machine of that form
+module _ (c : Command) (t : ℕ) (k : Key) (change : Machine → Change Record) (kept_change : Plain → Change Listed) (kept_fault : Plain → Option Fault)
+    (steps : (s : Machine) → Step s c t (change s).reply (changed s k (change s)))
+    (changes : (s : Machine) → kept (change s) ≡ kept_change (plain s))
+    (faults : (s : Machine) → fault s c t ≡ kept_fault (plain s)) where
+  is_answered : (s : Machine) → kept_fault (plain s) ≡ None → IsAnswer s c t (Ok (kept_change (plain s)).reply) (after (plain s) k (kept_change (plain s)))
+  unfolding IsAnswer
+  is_answered s ok =
+      let same : (change s).reply ≡ (kept_change (plain s)).reply = ap (λ (x : Change Listed). x.reply) (changes s) in (
+        faults s ∙ ok,
+        (changed s k (change s), subst (λ reply. Step s c t reply (changed s k (change s))) same (steps s), plain-changed s k (change s) ∙ ap (after (plain s) k) (changes s)),
+      )
+
+  pub answered : (p : Plain) → kept_fault p ≡ None → Answers p c t (Ok (kept_change p).reply) (after p k (kept_change p))
+  unfolding Answers
+  answered p ok s e =
+      subst (λ q. kept_fault q ≡ None → IsAnswer s c t (Ok (kept_change q).reply) (after q k (kept_change q))) e (is_answered s) ok
+
+  pub refused : (p : Plain) (f : Fault) → IsRefusal (kept_fault p) f → Answers p c t (Err f) p
+  unfolding Answers IsAnswer
+  refused p f h s e =
+      subst (λ q. IsRefusal (kept_fault q) f → IsAnswer s c t (Err f) q) e (λ g. (subst (λ o. IsRefusal o f) (sym (faults s)) g, refl)) h

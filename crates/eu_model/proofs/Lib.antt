@@ -1,0 +1,10 @@
+pub mod MarkLemmas
+pub mod RecordLemmas
+pub mod MapLemmas
+pub mod ChangedLemmas
+pub mod RegisterLemmas
+pub mod RenewLemmas
+pub mod OpeningLemmas
+pub mod RunLemmas
+pub mod RaiseLemmas
+pub mod LawLemmas

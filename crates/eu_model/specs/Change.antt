@@ -1,0 +1,105 @@
+-- What a step on one lease leaves at its key and its id: a definition for each command
+use Rattle.std.specs.Prelude.{ℕ, ◌+◌, ◌==◌, Bool, true, false, not, ◌&&◌, ◌||◌, nat_lt, if◌then◌else◌, Option, Some, None, is_some}
+use Rattle.std.specs.Option.{option_map, option_map_or, option_or}
+use Rattle.eu_base.specs.declared.statuses.Status.{Status}
+use Rattle.eu_base.specs.declared.statuses.Status.TheVariants.{Up, Unknown}
+use Rattle.eu_base.specs.declared.instances.Instance.{Instance}
+use Rattle.eu_base.specs.declared.times.Stamp.{Stamp}
+use Rattle.eu_model.specs.declared.commands.Reply.{Reply}
+use Rattle.eu_model.specs.declared.commands.Reply.TheVariants.{Registered, Done, NotFound, Stale, Conflict}
+use Rattle.eu_model.specs.Override.{rule, is_status}
+use Rattle.eu_model.specs.Record.{Record, made, renewed}
+
+-- the lease at the key and the override row of its id, the number expected, whether a renewal is counted, the reply
+pub record Change (R : Type 0) : Type 0 where
+  pub lease : Option R
+  pub row : Option Status
+  pub expected : ℕ
+  pub counted : Bool
+  pub reply : Reply
+
+-- lease, row and number expected as they are given, and no renewal counted
+abbrev pub uncounted : {R : Type 0} → Option R → Option Status → ℕ → Reply → Change R
+uncounted lease row expected reply = record { lease = lease; row = row; expected = expected; counted = false; reply = reply }
+
+-- ---- a registration
+
+-- the held instance stays where its stamp is strictly greater, but its duration is the newcomer's
+abbrev pub newer : Option Instance → Instance → Instance
+newer None n = n
+newer (Some h) n = if nat_lt n.dirty h.dirty then record h { secs = n.secs; secs_bound = n.secs_bound } else n
+
+-- an overridden status other than UNKNOWN becomes the row, where the id has none
+abbrev pub row_after : Option Status → Status → Option Status
+row_after (Some row) overridden = Some row
+row_after None overridden = if is_status overridden Unknown then None else Some overridden
+
+-- where there is a row, it is the overridden status
+abbrev pub under_row : Option Status → Instance → Instance
+under_row None i = i
+under_row (Some row) i = record i { overridden = row }
+
+-- the instance that a registration leaves: its status is the rule's, by the status that was held
+abbrev pub joined : Option Instance → Option Status → Instance → Bool → Instance
+joined held row n replicated =
+    let chosen = newer held n in
+    let new_row = row_after row chosen.overridden in
+    let i = under_row new_row chosen in
+    record i { status = rule i.status new_row (option_map (λ h. h.status) held) replicated }
+
+-- the first moment at which the instance was up: kept, or set now; 0 means that it never was
+abbrev pub up_after : ℕ → Status → ℕ → ℕ
+up_after up status t = if (up == 0) && is_status status Up then t else up
+
+-- a client that comes is one more expected, but none is where none was
+abbrev pub one_more : Bool → ℕ → ℕ
+one_more comes expected = if comes && nat_lt 0 expected then expected + 1 else expected
+
+abbrev pub register : Option Record → Option Status → ℕ → Instance → Bool → ℕ → Change Record
+register held row expected n replicated t =
+    let before = option_map (λ r. r.instance) held in
+    let i = joined before row n replicated in
+    record {
+      lease = Some (made i (up_after (option_map_or (λ r. r.up) held 0) i.status t) t);
+      row = row_after row (newer before n).overridden;
+      expected = one_more (not (is_some held)) expected;
+      counted = false;
+      reply = Registered (not (is_some held));
+    }
+
+-- ---- a renewal
+
+-- the reply to a renewal with this stamp: a sender with a greater one is to register; a peer with a smaller one is told
+-- the instance; else all is well
+abbrev pub renew_reply : Option Stamp → Instance → Bool → Reply
+renew_reply None i replicated = Done
+renew_reply (Some d) i replicated =
+    if nat_lt i.dirty d.value then Stale else (if nat_lt d.value i.dirty && replicated then Conflict i else Done)
+
+-- the row that a peer's stale renewal brings: its overridden status, unless it is UNKNOWN or the row already
+abbrev pub brought : Reply → Bool → Option Status → Option Status → Option Status
+brought Stale true (Some overridden) row =
+    if is_status overridden Unknown || option_map_or (is_status overridden) row false then None else Some overridden
+brought _ _ _ _ = None
+
+-- a renewal that gives this status
+abbrev pub renew_as : Record → Option Status → ℕ → Option Stamp → Option Status → Bool → ℕ → Status → Change Record
+renew_as r row expected dirty overridden replicated t status =
+    let i = record r.instance { status = status } in
+    let reply = renew_reply dirty i replicated in
+    let new_row = brought reply replicated overridden row in
+    record {
+      lease = Some (record (renewed r t) { instance = under_row new_row i });
+      row = option_or new_row row;
+      expected = expected;
+      counted = true;
+      reply = reply;
+    }
+
+-- a lease whose status would be UNKNOWN isn't renewed
+abbrev pub renew : Option Record → Option Status → ℕ → Option Stamp → Option Status → Bool → ℕ → Change Record
+renew None row expected dirty overridden replicated t = uncounted None row expected NotFound
+renew (Some r) row expected dirty overridden replicated t =
+    let status = rule r.instance.status row (Some r.instance.status) replicated in
+    if is_status status Unknown then uncounted (Some r) row expected NotFound
+    else renew_as r row expected dirty overridden replicated t status

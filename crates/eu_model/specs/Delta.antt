@@ -1,0 +1,26 @@
+-- What an answered command adds to the accounts
+use Rattle.std.specs.Prelude.{ℕ, true}
+use Rattle.eu_model.specs.declared.commands.Command.{Command}
+use Rattle.eu_model.specs.declared.commands.Command.TheVariants.{Register, Renew}
+use Rattle.eu_model.specs.declared.commands.Reply.{Reply}
+use Rattle.eu_model.specs.declared.commands.Reply.TheVariants.{Registered, Done, Stale, Conflict}
+
+-- steps, counted renewals, leases that came and leases that went
+pub record Accounts : Type 0 where
+  pub steps : ℕ
+  pub counted : ℕ
+  pub added : ℕ
+  pub removed : ℕ
+
+abbrev pub counted_by : Command → Reply → ℕ
+counted_by (Renew k dirty overridden replicated) Done = 1
+counted_by (Renew k dirty overridden replicated) Stale = 1
+counted_by (Renew k dirty overridden replicated) (Conflict i) = 1
+counted_by _ _ = 0
+
+abbrev pub added_by : Command → Reply → ℕ
+added_by (Register n replicated) (Registered true) = 1
+added_by _ _ = 0
+
+abbrev pub delta : Command → Reply → Accounts
+delta c reply = record { steps = 1; counted = counted_by c reply; added = added_by c reply; removed = 0 }

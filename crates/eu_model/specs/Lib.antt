@@ -1,0 +1,17 @@
+pub mod Record
+pub mod Marks
+pub mod Meter
+pub mod Override
+pub mod Maps
+pub mod Machine
+pub mod Change
+pub mod Step
+pub mod Run
+pub mod Delta
+pub mod View
+pub mod Plain
+pub mod Answers
+pub mod Reaches
+pub mod Law
+pub mod Kept
+pub mod PlainCode

@@ -1,0 +1,27 @@
+-- The lease machine, with its whole past
+use Rattle.std.specs.Prelude.{ℕ, Bool, List, [], Option, None}
+use Rattle.std.specs.FinMap.{FinMap, empty}
+use Rattle.eu_base.specs.declared.settings.Config.{Config}
+use Rattle.eu_base.specs.declared.statuses.Status.{Status}
+use Rattle.eu_base.specs.Key.{name_cmp, key_cmp}
+use Rattle.eu_model.specs.Record.{Record}
+use Rattle.eu_model.specs.Marks.{Mark, last}
+use Rattle.eu_model.specs.Meter.{is_permitted}
+
+-- leases by key; override rows by instance id alone; the number of clients that are expected to renew; the previous
+-- eviction pass
+pub record Machine : Type 0 where
+  pub config : Config
+  pub leases : FinMap key_cmp Record
+  pub rows : FinMap name_cmp Status
+  pub expected : ℕ
+  pub marks : List Mark
+  pub previous : Option ℕ
+
+-- the machine as it is opened
+abbrev pub opening : Config → ℕ → Machine
+opening c expected = record { config = c; leases = empty; rows = empty; expected = expected; marks = []; previous = None }
+
+-- whether eviction is permitted now
+abbrev pub permits : Machine → Bool
+permits s = is_permitted s.config s.expected (last s.marks)

@@ -1,0 +1,15 @@
+-- How many renewals are wanted, and how many leases a pass may evict
+use Rattle.std.specs.Prelude.{ℕ, ◌-◌, ◌*◌, ◌/◌, Bool, not, ◌||◌, ◌&&◌, nat_lt}
+use Rattle.eu_base.specs.declared.settings.Config.{Config}
+
+-- the renewals a minute that so many clients owe, cut to the percentage: one in each interval of so many seconds
+abbrev pub threshold : Config → ℕ → ℕ
+threshold c expected = expected * 60 * c.percent / (c.interval * 100)
+
+-- how many of n leases one pass may evict
+abbrev pub share : Config → ℕ → ℕ
+share c n = n - n * c.percent / 100
+
+-- eviction is permitted where self-preservation is off, or where there is a threshold and more than it were renewed
+abbrev pub is_permitted : Config → ℕ → ℕ → Bool
+is_permitted c expected renewals = not c.preservation || (nat_lt 0 (threshold c expected) && nat_lt (threshold c expected) renewals)

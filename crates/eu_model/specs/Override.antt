@@ -1,0 +1,34 @@
+-- Which status an instance is given
+use Rattle.std.specs.Prelude.{Option, Some, None, Bool, true, false, ◌==◌, ℕ, unwrap_or, if◌then◌else◌}
+use Rattle.eu_base.specs.declared.statuses.Status.{Status}
+use Rattle.eu_base.specs.declared.statuses.Status.TheVariants.{Up, Down, Starting, OutOfService, Unknown}
+
+-- the place of a status among the five, by which they are told apart
+abbrev pub place_of : Status → ℕ
+place_of Up = 0
+place_of Down = 1
+place_of Starting = 2
+place_of OutOfService = 3
+place_of Unknown = 4
+
+abbrev pub is_status : Status → Status → Bool
+is_status a b = place_of a == place_of b
+
+-- UP and OUT_OF_SERVICE are what an override may change and what it may bring; the others are the instance's own word
+abbrev pub is_settable : Status → Bool
+is_settable Up = true
+is_settable OutOfService = true
+is_settable Down = false
+is_settable Starting = false
+is_settable Unknown = false
+
+-- for a client, a held status that is settable stands before the own one
+abbrev pub held_or_own : Option Status → Bool → Status → Status
+held_or_own (Some held) false own = if is_settable held then held else own
+held_or_own (Some held) true own = own
+held_or_own None replicated own = own
+
+-- The override rule, the first that holds: an own status that isn't settable; the row of the id in the override table;
+-- a held status that is settable, if the request isn't replicated; the own status
+abbrev pub rule : Status → Option Status → Option Status → Bool → Status
+rule own row held replicated = if is_settable own then unwrap_or row (held_or_own held replicated own) else own

@@ -1,0 +1,49 @@
+-- What is kept of the lease machine's past
+use Rattle.std.specs.Prelude.{ℕ, ◌+◌, Option}
+use Rattle.std.specs.FinMap.{FinMap}
+use Rattle.eu_base.specs.declared.settings.Config.{Config}
+use Rattle.eu_base.specs.declared.statuses.Status.{Status}
+use Rattle.eu_base.specs.Key.{name_cmp, key_cmp}
+use Rattle.eu_model.specs.declared.views.Listed.{Listed}
+use Rattle.eu_model.specs.Maps.{map_values}
+use Rattle.eu_model.specs.Record.{Kind, Touch, Record, newest, duration}
+use Rattle.eu_model.specs.Record.Kind.{Fresh, Renewed}
+use Rattle.eu_model.specs.Marks.{last, since}
+use Rattle.eu_model.specs.Machine.{Machine}
+
+-- the marks as the renewals of the last whole minute and those since
+pub record Plain : Type 0 where
+  pub config : Config
+  pub leases : FinMap key_cmp Listed
+  pub rows : FinMap name_cmp Status
+  pub expected : ℕ
+  pub last : ℕ
+  pub since : ℕ
+  pub previous : Option ℕ
+
+-- a touch as one number, the last update: a renewal counts from one duration later
+abbrev pub last_update : Kind → ℕ → ℕ → ℕ
+last_update Fresh at d = at
+last_update Renewed at d = at + d
+
+abbrev pub update_of : Touch → ℕ → ℕ
+update_of touch d = last_update touch.kind touch.at d
+
+-- a record as it is listed
+abbrev pub listed : Record → Listed
+listed r = record {
+  instance = r.instance;
+  times = record { registered = r.registered; updated = update_of (newest r.touches) (duration r.instance); up = r.up };
+}
+
+-- the plain form of a machine
+abbrev pub plain : Machine → Plain
+plain s = record {
+  config = s.config;
+  leases = map_values listed s.leases;
+  rows = s.rows;
+  expected = s.expected;
+  last = last s.marks;
+  since = since s.marks;
+  previous = s.previous;
+}

@@ -1,0 +1,27 @@
+-- A plain form, as it is stored
+use Rattle.std.specs.Prelude.{ℕ, Option, refl}
+use Rattle.std.specs.Coded.{Coded, code_by, coded×, coded_list, coded_ℕ, coded_option}
+use Rattle.std.specs.FinMap as map
+use Rattle.std.specs.FinMap.{FinMap}
+use Rattle.eu_base.specs.declared.settings.Config.{Config}
+use Rattle.eu_base.specs.declared.statuses.Status.{Status}
+use Rattle.eu_base.specs.contracts.settings.Config as config
+use Rattle.eu_base.specs.contracts.statuses.Status as status
+use Rattle.eu_base.specs.Key.{name_cmp, key_cmp, coded_key}
+use Rattle.eu_model.specs.declared.views.Listed.{Listed}
+use Rattle.eu_model.specs.contracts.views.Listed as listed
+use Rattle.eu_model.specs.Plain.{Plain}
+
+abbrev pub coded_leases : Coded (FinMap key_cmp Listed)
+coded_leases = map.code coded_key listed.the_row.coded
+
+abbrev pub coded_rows : Coded (FinMap name_cmp Status)
+coded_rows = map.code (coded_list coded_ℕ) status.the_row.coded
+
+abbrev pub coded_plain : Coded Plain
+coded_plain =
+    code_by (Config × (FinMap key_cmp Listed × (FinMap name_cmp Status × (ℕ × (ℕ × (ℕ × Option ℕ))))))
+    (coded× config.the_row.coded (coded× coded_leases (coded× coded_rows (coded× coded_ℕ (coded× coded_ℕ (coded× coded_ℕ (coded_option coded_ℕ)))))))
+    (λ p. (p.config, (p.leases, (p.rows, (p.expected, (p.last, (p.since, p.previous)))))))
+    (λ q. record { config = q.0; leases = q.1.0; rows = q.1.1.0; expected = q.1.1.1.0; last = q.1.1.1.1.0; since = q.1.1.1.1.1.0; previous = q.1.1.1.1.1.1 })
+    (λ _. refl)

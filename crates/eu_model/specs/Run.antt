@@ -1,0 +1,34 @@
+-- Faults, and runs of the lease machine
+use Rattle.std.specs.Prelude.{◌≡◌, ℕ, ◌^◌, ◌==◌, ◌&&◌, if◌then◌else◌, Option, Some, None, List, [], ◌∷◌}
+use Rattle.std.specs.FinMap.{get, len, contains_key}
+use Rattle.eu_base.specs.declared.faults.Fault.{Fault}
+use Rattle.eu_base.specs.declared.faults.Fault.TheVariants.{Full, Exhausted}
+use Rattle.eu_base.specs.declared.names.Key.{Key}
+use Rattle.eu_model.specs.declared.commands.Command.{Command}
+use Rattle.eu_model.specs.declared.commands.Command.TheVariants.{Register, Renew}
+use Rattle.eu_model.specs.declared.commands.Entry.{Entry}
+use Rattle.eu_model.specs.Marks.{since}
+use Rattle.eu_model.specs.Machine.{Machine}
+use Rattle.eu_model.specs.Change.{renew}
+use Rattle.eu_model.specs.Step.{Step}
+
+-- a lease that comes finds no room, or as many expected as can be
+abbrev pub join_fault : Machine → Key → Option Fault
+join_fault s k =
+    if contains_key s.leases k then None
+    else if len s.leases == 65536 then Some Full
+    else if s.expected == 2 ^ 40 then Some Exhausted
+    else None
+
+-- why a command is refused, if it is: a newcomer as above, and a renewal that would be counted where as many are as can be
+abbrev pub fault : Machine → Command → ℕ → Option Fault
+fault s (Register n replicated) t = join_fault s n.key
+fault s (Renew k dirty overridden replicated) t =
+    if (renew (get s.leases k) (get s.rows k.id) s.expected dirty overridden replicated t).counted && (since s.marks == 2 ^ 62)
+    then Some Exhausted else None
+
+-- each entry is a step that isn't refused, from the machine where the one before ended. Pass and number play no part
+abbrev pub Run : Machine → List Entry → Machine → Type 0
+Run old [] new = new ≡ old
+Run old (e ∷ es) new =
+    (mid : Machine) × (fault old e.command e.moment ≡ None) × Step old e.command e.moment e.reply mid × Run mid es new

@@ -1,0 +1,37 @@
+-- What a step of the lease machine may be
+use Rattle.std.specs.Prelude.{◌≡◌, ℕ, Bool, if◌then◌else◌, List, [], ◌∷◌, ◌++◌}
+use Rattle.std.specs.FinMap.{get}
+use Rattle.eu_base.specs.declared.names.Key.{Key}
+use Rattle.eu_model.specs.declared.commands.Command.{Command}
+use Rattle.eu_model.specs.declared.commands.Command.TheVariants.{Register, Renew}
+use Rattle.eu_model.specs.declared.commands.Reply.{Reply}
+use Rattle.eu_model.specs.Record.{Record}
+use Rattle.eu_model.specs.Marks.{Mark}
+use Rattle.eu_model.specs.Marks.Mark.{Renewal}
+use Rattle.eu_model.specs.Maps.{with_value}
+use Rattle.eu_model.specs.Machine.{Machine}
+use Rattle.eu_model.specs.Change.{Change, register, renew}
+
+-- a renewal that is counted leaves a mark
+abbrev pub marked : Bool → List Mark → List Mark
+marked counted marks = if counted then marks ++ Renewal ∷ [] else marks
+
+-- the machine after a step on the lease at a key. What isn't named stays
+abbrev pub changed : Machine → Key → Change Record → Machine
+changed s k change = record s {
+  leases = with_value s.leases k change.lease;
+  rows = with_value s.rows k.id change.row;
+  expected = change.expected;
+  marks = marked change.counted s.marks;
+}
+
+-- a step on the lease at a key makes this change, and no other
+abbrev pub Changes : Machine → Key → Change Record → Reply → Machine → Type 0
+Changes old k change reply new = (reply ≡ change.reply) × (new ≡ changed old k change)
+
+-- From old, the machine may answer the command so at the moment t, and go on to new
+abbrev pub Step : Machine → Command → ℕ → Reply → Machine → Type 0
+Step old (Register n replicated) t reply new =
+    Changes old n.key (register (get old.leases n.key) (get old.rows n.key.id) old.expected n replicated t) reply new
+Step old (Renew k dirty overridden replicated) t reply new =
+    Changes old k (renew (get old.leases k) (get old.rows k.id) old.expected dirty overridden replicated t) reply new

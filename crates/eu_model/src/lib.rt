@@ -1,0 +1,12 @@
+//! The lease machine: what a registry is, what may be asked of it, and what it may answer.
+//!
+//! The rules stand in `specs/`, from `Record` to `Law`. The types here are what they speak of.
+#![tactic(auto)]
+
+mod commands;
+mod law;
+mod views;
+
+pub use commands::{Command, Entry, Reply};
+pub use law::plain_form_decides;
+pub use views::{Counts, Listed, Query, Times, View};

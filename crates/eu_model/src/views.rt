@@ -1,0 +1,54 @@
+//! What is seen of a registry.
+
+use eu_base::Instance;
+
+/// What may be asked of a registry without changing it.
+#[derive(Debug, Drop)]
+pub enum Query {
+    /// How many leases are held, expected and renewed.
+    Counts,
+}
+
+/// What a query is answered.
+#[derive(Debug, Drop)]
+pub enum View {
+    /// The counts.
+    Counts(Counts),
+}
+
+/// The counts of a registry.
+#[derive(Clone, Copy, Debug)]
+pub struct Counts {
+    /// The leases that are held.
+    pub held: u64,
+    /// The clients that are expected to send renewals.
+    pub expected: u64,
+    /// The renewals a minute above which eviction is permitted.
+    pub threshold: u64,
+    /// The renewals of the last whole minute.
+    pub last: u64,
+    /// Whether eviction is permitted.
+    pub permitted: bool,
+    /// Whether self-preservation is on.
+    pub preservation: bool,
+}
+
+/// The moments of a lease, in milliseconds.
+#[derive(Clone, Copy, Debug)]
+pub struct Times {
+    /// When it was registered.
+    pub registered: u64,
+    /// The last update: when it was registered or, after a renewal, the renewal's moment and one duration.
+    pub updated: u64,
+    /// When its instance was first up; 0 where it never was.
+    pub up: u64,
+}
+
+/// A held lease, as it is listed.
+#[derive(Debug, Drop)]
+pub struct Listed {
+    /// The instance.
+    pub instance: Instance,
+    /// Its moments.
+    pub times: Times,
+}

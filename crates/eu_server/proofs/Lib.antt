@@ -1,0 +1,4 @@
+pub mod Texts
+pub mod Desks
+pub mod Alike
+pub mod Scripts

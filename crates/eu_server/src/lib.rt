@@ -1,0 +1,14 @@
+//! Scripts of a lease registry: lines of text in, printed lines out.
+#![tactic(auto)]
+
+mod desk;
+mod lines;
+mod printing;
+mod script;
+mod words;
+
+pub use eu_lines::ScriptFault;
+pub use script::{answer_script, run_script};
+
+#[cfg(test)]
+mod tests;

@@ -1,0 +1,71 @@
+//! Scripts, from bytes to bytes.
+ghost use Rattle.std.specs.Prelude.{ℕ, Bool, List, ◌≡◌};
+ghost use Rattle.std.specs.Io.KnownBytes.{Consumes};
+ghost use Rattle.eu_lines.specs.Script.{Wrote};
+ghost use Rattle.eu_server.specs.Script.{ScriptRuns};
+
+use crate::desk::Desk;
+use eu_base::Config;
+use eu_clock::Chooser;
+use eu_lines::{ScriptFault, answer_lines};
+use eu_stream::{Reading, Sink, Source, Writing};
+use std::alloc::Global;
+use std::io::{Read, Write};
+
+/// Runs a script: reads lines to its end, has a registry with these settings answer them, and writes what they print.
+///
+/// Lines end with LF, and the last one may end with the text. An empty line prints nothing. In any other, words stand
+/// between single spaces:
+///
+/// - `open N` opens the registry, which expects N clients, and prints `opened`. It stands once, before the others.
+/// - `register T APP ID SECS STATUS UNKNOWN DIRTY SRC` registers an instance with a lease of SECS seconds (0 stands for
+///   90) and the stamp DIRTY (`-` stands for T), and prints `204`.
+/// - `renew T APP ID - - SRC` renews a lease, and prints `200`, or `404` where none is held or it isn't to be renewed.
+/// - `counts T` prints `held H expected E threshold V last L permitted yes`, or `no`.
+///
+/// T is a moment in milliseconds, up to 2^62. APP and ID have 1 to 255 bytes of UTF-8; APP's ASCII letters are put in
+/// capitals. SECS is at most 2,147,483, and DIRTY at most 2^63 - 1. SRC is `c` for a client, and `r` for a peer that
+/// replicates. A number has 1 to 20 digits. Where the registry refuses a command, the line prints `refused` and the
+/// fault's number, nothing changes, and the script goes on.
+///
+/// `BadLine` comes where a line is none of these, or has more than 4,096 bytes; `Read` where a read failed, or the script
+/// has more than 16,777,216 bytes; `Write` where a write or a flush failed; and `OutOfMemory` where there was no memory
+/// for a line's answer, which isn't printed. Before `BadLine`, `Read` and `OutOfMemory` the lines before are answered
+/// and what they print is written. What the registry then holds is lost with it. No line asks `chooser` for a word.
+pub fn answer_script<R: Source, W: Sink, C: Chooser>(
+    alloc: Global,
+    reader: &mut R,
+    writer: &mut W,
+    config: Config,
+    chooser: &mut C,
+) -> Result<(), ScriptFault>
+    ensures runs { (read : List ℕ) × Consumes (R.remaining reader.old) (R.remaining reader.new) read
+        × Wrote (W.contents writer.old) (W.contents writer.new)
+        (ScriptRuns config C.asks chooser.old chooser.new (R.remaining reader.new) (R.failed reader.new) (W.failed writer.new) read result) }
+    ensures same_reader { R.stream reader.new ≡ R.stream reader.old }
+    ensures same_writer { W.stream writer.new ≡ W.stream writer.old }
+{
+    let mut desk = Desk::new(config);
+    answer_lines(alloc, reader, writer, &mut desk, chooser)
+}
+
+/// Runs a script as `answer_script` does, over any reader and writer of std.
+///
+/// A read or a write that a signal interrupts is tried again, up to 16 times. Their contracts don't tell when a read or a
+/// write fails, so this one doesn't either: `answer_script` does.
+pub fn run_script<R: Read, W: Write, C: Chooser>(
+    alloc: Global,
+    reader: &mut R,
+    writer: &mut W,
+    config: Config,
+    chooser: &mut C,
+) -> Result<(), ScriptFault>
+    ensures { (read : List ℕ) × Consumes (R.remaining reader.old) (R.remaining reader.new) read
+        × (failed_reader : Bool) × (failed_writer : Bool)
+        × Wrote (W.contents writer.old) (W.contents writer.new)
+        (ScriptRuns config C.asks chooser.old chooser.new (R.remaining reader.new) failed_reader failed_writer read result) }
+{
+    let mut reading = Reading::new(reader);
+    let mut writing = Writing::new(writer);
+    answer_script(alloc, &mut reading, &mut writing, config, chooser)
+}

@@ -1,0 +1,10 @@
+use Rattle.std.proofs.Common.{◌≡◌}
+use Rattle.std.specs.Io.KnownBytes.{Keeps}
+use Rattle.eu_stream.proofs.sink.WritingSink.write_some.Given as goal
+
+abbrev pub invariant-tries : goal.invariant-tries
+invariant-tries g l = record {
+  kept : Keeps (g.W.Write.contents l.initial.self.writer.now) (g.W.Write.contents l.self.writer.now);
+  sound : l.self.has_failed ≡ l.initial.self.has_failed;
+  same_stream : l.self.writer.ghost_name ≡ l.initial.self.writer.ghost_name;
+}

@@ -101,6 +101,7 @@ fn write_waiting<W: Sink>(writer: &mut W, waiting: &mut Vec<u8>) -> Result<(), W
     ensures ok { OnOk result (Appends (W.contents writer.old) (W.contents writer.new) waiting.old.items) }
     ensures none { OnOk result (waiting.new.items ≡ []) }
     ensures err { OnErr result ((k : ℕ) × Appends (W.contents writer.old) (W.contents writer.new) (take k waiting.old.items)) }
+    ensures sound { OnOk result (W.failed writer.new ≡ W.failed writer.old) }
     ensures failed { OnErr result (W.failed writer.new ≡ true) }
     ensures same_stream { W.stream writer.new ≡ W.stream writer.old }
 {
@@ -114,6 +115,7 @@ fn write_out<W: Sink>(writer: &mut W, waiting: &mut Vec<u8>) -> Result<(), Write
     ensures ok { OnOk result (Appends (W.contents writer.old) (W.contents writer.new) waiting.old.items) }
     ensures none { OnOk result (waiting.new.items ≡ []) }
     ensures err { OnErr result ((k : ℕ) × Appends (W.contents writer.old) (W.contents writer.new) (take k waiting.old.items)) }
+    ensures sound { OnOk result (W.failed writer.new ≡ W.failed writer.old) }
     ensures failed { OnErr result (W.failed writer.new ≡ true) }
     ensures same_stream { W.stream writer.new ≡ W.stream writer.old }
 {
@@ -135,6 +137,7 @@ pub fn take_line<W: Sink, X, D: Answerer<X>>(
     ensures kept { OnOk result (run.new.kept.items ≡ []) }
     ensures number { OnOk result (run.new.number ≡ run.old.number + 1) }
     ensures err { IfErr result (StopsAdding D.answers D.refuses run.old desk.old context.old (W.contents writer.old) part.now (W.contents writer.new) (W.failed writer.new)) }
+    ensures sound { OnOk result (W.failed writer.new ≡ W.failed writer.old) }
     ensures same_stream { W.stream writer.new ≡ W.stream writer.old }
 {
     if let Err(error) = answer_part(alloc, run, desk, context, part) {
@@ -161,6 +164,7 @@ pub fn take_chunk<W: Sink, X, D: Answerer<X>>(
     ensures written { OnOk result (run.new.waiting.items ≡ []) }
     ensures number { OnOk result (run.new.number ≤ run.old.number + length chunk.now) }
     ensures err { IfErr result (StopsTaking D.answers D.refuses run.old desk.old context.old (W.contents writer.old) chunk.now (W.contents writer.new) (W.failed writer.new)) }
+    ensures sound { OnOk result (W.failed writer.new ≡ W.failed writer.old) }
     ensures same_stream { W.stream writer.new ≡ W.stream writer.old }
 {
     let mut rest = chunk;
@@ -185,6 +189,7 @@ pub fn take_end<W: Sink, X, D: Answerer<X>>(
     ensures ok { OnOk result (Adds D.answers run.old desk.old context.old (W.contents writer.old) [] run.new desk.new context.new (W.contents writer.new)) }
     ensures written { OnOk result (run.new.waiting.items ≡ []) }
     ensures err { IfErr result (StopsAdding D.answers D.refuses run.old desk.old context.old (W.contents writer.old) [] (W.contents writer.new) (W.failed writer.new)) }
+    ensures sound { OnOk result (W.failed writer.new ≡ W.failed writer.old) }
     ensures same_stream { W.stream writer.new ≡ W.stream writer.old }
 {
     take_line(alloc, run, desk, context, writer, &[])?;

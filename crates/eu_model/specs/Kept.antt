@@ -1,4 +1,4 @@
--- The steps, taken on what is kept: no rule stands here a second time
+-- The steps and the faults, taken on what is kept. Only proofs read this file
 use Rattle.std.specs.Prelude.{ℕ, ◌+◌, ◌^◌, ◌==◌, Bool, ◌&&◌, if◌then◌else◌, Option, Some, None, [], ◌∷◌}
 use Rattle.std.specs.Option.{option_map}
 use Rattle.std.specs.FinMap.{len, contains_key}

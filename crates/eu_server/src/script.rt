@@ -1,5 +1,5 @@
 //! Scripts, from bytes to bytes.
-ghost use Rattle.std.specs.Prelude.{ℕ, Bool, List, ◌≡◌};
+ghost use Rattle.std.specs.Prelude.{ℕ, Bool, List, ◌≡◌, OnOk};
 ghost use Rattle.std.specs.Io.KnownBytes.{Consumes};
 ghost use Rattle.eu_lines.specs.Script.{Wrote};
 ghost use Rattle.eu_server.specs.Script.{ScriptRuns};
@@ -42,6 +42,8 @@ pub fn answer_script<R: Source, W: Sink, C: Chooser>(
     ensures runs { (read : List ℕ) × Consumes (R.remaining reader.old) (R.remaining reader.new) read
         × Wrote (W.contents writer.old) (W.contents writer.new)
         (ScriptRuns config C.asks chooser.old chooser.new (R.remaining reader.new) (R.failed reader.new) (W.failed writer.new) read result) }
+    ensures sound_reader { OnOk result (R.failed reader.new ≡ R.failed reader.old) }
+    ensures sound_writer { OnOk result (W.failed writer.new ≡ W.failed writer.old) }
     ensures same_reader { R.stream reader.new ≡ R.stream reader.old }
     ensures same_writer { W.stream writer.new ≡ W.stream writer.old }
 {
@@ -51,7 +53,7 @@ pub fn answer_script<R: Source, W: Sink, C: Chooser>(
 
 /// Runs a script as `answer_script` does, over any reader and writer of std.
 ///
-/// A read or a write that a signal interrupts is tried again, up to 16 times. Their contracts don't tell when a read or a
+/// A read, a write or a flush that a signal interrupts is tried up to 16 times. Their contracts don't tell when a read or a
 /// write fails, so this one doesn't either: `answer_script` does.
 pub fn run_script<R: Read, W: Write, C: Chooser>(
     alloc: Global,

@@ -21,19 +21,19 @@ const BAD_INPUT: u8 = 2;
 /// The exit status of any other fault.
 const FAILED: u8 = 3;
 
-/// Tells a fault by its number, and gives the exit status.
-fn tell_fault(rt: &impl Eprint, fault: Fault) -> io::Result<u8> {
+/// Tells a fault by its number, if standard error takes it, and gives the exit status.
+fn tell_fault(rt: &impl Eprint, fault: Fault) -> u8 {
     let number = fault.number();
-    eprintln!(rt; "fault {number}")?;
-    Ok(FAILED)
+    let _ = eprintln!(rt; "fault {number}");
+    FAILED
 }
 
-/// Tells why a script ended early, and gives the exit status.
-fn tell_end(rt: &impl Eprint, fault: ScriptFault) -> io::Result<u8> {
+/// Tells why a script ended early, if standard error takes it, and gives the exit status.
+fn tell_end(rt: &impl Eprint, fault: ScriptFault) -> u8 {
     match fault {
         ScriptFault::BadLine(line) => {
-            eprintln!(rt; "line {line}: bad line")?;
-            Ok(BAD_INPUT)
+            let _ = eprintln!(rt; "line {line}: bad line");
+            BAD_INPUT
         }
         ScriptFault::Read => tell_fault(rt, Fault::Read),
         ScriptFault::Write => tell_fault(rt, Fault::Write),
@@ -42,7 +42,7 @@ fn tell_end(rt: &impl Eprint, fault: ScriptFault) -> io::Result<u8> {
 }
 
 /// Runs a script, and gives the exit status.
-fn run<R: Input + Print + Eprint + AllocGlobal>(rt: &R, config: Config) -> io::Result<u8> {
+fn run<R: Input + Print + Eprint + AllocGlobal>(rt: &R, config: Config) -> u8 {
     let ended = run_script(
         rt.alloc(),
         &mut rt.reader(),
@@ -51,14 +51,21 @@ fn run<R: Input + Print + Eprint + AllocGlobal>(rt: &R, config: Config) -> io::R
         &mut FirstChooser,
     );
     match ended {
-        Ok(()) => Ok(DONE),
+        Ok(()) => DONE,
         Err(fault) => tell_end(rt, fault),
     }
 }
 
-/// Judges the words, and then does what they say.
-fn start<R: Env + Input + Print + Eprint + AllocGlobal>(rt: &R) -> io::Result<u8> {
-    let words: Vec<String> = env::args(rt)?.collect(rt.alloc())?;
+/// The words of the command line. None where there is no memory for them.
+fn words_given<R: Env + AllocGlobal>(rt: &R) -> Option<Vec<String>> {
+    env::args(rt).ok()?.collect(rt.alloc()).ok()
+}
+
+/// Judges the words, and then does what they say. Gives the exit status.
+fn start<R: Env + Input + Print + Eprint + AllocGlobal>(rt: &R) -> u8 {
+    let Some(words) = words_given(rt) else {
+        return tell_fault(rt, Fault::OutOfMemory);
+    };
     let Ok(command) = command(rt.alloc()) else {
         return tell_fault(rt, Fault::OutOfMemory);
     };
@@ -68,19 +75,19 @@ fn start<R: Env + Input + Print + Eprint + AllocGlobal>(rt: &R) -> io::Result<u8
             return tell_fault(rt, Fault::OutOfMemory);
         }
         Err(error) => {
-            error.print(rt)?;
-            return Ok(if error.use_stderr() { BAD_INPUT } else { DONE });
+            let _ = error.print(rt);
+            return if error.use_stderr() { BAD_INPUT } else { DONE };
         }
     };
     let Some(("script", given)) = matches.subcommand() else {
-        return Ok(BAD_INPUT);
+        return BAD_INPUT;
     };
     match config_of(given) {
         Some(config) => run(rt, config),
-        None => Ok(BAD_INPUT),
+        None => BAD_INPUT,
     }
 }
 
 fn main(rt: HostRuntime) -> ExitCode {
-    ExitCode::from(start(&rt).unwrap_or(FAILED))
+    ExitCode::from(start(&rt))
 }

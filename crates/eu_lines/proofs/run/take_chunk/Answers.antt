@@ -22,6 +22,7 @@ lines-preserved g c =
     record {
       room = omega (arith, more, c.in_ok-take_line.ensures.number, c.lines.invariant.room);
       same_stream = c.take_line.ensures.same_stream ∙ c.lines.invariant.same_stream;
+      sound = c.in_ok-take_line.ensures.sound ∙ c.lines.invariant.sound;
       so_far = (
         inv.0 ++ (c.in-Some.part.now ++ 10 ∷ []),
         goes_to inv.0 c.lines.rest.now c.in-Some.part.now c.in-Some.after.now c.args.chunk.now inv.1 whole,

@@ -17,6 +17,8 @@ reads-init g c = record {
   written = c.new-run.ensures.waiting;
   same_reader = refl;
   same_writer = refl;
+  sound_reader = refl;
+  sound_writer = refl;
   so_far = stage_start g.D.Answerer.answers g.D.Answerer.refuses c.args.desk.now c.args.context.now _ _ c.new-run.result c.new-run.ensures.kept c.new-run.ensures.number c.new-run.ensures.waiting;
 }
 
@@ -54,6 +56,8 @@ reads-preserved g c =
       written = c.in_ok-take_chunk.ensures.written;
       same_reader = c.read_some.ensures.same_stream ∙ c.reads.invariant.same_reader;
       same_writer = c.take_chunk.ensures.same_stream ∙ c.reads.invariant.same_writer;
+      sound_reader = c.in_ok-count.ensures.sound ∙ c.reads.invariant.sound_reader;
+      sound_writer = c.in_ok-take_chunk.ensures.sound ∙ c.reads.invariant.sound_writer;
       so_far = stage_more g.D.Answerer.answers g.D.Answerer.refuses c.args.desk.now c.args.context.now _ _ _ _ c.reads.taken c.in_ok-count.count c.min-fresh.result buffer (take c.min-fresh.result c.deref.result.now) c.reads.run c.take_chunk.new.run c.reads.desk c.reads.context c.take_chunk.new.desk c.take_chunk.new.context _ _
           c.reads.invariant.so_far (omega (arith, c.reads-test.true)) c.in_ok-count.ensures.bytes c.in_ok-count.ensures.bound c.min-fresh.ensures part c.in_ok-take_chunk.ensures.ok;
     }

@@ -9,6 +9,8 @@ invariant-reads g l = record {
   written : l.run.waiting.items ≡ [];
   same_reader : g.R.Source.stream l.reader ≡ g.R.Source.stream l.initial.reader;
   same_writer : g.W.Sink.stream l.writer ≡ g.W.Sink.stream l.initial.writer;
+  sound_reader : g.R.Source.failed l.reader ≡ g.R.Source.failed l.initial.reader;
+  sound_writer : g.W.Sink.failed l.writer ≡ g.W.Sink.failed l.initial.writer;
   so_far : Stage g.D.Answerer.answers l.initial.desk l.initial.context (g.W.Sink.contents l.initial.writer) (g.R.Source.remaining l.initial.reader) (g.R.Source.remaining l.reader) l.taken l.run l.desk l.context (g.W.Sink.contents l.writer);
 }
 

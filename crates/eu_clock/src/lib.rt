@@ -3,7 +3,7 @@
 
 mod choosers;
 
-pub use choosers::{Chooser, FirstChooser};
+pub use choosers::{Chooser, FirstChooser, ListChooser, RngChooser};
 
 #[cfg(test)]
 mod tests;

@@ -1,6 +1,6 @@
 -- The map that a list of entries makes, and what an edit of the list does to it
 use Rattle.std.proofs.Common.{◌≡◌, ℕ, zero, suc, ◌+◌, ◌≤◌, Bool, true, false, List, [], ◌∷◌, ◌++◌, refl, sym, ap, ◌∙◌, subst, length, get_or, arith}
-use Rattle.std.specs.Prelude.{cond, Option, Some, None, is_some, slice_get, slice_set, position, nat_lt}
+use Rattle.std.specs.Prelude.{cond, Option, Some, None, is_some, slice_get, slice_set, position, nat_lt, remove as remove_at}
 use Rattle.std.specs.Option.{option_map}
 use Rattle.std.specs.List.{position_or_len, find as find_by}
 use Rattle.std.specs.declared.cmp.Ordering.{Ordering}
@@ -30,6 +30,19 @@ module _ {K : Type 0} {R : K → K → Ordering} (o : IsTotalOrder R) (same : Is
 
   pub test_of_same : (a b : K) → a ≡ b → eq_by_cmp R a b ≡ true
   test_of_same a b e = subst (λ c. eq_by_cmp R a c ≡ true) e (test_itself a)
+
+-- a list without the element at a place
+without : {A : Type 0} → List A → ℕ → List A
+without [] i = []
+without (x ∷ xs) zero = xs
+without (x ∷ xs) (suc i) = x ∷ without xs i
+
+remove_at-without : {A : Type 0} (xs : List A) (i : ℕ) → remove_at xs i ≡ without xs i
+unfolding without
+remove_at-without [] zero = refl
+remove_at-without [] (suc i) = refl
+remove_at-without (x ∷ xs) zero = refl
+remove_at-without (x ∷ xs) (suc i) = ap (λ ys. x ∷ ys) (remove_at-without xs i)
 
 swapped : {A : Type 0} (a b : Bool) (x y z : A) → (a ≡ true → b ≡ true → ⊥) → cond a x (cond b y z) ≡ cond b y (cond a x z)
 swapped true true x y z apart = absurd (apart refl refl)
@@ -72,6 +85,31 @@ module _ {K X : Type 0} {R : K → K → Ordering} (o : IsTotalOrder R) (same : 
   find-set (e ∷ es) (suc i) k x y apart at q =
       ap (cond (eq_by_cmp R q e.0) (Some e.1)) (find-set es i k x y apart.1 at q)
       ∙ swapped (eq_by_cmp R q e.0) (eq_by_cmp R q k) (Some e.1) (Some y) (find R q es) (later e es i k x apart at q)
+
+  find-without : (es : List (K × X)) (i : ℕ) (k : K) (x : X) → AreApart R es → slice_get es i ≡ Some (k, x) → (q : K)
+      → find R q (without es i) ≡ cond (eq_by_cmp R q k) None (find R q es)
+  unfolding without
+  find-without [] i k x apart at q = cc
+  find-without (e ∷ es) zero k x apart at q =
+      let p : e ≡ (k, x) = cc in
+      let s : e.0 ≡ k = ap (λ d. d.0) p in
+      elim (eq_by_cmp R q k) as (λ b. eq_by_cmp R q k ≡ b → find R q es ≡ cond b None (cond (eq_by_cmp R q e.0) (Some e.1) (find R q es))) [
+        | true ↦ λ h. subst (λ c. find R c es ≡ None) (s ∙ sym (same_of_test o same q k h)) apart.0
+        | false ↦ λ h. ap (λ b. cond b (Some e.1) (find R q es)) (sym (ap (eq_by_cmp R q) s ∙ h))
+      ] refl
+  find-without (e ∷ es) (suc i) k x apart at q =
+      ap (cond (eq_by_cmp R q e.0) (Some e.1)) (find-without es i k x apart.1 at q)
+      ∙ swapped (eq_by_cmp R q e.0) (eq_by_cmp R q k) (Some e.1) None (find R q es) (later e es i k x apart at q)
+
+  apart-without : (es : List (K × X)) (i : ℕ) (k : K) (x : X) → AreApart R es → slice_get es i ≡ Some (k, x) → AreApart R (without es i)
+  unfolding without
+  apart-without [] i k x apart at = cc
+  apart-without (e ∷ es) zero k x apart at = apart.1
+  apart-without (e ∷ es) (suc i) k x apart at = (
+    find-without es i k x apart.1 at e.0
+        ∙ elim (eq_by_cmp R e.0 k) as (λ b. cond b None (find R e.0 es) ≡ None) [ true ↦ refl | false ↦ apart.0 ],
+    apart-without es i k x apart.1 at,
+  )
 
   missed : (k : K) (e : K × X) (es : List (K × X)) → find R k (e ∷ es) ≡ None → (eq_by_cmp R k e.0 ≡ false) × (find R k es ≡ None)
   missed k e es none =
@@ -148,6 +186,22 @@ module _ {K X : Type 0} {R : K → K → Ordering} (o : IsTotalOrder R) (same : 
   pub apart-set : (es : List (K × X)) (k : K) (i : ℕ) (e : K × X) (y : X) → AreApart R es → IsPlaced es k i → e ≡ get_or es i e → AreApart R (slice_set es i (e.0, y))
   apart-set es k i e y apart p is =
       subst (λ (q : K × X). AreApart R (slice_set es i (q.0, y))) (sym (at_place es k i e p is)) (apart-set_at es i k p.value y apart p.stands)
+
+  pub map_of-remove : (es : List (K × X)) (k : K) (i : ℕ) → AreApart R es → IsPlaced es k i → map_of {R = R} (remove_at es i) ≡ remove (map_of es) k
+  unfolding map_of
+  map_of-remove es k i apart p =
+      ap (λ (xs : List (K × X)). from_entries {R = R} xs) (remove_at-without es i)
+      ∙ same_map o same _ _ (λ q.
+      get-from_entries o _ q
+      ∙ find-without es i k p.value apart p.stands q
+      ∙ sym (get-remove o (from_entries es) k q ∙ ap (cond (eq_by_cmp R q k) None) (get-from_entries o es q)))
+
+  pub apart-remove : (es : List (K × X)) (k : K) (i : ℕ) → AreApart R es → IsPlaced es k i → AreApart R (remove_at es i)
+  apart-remove es k i apart p = subst (AreApart R) (sym (remove_at-without es i)) (apart-without es i k p.value apart p.stands)
+
+  -- an entry that is taken from the place of a key
+  pub get-taken : (es : List (K × X)) (k : K) (i : ℕ) (e : K × X) → AreApart R es → IsPlaced es k i → e ≡ get_or es i e → Some e.1 ≡ get (map_of {R = R} es) k
+  get-taken es k i e apart p is = sym (get-placed es k i e apart p is)
 
   pub remove_absent : (m : FinMap R X) (k : K) → get m k ≡ None → remove m k ≡ m
   remove_absent m k none = same_map o same _ _ (λ q.

@@ -19,7 +19,7 @@ use Rattle.eu_model.specs.Maps.{with_value}
 use Rattle.eu_model.specs.Kept.{kept_register}
 use Rattle.eu_core.specs.Joins.{row_to_put, with_put, Joins}
 use Rattle.eu_core.proofs.EntryLemmas.{remove_absent, insert_same}
-use Rattle.eu_core.proofs.StoreLemmas.{same_listed}
+use Rattle.eu_store.proofs.ListedLemmas.{same_listed}
 
 under_row_data : (row : Option Status) (j : Instance) (held : Option Status) (replicated : Bool) →
     data_of (let i = under_row row j in record i { status = rule i.status row held replicated }) ≡ (j.key, rule j.status row held replicated, unwrap_or row j.overridden, j.dirty, j.secs)
@@ -114,10 +114,6 @@ module _ (L L' : FinMap key_cmp Listed) (O O1 O' : FinMap name_cmp Status) (n j 
 -- a lease that was put where room was made, at a copy of the key
 pub put_at : (L L1 L' : FinMap key_cmp Listed) (k k' : Key) (x : Listed) → L' ≡ insert L1 k' x → L1 ≡ L → k' ≡ k → L' ≡ insert L k x
 put_at L L1 L' k k' x put room copy = put ∙ (λ i. insert (room i) (copy i) x)
-
-pub times_at : (u up : ℕ) (status : Status) (t : ℕ) (times : Times) → times ≡ record { registered = t; updated = t; up = up_after u status t } → u ≡ up
-    → times ≡ record { registered = t; updated = t; up = up_after up status t }
-times_at u up status t times is same = is ∙ (λ i. record { registered = t; updated = t; up = up_after (same i) status t })
 
 pub some_and : {A : Type 0} (P : A → Type 0) (o : Option A) → IsSomeAnd o P → (x : A) × (o ≡ Some x) × P x
 some_and P None h = absurd h

@@ -1,5 +1,8 @@
 pub mod EntryLemmas
-pub mod StoreLemmas
 pub mod JoinLemmas
 pub mod RegisterLemmas
 pub mod RenewLemmas
+pub mod CancelLemmas
+pub mod LookLemmas
+pub mod PassLemmas
+pub mod OnceLemmas

@@ -4,13 +4,12 @@ use Rattle.std.specs.Prelude.{cond, Option, Some, None, Result, Ok, Err, is_some
 use Rattle.eu_model.specs.declared.commands.Command.{Command}
 use Rattle.eu_model.specs.declared.commands.Reply.{Reply}
 use Rattle.std.proofs.lemmas.Bool.Decides.{nat_tests}
-use Rattle.std.specs.FinMap.{FinMap, get, len, contains_key, len-insert}
+use Rattle.std.specs.FinMap.{FinMap, get, len}
 use Rattle.eu_base.specs.declared.statuses.Status.{Status}
 use Rattle.eu_base.specs.declared.faults.Fault.{Fault}
 use Rattle.eu_base.specs.declared.faults.Fault.TheVariants.{Full, Exhausted, OutOfMemory}
 use Rattle.eu_base.specs.declared.instances.Instance.{Instance}
 use Rattle.eu_base.specs.Key.{name_cmp, key_cmp}
-use Rattle.eu_base.proofs.KeyLemmas.{keys_total}
 use Rattle.eu_model.specs.declared.views.Listed.{Listed}
 use Rattle.eu_model.specs.declared.commands.Command.TheVariants.{Register}
 use Rattle.eu_model.specs.declared.commands.Reply.TheVariants.{Registered}
@@ -82,15 +81,6 @@ module _ (p : Plain) (n : Instance) (r : Bool) (t : ℕ) where
       subst (λ q. Answers p (Register n r) t (Ok (Registered (not (is_some held)))) q) (sym whole)
       (subst (λ a. Answers p (Register n r) t (Ok a) (after p n.key (registers n r t p))) y (register_answers n r t p ok))
 
-joins_some : (held : Option Listed) (row : Option Status) (n : Instance) (r : Bool) (t : ℕ) → (x : Listed) × ((kept_register held row 0 n r t).lease ≡ Some x)
-joins_some None row n r t = (_, refl)
-joins_some (Some l) row n r t = (_, refl)
-
-pub len-joins : (L L' : FinMap key_cmp Listed) (O O' : FinMap name_cmp Status) (n : Instance) (r : Bool) (t : ℕ) → Joins L L' O O' n r t → len L' ≡ cond (contains_key L n.key) (len L) (len L + 1)
-len-joins L L' O O' n r t j =
-    let s = joins_some (get L n.key) (get O n.key.id) n r t in
-    ap len (j.lease ∙ ap (with_value L n.key) s.1) ∙ len-insert keys_total L n.key s.0
-
 pub moved : (p q : Plain) (c : Command) (t : ℕ) (r : Result Reply Fault) (new : Plain) → p ≡ q → Answers p c t r new → Answers q c t r new
 moved p q c t r new e a = subst (λ x. Answers x c t r new) e a
 
@@ -105,12 +95,6 @@ err_moved p q c t r f g new e is same a = subst (λ x. Answers x c t r new) e (s
 pub some_held : (o : Option Listed) (P : Listed → Type 0) → IsSomeAnd o P → (l : Listed) × (o ≡ Some l)
 some_held None P h = absurd h
 some_held (Some l) P h = (l, refl)
-
-pub held_len : (L L' : FinMap key_cmp Listed) (O O' : FinMap name_cmp Status) (n : Instance) (r : Bool) (t : ℕ) (l : Listed) → get L n.key ≡ Some l → Joins L L' O O' n r t → len L' ≡ len L
-held_len L L' O O' n r t l at j = len-joins L L' O O' n r t j ∙ ap (λ o. cond (is_some o) (len L) (len L + 1)) at
-
-pub new_len : (L L' : FinMap key_cmp Listed) (O O' : FinMap name_cmp Status) (n : Instance) (r : Bool) (t : ℕ) → get L n.key ≡ None → Joins L L' O O' n r t → len L' ≡ len L + 1
-new_len L L' O O' n r t at j = len-joins L L' O O' n r t j ∙ ap (λ o. cond (is_some o) (len L) (len L + 1)) at
 
 pub moved_both : (p q : Plain) (c : Command) (t : ℕ) (r : Result Reply Fault) → p ≡ q → Answers p c t r p → Answers q c t r q
 moved_both p q c t r e a = subst (λ x. Answers x c t r x) e a

@@ -1,8 +1,8 @@
 -- A renewal that was written is an answer of the machine
 use Rattle.std.proofs.Common.{◌≡◌, ℕ, ◌+◌, ◌*◌, ◌^◌, Bool, true, false, List, refl, sym, ap, ◌∙◌, subst, arith}
 use Rattle.std.specs.Prelude.{cond, Option, Some, None, Ok, Err, ◌&&◌, ◌==◌, is_some}
-use Rattle.std.specs.Option.{option_map}
-use Rattle.std.specs.FinMap.{FinMap, get, len, len-insert}
+use Rattle.std.specs.Option.{option_map_or}
+use Rattle.std.specs.FinMap.{FinMap, get, insert}
 use Rattle.std.proofs.lemmas.Bool.Decides.{nat_tests}
 use Rattle.eu_base.specs.declared.statuses.Status.{Status}
 use Rattle.eu_base.specs.declared.statuses.Status.TheVariants.{Unknown}
@@ -20,7 +20,7 @@ use Rattle.eu_model.specs.Plain.{Plain}
 use Rattle.eu_model.specs.Answers.{Answers}
 use Rattle.eu_model.specs.Kept.{raised, kept, kept_renew, kept_renew_fault, after}
 use Rattle.eu_model.proofs.RenewLemmas.{renews, renew_answers, renew_refused}
-use Rattle.eu_core.specs.Store.{changed_at, updated_to}
+use Rattle.eu_store.specs.Stored.{changed, given_status, renewed_at}
 use Rattle.eu_core.proofs.EntryLemmas.{remove_absent, insert_same}
 
 pub with_row-same : (rows : FinMap name_cmp Status) (id : List ℕ) (row : Option Status) → get rows id ≡ row → with_value rows id row ≡ rows
@@ -33,7 +33,7 @@ with_lease-same leases k (Some l) e = insert_same keys_total keys_exact leases k
 
 -- the lease after a renewal at t that gives it a status
 abbrev pub renewed_lease : Listed → Status → ℕ → Listed
-renewed_lease l status t = updated_to status (t + 1000 * l.instance.secs) l
+renewed_lease l status t = given_status status (renewed_at t l)
 
 module _ (p : Plain) (k : Key) (r : Bool) (t : ℕ) where
   -- what the rule says of a lease
@@ -92,12 +92,8 @@ pub status_is : (p : Plain) (k : Key) (r : Bool) (t : ℕ) (l : Listed) (x s : S
     → s ≡ ruled p k r t l
 status_is p k r t l x s row e1 e2 e3 = e3 ∙ ap (λ y. rule y row (Some y) r) e1 ∙ ap (λ y. rule l.instance.status y (Some l.instance.status) r) e2
 
-pub lease_is : (m : FinMap key_cmp Listed) (k : Key) (l : Listed) (s s' : Status) (u t : ℕ) → get m k ≡ Some l → s ≡ s' → u ≡ t + 1000 * l.instance.secs
-    → changed_at m k (updated_to s u) ≡ with_value m k (Some (renewed_lease l s' t))
-lease_is m k l s s' u t at e1 e2 =
-    ap (λ h. with_value m k (option_map (updated_to s u) h)) at
-    ∙ (λ i. with_value m k (Some (updated_to (e1 i) (e2 i) l)))
-
-pub len-changed_at : (m : FinMap key_cmp Listed) (k : Key) (f : Listed → Listed) (l : Listed) → get m k ≡ Some l → len (changed_at m k f) ≡ len m
-len-changed_at m k f l at =
-    ap (λ h. len (with_value m k (option_map f h))) at ∙ len-insert keys_total m k (f l) ∙ ap (λ h. cond (is_some h) (len m) (len m + 1)) at
+pub lease_is : (m : FinMap key_cmp Listed) (k : Key) (l : Listed) (s s' : Status) (t : ℕ) → get m k ≡ Some l → s ≡ s'
+    → changed (λ x. given_status s (renewed_at t x)) m k ≡ with_value m k (Some (renewed_lease l s' t))
+lease_is m k l s s' t at e =
+    ap (λ o. option_map_or (λ x. insert m k (given_status s (renewed_at t x))) o m) at
+    ∙ (λ i. insert m k (given_status (e i) (renewed_at t l)))

@@ -7,6 +7,7 @@ use Rattle.eu_base.specs.Key.{name_cmp, key_cmp}
 use Rattle.eu_model.specs.declared.views.Listed.{Listed}
 use Rattle.eu_model.specs.Maps.{with_value}
 use Rattle.eu_model.specs.Kept.{kept_register}
+use Rattle.eu_store.specs.Stored.{term_of}
 use Rattle.eu_core.specs.declared.joins.HeldPart.{HeldPart}
 
 -- what is read of a held lease
@@ -14,8 +15,7 @@ pub record IsPart (part : HeldPart) (l : Listed) : Type 0 where
   pub status : part.status ≡ l.instance.status
   pub overridden : part.overridden ≡ l.instance.overridden
   pub dirty : part.dirty ≡ l.instance.dirty
-  pub secs : part.secs ≡ l.instance.secs
-  pub up : part.up ≡ l.times.up
+  pub lease : part.lease ≡ term_of l
 
 -- the row that is to be put where the id has none
 abbrev pub row_to_put : List ℕ → Option Status → Option Status → Option (List ℕ × Status)

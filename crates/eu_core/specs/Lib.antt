@@ -4,3 +4,6 @@ pub mod Joins
 pub mod Meter
 pub mod Threshold
 pub mod Registry
+pub mod Shown
+pub mod Pass
+pub mod Evicts

@@ -1,6 +1,4 @@
--- What a registry means, and what is true of its fields
-use Rattle.std.specs.Prelude.{◌≤◌}
-use Rattle.std.specs.FinMap.{len}
+-- What a registry means
 use Rattle.eu_model.specs.Plain.{Plain}
 use Rattle.eu_core.specs.declared.registry.Registry.TheInside.{Inside}
 
@@ -15,7 +13,3 @@ plain_of a = record {
   since = a.rate.since;
   previous = a.previous;
 }
-
--- there are no more leases than may be
-abbrev pub IsSound : Inside → Type 0
-IsSound a = len a.leases.held ≤ 65536

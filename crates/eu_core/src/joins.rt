@@ -1,14 +1,14 @@
 //! What a registration writes into leases and rows.
-ghost use Rattle.std.specs.Prelude.{◌≡◌, ◌<◌, ◌≤◌, IsSome, IsSomeAnd, IfSome, IfNone, IfOk, OnOk, OnErr, None};
+ghost use Rattle.std.specs.Prelude.{◌≡◌, ◌<◌, ◌≤◌, IsSome, IsSomeAnd, IfSome, IfNone, IfOk, IfErr, OnOk, OnErr, None};
 ghost use Rattle.std.specs.FinMap as map;
+ghost use Rattle.eu_model.specs.Change.{up_after};
 ghost use Rattle.eu_core.specs.Joins.{IsPart, row_to_put, with_put, Joins};
 
-use crate::lease::times_now;
-use crate::leases::Leases;
 use crate::overrides::Overrides;
 use crate::rule::settle;
-use eu_base::{Id, Instance, Key, Status};
-use eu_model::Listed;
+use eu_base::{Fault, Id, Instance, Key, Moment, Status};
+use eu_lease::Lease;
+use eu_store::{Held, Leases};
 use std::alloc::{AllocError, Global};
 
 /// What is read of a held lease.
@@ -17,8 +17,7 @@ pub struct HeldPart {
     pub status: Status,
     pub overridden: Status,
     pub dirty: u64,
-    pub secs: u32,
-    pub up: u64,
+    pub lease: Lease,
 }
 
 /// What is read of the lease of that key, if it is held.
@@ -27,15 +26,25 @@ pub fn held_part(leases: &Leases, key: &Key) -> Option<HeldPart>
     ensures some { IfSome result (λ part. IsSomeAnd (map.get leases.now.held key.now) (IsPart part)) }
 {
     match leases.get(key) {
-        Some(lease) => Some(HeldPart {
-            status: lease.instance.status,
-            overridden: lease.instance.overridden,
-            dirty: lease.instance.dirty,
-            secs: lease.instance.secs,
-            up: lease.times.up,
+        Some(held) => Some(HeldPart {
+            status: held.instance().status,
+            overridden: held.instance().overridden,
+            dirty: held.instance().dirty,
+            lease: held.lease(),
         }),
         None => None,
     }
+}
+
+/// A lease that begins with its instance in this status.
+fn begun(mut lease: Lease, status: Status, moment: Moment) -> Lease
+    ensures { result ≡ record lease { up = up_after lease.up status moment } }
+{
+    match status {
+        Status::Up => lease.service_up(moment),
+        _ => {}
+    }
+    lease
 }
 
 /// Makes room for the row of an id, where it is to be put, and gives the row.
@@ -81,22 +90,25 @@ pub fn join_new(
     alloc: Global,
     mut instance: Instance,
     replicated: bool,
-    moment: u64,
-) -> Result<(), AllocError>
-    requires { map.get leases.old.held instance.key ≡ None }
+    moment: Moment,
+) -> Result<(), Fault>
+    requires absent { map.get leases.old.held instance.key ≡ None }
+    requires roomy { map.len leases.old.held < 65536 }
     ensures ok { OnOk result (Joins leases.old.held leases.new.held rows.old.rows rows.new.rows instance replicated moment) }
     ensures err_leases { OnErr result (leases.new.held ≡ leases.old.held) }
     ensures err_rows { OnErr result (rows.new.rows ≡ rows.old.rows) }
+    ensures no_other { IfErr result (λ f. f ≡ Fault.OutOfMemory) }
 {
     let row = rows.get(&instance.key.id);
     let settled = settle(instance.status, instance.overridden, row, None, replicated);
     let put = prepare_row(rows, alloc, &instance.key.id, row, settled.row)?;
     let key = instance.key.copy(alloc)?;
-    leases.reserve()?;
-    let times = times_now(0, settled.status, moment);
+    leases.prepare_put(&key)?;
+    let fresh = Lease::fresh(moment, instance.secs);
+    let lease = begun(fresh, settled.status, moment);
     instance.status = settled.status;
     instance.overridden = settled.overridden;
-    leases.put(key, Listed { instance, times });
+    leases.put_prepared(key, Held::new(instance, lease));
     put_row(rows, put);
     Ok(())
 }
@@ -111,7 +123,7 @@ fn join_over(
     mut instance: Instance,
     held: HeldPart,
     replicated: bool,
-    moment: u64,
+    moment: Moment,
 ) -> Result<(), AllocError>
     requires held { IsSomeAnd (map.get leases.old.held instance.key) (IsPart held) }
     requires newer { held.dirty ≤ instance.dirty }
@@ -128,11 +140,11 @@ fn join_over(
         replicated,
     );
     let put = prepare_row(rows, alloc, &instance.key.id, row, settled.row)?;
-    let key = instance.key.copy(alloc)?;
-    let times = times_now(held.up, settled.status, moment);
+    let anew = held.lease.anew(moment, instance.secs);
+    let lease = begun(anew, settled.status, moment);
     instance.status = settled.status;
     instance.overridden = settled.overridden;
-    leases.put(key, Listed { instance, times });
+    leases.replace(Held::new(instance, lease));
     put_row(rows, put);
     Ok(())
 }
@@ -147,7 +159,7 @@ fn join_under(
     instance: &Instance,
     held: HeldPart,
     replicated: bool,
-    moment: u64,
+    moment: Moment,
 ) -> Result<(), AllocError>
     requires held { IsSomeAnd (map.get leases.old.held instance.now.key) (IsPart held) }
     requires older { instance.now.dirty < held.dirty }
@@ -164,8 +176,9 @@ fn join_under(
         replicated,
     );
     let put = prepare_row(rows, alloc, &instance.key.id, row, settled.row)?;
-    let times = times_now(held.up, settled.status, moment);
-    leases.rejoin(instance, settled.status, settled.overridden, times);
+    let anew = held.lease.anew(moment, instance.secs);
+    let lease = begun(anew, settled.status, moment);
+    leases.rejoin(instance, settled.status, settled.overridden, lease);
     put_row(rows, put);
     Ok(())
 }
@@ -180,7 +193,7 @@ pub fn join_held(
     instance: Instance,
     held: HeldPart,
     replicated: bool,
-    moment: u64,
+    moment: Moment,
 ) -> Result<(), AllocError>
     requires held { IsSomeAnd (map.get leases.old.held instance.key) (IsPart held) }
     ensures ok { OnOk result (Joins leases.old.held leases.new.held rows.old.rows rows.new.rows instance replicated moment) }

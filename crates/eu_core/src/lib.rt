@@ -3,9 +3,8 @@
 
 mod entries;
 mod joins;
-mod lease;
-mod leases;
 mod overrides;
+mod pass;
 mod rate;
 mod registry;
 mod rule;

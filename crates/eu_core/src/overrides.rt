@@ -64,4 +64,16 @@ impl Overrides {
     {
         self.entries.push_reserved((id, status));
     }
+
+    /// Removes the row of that id, if there is one.
+    pub fn remove(&mut self, id: &Id)
+        ensures { self.new.rows ≡ map.remove self.old.rows id.now }
+    {
+        match place(&self.entries, id) {
+            Some(at) => {
+                let _row = self.entries.remove(at);
+            }
+            None => {}
+        }
+    }
 }

@@ -60,4 +60,15 @@ impl Rate {
     {
         self.last
     }
+
+    /// Ends a minute: the renewals since the last end become those of the last minute, which are the answer.
+    pub fn roll(&mut self) -> u64
+        ensures counts { self.new ≡ record { last = self.old.since; since = 0 } }
+        ensures marks { (marks : List Mark) → CountsMarks marks self.old → CountsMarks (marks ++ Minute ∷ []) self.new }
+        ensures value { result ≡ self.old.since }
+    {
+        self.last = self.since;
+        self.since = 0;
+        self.last
+    }
 }

@@ -1,69 +1,359 @@
-//! Values from the rules of Eureka's registry.
+//! Values from the rules of Eureka's registry, worked out by hand.
 use crate::Registry;
+use crate::threshold::evict_limit;
 use eu_base::{App, Config, Fault, Id, Instance, Key, Moment, Status};
+use eu_clock::{Chooser, FirstChooser, ListChooser};
 use eu_model::Reply;
-use std::alloc::Global;
+use std::alloc::{AllocError, Global};
 use std::test::Fail;
 
-fn key(alloc: Global, id: &str) -> Result<Key, Fault> {
+/// A call of a registry, with the id that it names. Each application is A.
+#[derive(Clone, Copy)]
+enum Call {
+    /// A client registers, with that status, stamp and duration.
+    Join(&'static str, Status, u64, u32),
+    /// A client registers with an overridden status.
+    Override(&'static str, Status),
+    Renew(&'static str),
+    Cancel(&'static str),
+    /// The same id leaves under another application.
+    CancelOther(&'static str),
+    Roll,
+    Update,
+    Evict,
+}
+
+fn key(alloc: Global, app: &str, id: &str) -> Result<Key, Fault> {
     Ok(Key {
-        app: App::read(alloc, "a")?,
+        app: App::read(alloc, app)?,
         id: Id::read(alloc, id)?,
     })
 }
 
-fn instance(alloc: Global, id: &str, status: Status) -> Result<Instance, Fault> {
-    Ok(Instance {
-        key: key(alloc, id)?,
-        status,
-        overridden: Status::Unknown,
-        dirty: 0,
-        secs: 90,
-    })
+fn join(
+    alloc: Global,
+    registry: &mut Registry,
+    id: &str,
+    statuses: (Status, Status),
+    dirty: u64,
+    secs: u32,
+    now: Moment,
+) -> Result<Reply, Fault> {
+    if dirty > 1_000 || secs == 0 || secs > 1_000 {
+        return Err(Fault::BadValue);
+    }
+    let instance = Instance {
+        key: key(alloc, "A", id)?,
+        status: statuses.0,
+        overridden: statuses.1,
+        dirty,
+        secs,
+    };
+    registry.register(alloc, instance, false, now)
 }
+
+fn answer<C: Chooser>(
+    alloc: Global,
+    registry: &mut Registry,
+    call: Call,
+    now: Moment,
+    chooser: &mut C,
+) -> Result<Reply, Fault> {
+    match call {
+        Call::Join(id, status, dirty, secs) => {
+            join(
+                alloc,
+                registry,
+                id,
+                (status, Status::Unknown),
+                dirty,
+                secs,
+                now,
+            )
+        }
+        Call::Override(id, over) => join(alloc, registry, id, (Status::Up, over), 0, 90, now),
+        Call::Renew(id) => registry.renew(&key(alloc, "A", id)?, false, now),
+        Call::Cancel(id) => Ok(registry.cancel(&key(alloc, "A", id)?)),
+        Call::CancelOther(id) => Ok(registry.cancel(&key(alloc, "B", id)?)),
+        Call::Roll => Ok(registry.roll()),
+        Call::Update => Ok(registry.update()),
+        Call::Evict => registry.evict(alloc, now, chooser),
+    }
+}
+
+/// Writes a reply as a word.
+fn tell(out: &mut String, reply: &Reply) -> Result<(), AllocError> {
+    match reply {
+        Reply::Registered { fresh: true } => out.push_str("new "),
+        Reply::Registered { fresh: false } => out.push_str("again "),
+        Reply::Done => out.push_str("done "),
+        Reply::NotFound => out.push_str("none "),
+        Reply::Last(renewals) => write!(out, "last={renewals} "),
+        Reply::Expected(clients) => write!(out, "expected={clients} "),
+        Reply::Evicted(victims) => tell_ids(out, victims.as_slice()),
+        _ => out.push_str("other "),
+    }
+}
+
+fn tell_ids(out: &mut String, keys: &[Key]) -> Result<(), AllocError> {
+    out.push_str("evicted")?;
+    for key in keys {
+        out.push_str("-")?;
+        out.push_str(key.id.as_str())?;
+    }
+    out.push_str(" ")
+}
+
+/// Makes the calls, each at its moment, and gives the replies as words.
+fn play<C: Chooser>(
+    alloc: Global,
+    registry: &mut Registry,
+    calls: &[(u64, Call)],
+    chooser: &mut C,
+) -> Result<String, Fault> {
+    let mut out = String::new(alloc);
+    for (ms, call) in calls {
+        let now = Moment::new(*ms).ok_or(Fault::BadValue)?;
+        let reply = answer(alloc, registry, *call, now, chooser)?;
+        tell(&mut out, &reply)?;
+    }
+    Ok(out)
+}
+
+/// A registry with an eviction interval of a minute and renewals each 30 s.
+fn opened(
+    alloc: Global,
+    preservation: bool,
+    percent: u32,
+    expected: u32,
+) -> Result<Registry, Fault> {
+    let config = Config::new(preservation, percent, 30, 60_000)?;
+    Ok(Registry::open(alloc, config, expected))
+}
+
+/// Leases held, clients expected, threshold, last minute's renewals, and whether eviction is permitted.
+fn counts(registry: &Registry) -> (u64, u64, u64, u64, bool) {
+    let counts = registry.counts();
+    (
+        counts.held,
+        counts.expected,
+        counts.threshold,
+        counts.last,
+        counts.permitted,
+    )
+}
+
+/// The status, the stamp, the duration and the last update of the lease of an id, where it is visible.
+fn seen(
+    alloc: Global,
+    registry: &Registry,
+    id: &str,
+    ms: u64,
+) -> Result<Option<(Status, u64, u32, u64)>, Fault> {
+    let now = Moment::new(ms).ok_or(Fault::BadValue)?;
+    let key = key(alloc, "A", id)?;
+    match registry.look(&key, now) {
+        Some((instance, times)) => Ok(Some((
+            instance.status,
+            instance.dirty,
+            instance.secs,
+            times.updated,
+        ))),
+        None => Ok(None),
+    }
+}
+
+const UP: Call = Call::Join("i1", Status::Up, 0, 90);
 
 #[test]
 fn a_client_comes_and_renews(rt: HostRuntime) -> Result<(), Fail> {
-    let alloc = rt.alloc();
-    let now = Moment::new(0).ok_or("a moment")?;
-    let mut registry = Registry::open(alloc, Config::new(true, 85, 30, 60_000)?, 1);
-    let first = registry.register(alloc, instance(alloc, "i1", Status::Up)?, false, now)?;
-    assert!(rt; matches!(first, Reply::Registered { fresh: true }));
-    let again = registry.register(alloc, instance(alloc, "i1", Status::Up)?, false, now)?;
-    assert!(rt; matches!(again, Reply::Registered { fresh: false }));
-    assert!(rt; matches!(registry.renew(&key(alloc, "i1")?, false, now)?, Reply::Done));
-    assert!(rt;
-        matches!(
-            registry.renew(&key(alloc, "i2")?, false, now)?,
-            Reply::NotFound
-        )
-    );
-    let counts = registry.counts();
-    assert_eq!(rt; counts.held, 1);
-    assert_eq!(rt; counts.expected, 2);
-    assert_eq!(rt; counts.threshold, 3);
-    assert_eq!(rt; counts.last, 0);
-    assert!(rt; counts.preservation && !counts.permitted);
+    let mut registry = opened(rt.alloc(), true, 85, 1)?;
+    let calls = [
+        (0u64, UP),
+        (0, UP),
+        (5, Call::Renew("i1")),
+        (5, Call::Renew("i2")),
+    ];
+    let told = play(
+        rt.alloc(),
+        &mut registry,
+        calls.as_slice(),
+        &mut FirstChooser,
+    )?;
+    assert_eq!(rt; told.as_str(), "new again done none ");
+    assert!(rt; counts(&registry) == (1, 2, 3, 0, false));
+    assert!(rt; seen(rt.alloc(), &registry, "i1", 5)? == Some((Status::Up, 0, 90, 90_005)));
     Ok(())
 }
 
 #[test]
 fn nobody_is_expected_where_none_was(rt: HostRuntime) -> Result<(), Fail> {
-    let alloc = rt.alloc();
-    let now = Moment::new(0).ok_or("a moment")?;
-    let mut registry = Registry::open(alloc, Config::new(false, 85, 30, 60_000)?, 0);
-    registry.register(alloc, instance(alloc, "i1", Status::Starting)?, true, now)?;
-    registry.register(alloc, instance(alloc, "i2", Status::Unknown)?, false, now)?;
-    assert!(rt;
-        matches!(
-            registry.renew(&key(alloc, "i2")?, false, now)?,
-            Reply::NotFound
-        )
-    );
-    let counts = registry.counts();
-    assert_eq!(rt; counts.held, 2);
-    assert_eq!(rt; counts.expected, 0);
-    assert_eq!(rt; counts.threshold, 0);
-    assert!(rt; counts.permitted && !counts.preservation);
+    let mut registry = opened(rt.alloc(), false, 85, 0)?;
+    let calls = [
+        (0u64, Call::Join("i1", Status::Unknown, 0, 90)),
+        (0, Call::Renew("i1")),
+    ];
+    let told = play(
+        rt.alloc(),
+        &mut registry,
+        calls.as_slice(),
+        &mut FirstChooser,
+    )?;
+    assert_eq!(rt; told.as_str(), "new none ");
+    assert!(rt; counts(&registry) == (1, 0, 0, 0, true));
+    Ok(())
+}
+
+#[test]
+fn minutes_end(rt: HostRuntime) -> Result<(), Fail> {
+    let mut registry = opened(rt.alloc(), true, 85, 1)?;
+    let calls = [
+        (0u64, UP),
+        (0, Call::Renew("i1")),
+        (1, Call::Roll),
+        (2, Call::Roll),
+    ];
+    let told = play(
+        rt.alloc(),
+        &mut registry,
+        calls.as_slice(),
+        &mut FirstChooser,
+    )?;
+    assert_eq!(rt; told.as_str(), "new done last=1 last=0 ");
+    Ok(())
+}
+
+#[test]
+fn more_than_the_percentage_is_expected(rt: HostRuntime) -> Result<(), Fail> {
+    let calls = [(0u64, UP), (0, Call::Update)];
+    let mut tie = opened(rt.alloc(), true, 50, 1)?;
+    let told = play(rt.alloc(), &mut tie, calls.as_slice(), &mut FirstChooser)?;
+    assert_eq!(rt; told.as_str(), "new expected=2 ");
+    let mut more = opened(rt.alloc(), true, 49, 1)?;
+    let told = play(rt.alloc(), &mut more, calls.as_slice(), &mut FirstChooser)?;
+    assert_eq!(rt; told.as_str(), "new expected=1 ");
+    Ok(())
+}
+
+#[test]
+fn a_client_leaves(rt: HostRuntime) -> Result<(), Fail> {
+    let mut registry = opened(rt.alloc(), true, 85, 1)?;
+    let calls = [(0u64, UP), (0, Call::Cancel("i1")), (0, Call::Cancel("i1"))];
+    let told = play(
+        rt.alloc(),
+        &mut registry,
+        calls.as_slice(),
+        &mut FirstChooser,
+    )?;
+    assert_eq!(rt; told.as_str(), "new done none ");
+    assert!(rt; counts(&registry) == (0, 1, 1, 0, false));
+    assert!(rt; seen(rt.alloc(), &registry, "i1", 0)?.is_none());
+    Ok(())
+}
+
+#[test]
+fn nobody_leaves_below_none(rt: HostRuntime) -> Result<(), Fail> {
+    let mut registry = opened(rt.alloc(), true, 85, 0)?;
+    let calls = [(0u64, UP), (0, Call::Cancel("i1"))];
+    let told = play(
+        rt.alloc(),
+        &mut registry,
+        calls.as_slice(),
+        &mut FirstChooser,
+    )?;
+    assert_eq!(rt; told.as_str(), "new done ");
+    assert!(rt; counts(&registry) == (0, 0, 0, 0, false));
+    Ok(())
+}
+
+#[test]
+fn a_row_goes_with_a_cancel_of_another(rt: HostRuntime) -> Result<(), Fail> {
+    let mut registry = opened(rt.alloc(), true, 85, 1)?;
+    let calls = [
+        (0u64, Call::Override("i1", Status::OutOfService)),
+        (0, Call::CancelOther("i1")),
+        (0, Call::Cancel("i1")),
+        (0, UP),
+    ];
+    let told = play(
+        rt.alloc(),
+        &mut registry,
+        calls.as_slice(),
+        &mut FirstChooser,
+    )?;
+    assert_eq!(rt; told.as_str(), "new none done new ");
+    assert!(rt; seen(rt.alloc(), &registry, "i1", 0)? == Some((Status::Up, 0, 90, 0)));
+    Ok(())
+}
+
+#[test]
+fn the_greater_stamp_is_kept(rt: HostRuntime) -> Result<(), Fail> {
+    let mut registry = opened(rt.alloc(), true, 85, 1)?;
+    let calls = [
+        (5u64, Call::Join("i1", Status::Starting, 2, 90)),
+        (6, Call::Join("i1", Status::Down, 1, 30)),
+    ];
+    play(
+        rt.alloc(),
+        &mut registry,
+        calls.as_slice(),
+        &mut FirstChooser,
+    )?;
+    assert!(rt; seen(rt.alloc(), &registry, "i1", 6)? == Some((Status::Starting, 2, 30, 6)));
+    let tie = [(7u64, Call::Join("i1", Status::Down, 2, 60))];
+    play(rt.alloc(), &mut registry, tie.as_slice(), &mut FirstChooser)?;
+    assert!(rt; seen(rt.alloc(), &registry, "i1", 7)? == Some((Status::Down, 2, 60, 7)));
+    Ok(())
+}
+
+#[test]
+fn an_expired_lease_is_hidden_where_it_may_be_evicted(rt: HostRuntime) -> Result<(), Fail> {
+    let mut registry = opened(rt.alloc(), false, 85, 1)?;
+    play(
+        rt.alloc(),
+        &mut registry,
+        [(0u64, UP)].as_slice(),
+        &mut FirstChooser,
+    )?;
+    assert!(rt; seen(rt.alloc(), &registry, "i1", 90_000)?.is_some());
+    assert!(rt; seen(rt.alloc(), &registry, "i1", 90_001)?.is_none());
+    Ok(())
+}
+
+#[test]
+fn a_pass_may_evict_all_but_the_percentage(rt: HostRuntime) {
+    assert_eq!(rt; evict_limit(4, 0), 4);
+    assert_eq!(rt; evict_limit(4, 100), 0);
+    assert_eq!(rt; evict_limit(10, 85), 2);
+}
+
+const FOUR: [(u64, Call); 5] = [
+    (0, Call::Join("i0", Status::Up, 0, 90)),
+    (0, Call::Join("i1", Status::Up, 0, 90)),
+    (0, Call::Join("i2", Status::Up, 0, 90)),
+    (0, Call::Join("i3", Status::Up, 0, 90)),
+    (90_001, Call::Evict),
+];
+
+#[test]
+fn half_of_the_expired_are_drawn(rt: HostRuntime) -> Result<(), Fail> {
+    let mut registry = opened(rt.alloc(), false, 50, 0)?;
+    let mut chooser = ListChooser::new(Vec::from_slice(rt.alloc(), [3u64, 0].as_slice())?);
+    let told = play(rt.alloc(), &mut registry, FOUR.as_slice(), &mut chooser)?;
+    assert_eq!(rt; told.as_str(), "new new new new evicted-i3-i1 ");
+    assert!(rt; counts(&registry) == (2, 0, 0, 0, true));
+    Ok(())
+}
+
+#[test]
+fn nobody_is_evicted_while_preservation_forbids_it(rt: HostRuntime) -> Result<(), Fail> {
+    let mut registry = opened(rt.alloc(), true, 50, 0)?;
+    let told = play(
+        rt.alloc(),
+        &mut registry,
+        FOUR.as_slice(),
+        &mut FirstChooser,
+    )?;
+    assert_eq!(rt; told.as_str(), "new new new new evicted ");
     Ok(())
 }

@@ -1,6 +1,6 @@
 //! The renewal threshold, and the number of clients that are expected.
-ghost use Rattle.std.specs.Prelude.{◌≡◌, ◌≤◌, ◌^◌, ◌↔◌, true, IfErr, OnOk, OnErr};
-ghost use Rattle.eu_model.specs.Meter.{threshold, is_permitted};
+ghost use Rattle.std.specs.Prelude.{◌≡◌, ◌≤◌, ◌-◌, ◌*◌, ◌/◌, ◌^◌, ◌↔◌, true, IfErr, OnOk, OnErr};
+ghost use Rattle.eu_model.specs.Meter.{threshold, is_permitted, expected_after};
 ghost use Rattle.eu_model.specs.Change.{one_more};
 
 use eu_base::{Config, Fault};
@@ -39,13 +39,28 @@ impl Model for Threshold {
     ghost inverse_ok = { given_back };
 }
 
+/// The renewals a minute that so many clients owe, cut to the percentage and then rounded down
+/// (`AbstractInstanceRegistry.updateRenewsPerMinThreshold` in Eureka).
 fn value_of(config: &Config, expected: u64) -> u64
     requires { expected ≤ 2 ^ 40 }
     ensures { result ≡ threshold config.now expected }
 {
-    let _interval = config.interval;
-    let _percent = config.percent;
-    expected * 60 * config.percent as u64 / (config.interval as u64 * 100)
+    let Config {
+        percent,
+        interval,
+        ..
+    } = *config;
+    expected * 60 * u64::from(percent) / (u64::from(interval) * 100)
+}
+
+/// How many of so many leases one eviction pass may take out: all but the percentage, which is rounded down
+/// (`AbstractInstanceRegistry.evict` in Eureka).
+pub fn evict_limit(size: usize, percent: u32) -> usize
+    requires size { size ≤ 65536 }
+    requires percent { percent ≤ 100 }
+    ensures { result ≡ size - size * percent / 100 }
+{
+    size - size * percent as usize / 100
 }
 
 impl Threshold {
@@ -69,6 +84,29 @@ impl Threshold {
         self.config
     }
 
+    /// The number of clients that are expected.
+    pub fn expected(&self) -> u64
+        ensures value { result ≡ self.now.expected }
+        ensures bound { result ≤ 2 ^ 40 }
+    {
+        self.expected
+    }
+
+    /// The renewals a minute above which eviction is permitted.
+    pub fn value(&self) -> u64
+        ensures { result ≡ threshold self.now.config self.now.expected }
+    {
+        self.value
+    }
+
+    /// Whether eviction is permitted after so many renewals in the last minute: self-preservation is off, or there is a
+    /// threshold and they are more than it (`PeerAwareInstanceRegistryImpl.isLeaseExpirationEnabled` in Eureka).
+    pub fn permitted(&self, renewals: u64) -> bool
+        ensures { result ≡ is_permitted self.now.config self.now.expected renewals }
+    {
+        !self.config.preservation || (self.value > 0 && renewals > self.value)
+    }
+
     /// A client has come: one more is expected, but none where none was. `Exhausted` exactly where 2^40 are; that
     /// changes nothing.
     pub fn joined(&mut self) -> Result<(), Fault>
@@ -87,26 +125,24 @@ impl Threshold {
         Ok(())
     }
 
-    /// The renewals a minute above which eviction is permitted.
-    pub fn value(&self) -> u64
-        ensures { result ≡ threshold self.now.config self.now.expected }
+    /// A client has left: one fewer is expected, but never fewer than none.
+    pub fn left(&mut self)
+        ensures { self.new ≡ record self.old { expected = self.old.expected - 1 } }
     {
-        self.value
+        self.expected = self.expected.saturating_sub(1);
+        self.value = value_of(&self.config, self.expected);
     }
 
-    /// The number of clients that are expected.
-    pub fn expected(&self) -> u64
-        ensures value { result ≡ self.now.expected }
-        ensures bound { result ≤ 2 ^ 40 }
+    /// Counts the clients anew, where so many leases are held: they are expected, where they are more than the percentage of
+    /// those that were, or where self-preservation is off.
+    pub fn update(&mut self, held: u32)
+        ensures { self.new ≡ record self.old { expected = expected_after self.old.config self.old.expected held } }
     {
-        self.expected
-    }
-
-    /// Whether eviction is permitted after so many renewals in the last minute: self-preservation is off, or there is a
-    /// threshold and they are more than it.
-    pub fn permitted(&self, renewals: u64) -> bool
-        ensures { result ≡ is_permitted self.now.config self.now.expected renewals }
-    {
-        !self.config.preservation || (self.value > 0 && renewals > self.value)
+        let held = u64::from(held);
+        let percent = u64::from(self.config.percent);
+        if percent * self.expected < held * 100 || !self.config.preservation {
+            self.expected = held;
+        }
+        self.value = value_of(&self.config, self.expected);
     }
 }

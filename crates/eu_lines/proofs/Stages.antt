@@ -86,7 +86,7 @@ module _ {S X : Type 0} (answers : S → X → List ℕ → List ℕ → S → X
 
   -- a fault in whole lines within the bound
   outcome_within : (fault : ScriptFault) (s : S) (x : X) (s' : S) (x' : X) (left : Option (List ℕ)) (failed_reader failed : Bool) (read given out : List ℕ) → IsJudged left read given
-      → StopsIn answers refuses s x (lines_of given) failed fault out → Outcome answers refuses s x s' x' left failed_reader failed read (Err fault) out
+      → StopsIn answers refuses s x (lines_of given) x' failed fault out → Outcome answers refuses s x s' x' left failed_reader failed read (Err fault) out
   outcome_within (BadLine n) s x s' x' left failed_reader failed read given out j p = (given, j, p)
   outcome_within OutOfMemory s x s' x' left failed_reader failed read given out j p = (given, j, p)
   outcome_within Write s x s' x' left failed_reader failed read given out j p = (given, j, p)
@@ -108,16 +108,16 @@ module _ {S X : Type 0} (answers : S → X → List ℕ → List ℕ → S → X
   -- a fault within a chunk
   pub ends_within : (fault : ScriptFault) (s : S) (x : X) (held before left left' : Option (List ℕ)) (taken count fresh : ℕ) (buffer part : List ℕ) (run : Run) (t : S) (y : X) (s' : S) (x' : X) (m n : Option (List ℕ)) (failed_reader failed : Bool)
       → Stage answers s x held before left taken run t y m → taken ≤ 16777216 → Consumes left left' (take count buffer) → count ≤ length buffer → fresh ≡ min count (16777216 - taken)
-      → part ≡ take fresh buffer → StopsTaking answers refuses run t y m part n failed fault → Answered s x s' x' before left' failed_reader failed held n (Err fault)
+      → part ≡ take fresh buffer → StopsTaking answers refuses run t y m part x' n failed fault → Answered s x s' x' before left' failed_reader failed held n (Err fault)
   ends_within fault s x held before left left' taken count fresh buffer part run t y s' x' m n failed_reader failed st le eats fits e same stops =
       let read = st.read ++ take count buffer in
       let text = st.text ++ take fresh buffer in
       let within = within_more st.read st.text buffer count fresh st.within (omega (arith, st.counts)) fits (rw (st.counts) e) in (
         read,
         Consumes-trans before left left' st.read (take count buffer) st.consumed eats,
-        wrote_so held n (λ out. (given : List ℕ) × (rest : List ℕ) × (text ≡ given ++ rest) × IsWhole given × StopsIn answers refuses s x (lines_of given) failed fault out)
+        wrote_so held n (λ out. (given : List ℕ) × (rest : List ℕ) × (text ≡ given ++ rest) × IsWhole given × StopsIn answers refuses s x (lines_of given) x' failed fault out)
             (Outcome answers refuses s x s' x' left' failed_reader failed read (Err fault))
-            (subst (λ (bytes : List ℕ). StoppedWithin answers refuses s x held (st.text ++ bytes) n failed fault) same (stops s x held st.text st.stands))
+            (subst (λ (bytes : List ℕ). StoppedWithin answers refuses s x held (st.text ++ bytes) x' n failed fault) same (stops s x held st.text st.stands))
             (λ out q.
             let whole : read ≡ q.0 ++ (q.1 ++ within.0) = within.1 ∙ rw (q.2) (append_assoc q.0 q.1 within.0) in
             let long : length text ≡ length q.0 + length q.1 = rw (q.2) (length-append q.0 q.1) in
@@ -153,7 +153,7 @@ module _ {S X : Type 0} (answers : S → X → List ℕ → List ℕ → S → X
   -- the text ends
   pub ends_whole : (result : Result (Unit {0}) ScriptFault) (s : S) (x : X) (held before left left' : Option (List ℕ)) (taken : ℕ) (run run' : Run) (t : S) (y : X) (s' : S) (x' : X) (m n : Option (List ℕ)) (failed_reader failed : Bool)
       → Stage answers s x held before left taken run t y m → taken ≤ 16777216 → Consumes left left' [] → IsAtEnd left'
-      → OnOk result (Adds answers run t y m [] run' s' x' n) → OnOk result (run'.waiting.items ≡ []) → IfErr result (StopsAdding answers refuses run t y m [] n failed)
+      → OnOk result (Adds answers run t y m [] run' s' x' n) → OnOk result (run'.waiting.items ≡ []) → IfErr result (StopsAdding answers refuses run t y m [] x' n failed)
       → Answered s x s' x' before left' failed_reader failed held n result
   ends_whole (Ok u) s x held before left left' taken run run' t y s' x' m n failed_reader failed st le eats end adds none stops =
       let here = st.stands in
@@ -175,7 +175,7 @@ module _ {S X : Type 0} (answers : S → X → List ℕ → List ℕ → S → X
       let consumed : Consumes before left' st.read = subst (λ (bytes : List ℕ). Consumes before left' bytes) (append-nil st.read) (Consumes-trans before left left' st.read [] st.consumed eats) in (
         st.read,
         consumed,
-        wrote_so held n (StopsIn answers refuses s x (here.lines ++ (here.tail ++ []) ∷ []) failed fault) (Outcome answers refuses s x s' x' left' failed_reader failed st.read (Err fault))
+        wrote_so held n (StopsIn answers refuses s x (here.lines ++ (here.tail ++ []) ∷ []) x' failed fault) (Outcome answers refuses s x s' x' left' failed_reader failed st.read (Err fault))
             (stops s x held here.lines here.tail here.shown here.keeps here.counts)
             (λ out p. outcome_within fault s x s' x' left' failed_reader failed st.read st.read out (inr (refl, omega (arith, st.counts), end)) (rw lines p)),
       )

@@ -43,74 +43,74 @@ module _ {S X : Type 0} (answers : S → X → List ℕ → List ℕ → S → X
       (λ out h. rw (e, append-nil) h)
 
 module _ {S X : Type 0} (answers : S → X → List ℕ → List ℕ → S → X → Type 0) (refuses : S → X → List ℕ → Type 0) where
-  stops_at : (error : LineError) (s : S) (x : X) (lines : List (List ℕ)) (line out : List ℕ) (failed : Bool) (t : S) (y : X) → (error ≡ line_errors.Bad → IsBad refuses t y line)
-      → Printed answers s x lines out t y → StopsIn answers refuses s x (lines ++ line ∷ []) failed (fault_at error (length lines + 1)) out
-  stops_at line_errors.Bad s x lines line out failed t y bad p =
+  stops_at : (error : LineError) (s : S) (x : X) (lines : List (List ℕ)) (line out : List ℕ) (failed : Bool) (t : S) (y : X) (x' : X) → (error ≡ line_errors.Bad → IsBad refuses t y line) → (error ≡ line_errors.Bad → x' ≡ y)
+      → Printed answers s x lines out t y → StopsIn answers refuses s x (lines ++ line ∷ []) x' failed (fault_at error (length lines + 1)) out
+  stops_at line_errors.Bad s x lines line out failed t y x' bad kept p =
       let k : length lines + 1 - 1 ≡ length lines = omega arith in
       let front : take (length lines) (lines ++ line ∷ []) ≡ lines = take_at lines (line ∷ []) (length lines) refl in
       let here : get_or (lines ++ line ∷ []) (length lines) [] ≡ line = get_or_at lines line [] [] (length lines) refl in
-      (omega arith, omega (arith, length-append lines (line ∷ [])), t, y, rw (k, front) p, rw (k, here) (bad refl))
-  stops_at line_errors.OutOfMemory s x lines line out failed t y bad p =
+      (omega arith, omega (arith, length-append lines (line ∷ [])), t, rw (k, front, kept refl) p, rw (k, here, kept refl) (bad refl))
+  stops_at line_errors.OutOfMemory s x lines line out failed t y x' bad kept p =
       let front : take (length lines) (lines ++ line ∷ []) ≡ lines = take_at lines (line ∷ []) (length lines) refl in
       (length lines, omega (arith, length-append lines (line ∷ [])), t, y, rw front p)
 
   -- a line is not answered, and what waits is written
-  pub stopped_line : (error : LineError) (s : S) (x : X) (held : Option (List ℕ)) (lines : List (List ℕ)) (line waiting : List ℕ) (number : ℕ) (failed : Bool) (t : S) (y : X) (m n : Option (List ℕ))
-      → Shown answers s x held lines waiting t y m → number ≡ length lines → (error ≡ line_errors.Bad → IsBad refuses t y line) → Appends m n waiting
-      → Stopped answers refuses s x held (lines ++ line ∷ []) n failed (fault_at error (number + 1))
-  stopped_line error s x held lines line waiting number failed t y m n p e bad a =
-      wrote_more held m n waiting (λ out. Printed answers s x lines (out ++ waiting) t y) (StopsIn answers refuses s x (lines ++ line ∷ []) failed (fault_at error (number + 1))) p a
-      (λ out h. rw e (stops_at error s x lines line (out ++ waiting) failed t y bad h))
+  pub stopped_line : (error : LineError) (s : S) (x : X) (held : Option (List ℕ)) (lines : List (List ℕ)) (line waiting : List ℕ) (number : ℕ) (failed : Bool) (t : S) (y : X) (x' : X) (m n : Option (List ℕ))
+      → Shown answers s x held lines waiting t y m → number ≡ length lines → (error ≡ line_errors.Bad → IsBad refuses t y line) → (error ≡ line_errors.Bad → x' ≡ y) → Appends m n waiting
+      → Stopped answers refuses s x held (lines ++ line ∷ []) x' n failed (fault_at error (number + 1))
+  stopped_line error s x held lines line waiting number failed t y x' m n p e bad kept a =
+      wrote_more held m n waiting (λ out. Printed answers s x lines (out ++ waiting) t y) (StopsIn answers refuses s x (lines ++ line ∷ []) x' failed (fault_at error (number + 1))) p a
+      (λ out h. rw e (stops_at error s x lines line (out ++ waiting) failed t y x' bad kept h))
 
   -- what waits can't be written
-  pub stopped_writing : (s : S) (x : X) (held : Option (List ℕ)) (lines : List (List ℕ)) (waiting : List ℕ) (k : ℕ) (failed : Bool) (t : S) (y : X) (m n : Option (List ℕ))
-      → Shown answers s x held lines waiting t y m → failed ≡ true → Appends m n (take k waiting) → Stopped answers refuses s x held lines n failed Write
-  stopped_writing s x held lines waiting k failed t y m n p f a =
-      wrote_more held m n (take k waiting) (λ out. Printed answers s x lines (out ++ waiting) t y) (StopsIn answers refuses s x lines failed Write) p a
+  pub stopped_writing : (s : S) (x : X) (held : Option (List ℕ)) (lines : List (List ℕ)) (waiting : List ℕ) (k : ℕ) (failed : Bool) (t : S) (y : X) (x' : X) (m n : Option (List ℕ))
+      → Shown answers s x held lines waiting t y m → failed ≡ true → Appends m n (take k waiting) → Stopped answers refuses s x held lines x' n failed Write
+  stopped_writing s x held lines waiting k failed t y x' m n p f a =
+      wrote_more held m n (take k waiting) (λ out. Printed answers s x lines (out ++ waiting) t y) (StopsIn answers refuses s x lines x' failed Write) p a
       (λ out h. (f, length lines, omega arith, t, y, out ++ waiting, rw (take_all (length lines) lines (omega arith)) h, length out + k, sym (take-append-add out waiting k)))
 
   -- memory ran out after these lines
-  pub stopped_memory : (s : S) (x : X) (held : Option (List ℕ)) (lines : List (List ℕ)) (waiting : List ℕ) (failed : Bool) (t : S) (y : X) (m n : Option (List ℕ))
-      → Shown answers s x held lines waiting t y m → Appends m n waiting → Stopped answers refuses s x held lines n failed OutOfMemory
-  stopped_memory s x held lines waiting failed t y m n p a =
-      wrote_more held m n waiting (λ out. Printed answers s x lines (out ++ waiting) t y) (StopsIn answers refuses s x lines failed OutOfMemory) p a
+  pub stopped_memory : (s : S) (x : X) (held : Option (List ℕ)) (lines : List (List ℕ)) (waiting : List ℕ) (failed : Bool) (t : S) (y : X) (x' : X) (m n : Option (List ℕ))
+      → Shown answers s x held lines waiting t y m → Appends m n waiting → Stopped answers refuses s x held lines x' n failed OutOfMemory
+  stopped_memory s x held lines waiting failed t y x' m n p a =
+      wrote_more held m n waiting (λ out. Printed answers s x lines (out ++ waiting) t y) (StopsIn answers refuses s x lines x' failed OutOfMemory) p a
       (λ out h. (length lines, omega arith, t, y, rw (take_all (length lines) lines (omega arith)) h))
 
   -- what stopped in some lines stopped in more
-  stops_more : (fault : ScriptFault) (s : S) (x : X) (lines more : List (List ℕ)) (failed : Bool) (out : List ℕ) → StopsIn answers refuses s x lines failed fault out → StopsIn answers refuses s x (lines ++ more) failed fault out
-  stops_more (BadLine n) s x lines more failed out p =
+  stops_more : (fault : ScriptFault) (s : S) (x : X) (lines more : List (List ℕ)) (x' : X) (failed : Bool) (out : List ℕ) → StopsIn answers refuses s x lines x' failed fault out → StopsIn answers refuses s x (lines ++ more) x' failed fault out
+  stops_more (BadLine n) s x lines more x' failed out p =
       let within : n ≤ length lines = p.1 in
       let some : 0 < n = p.0 in
       let front : take (n - 1) (lines ++ more) ≡ take (n - 1) lines = take-append-le (n - 1) lines more (omega arith) in
       let here : get_or (lines ++ more) (n - 1) [] ≡ get_or lines (n - 1) [] = get_or_append_left lines more [] (n - 1) (omega arith) in
-      (p.0, omega (arith, length-append lines more), p.2, p.3, rw front (p.4), rw here (p.5))
-  stops_more OutOfMemory s x lines more failed out p =
+      (p.0, omega (arith, length-append lines more), p.2, rw front (p.3), rw here (p.4))
+  stops_more OutOfMemory s x lines more x' failed out p =
       let within : p.0 ≤ length lines = p.1 in
       let front : take p.0 (lines ++ more) ≡ take p.0 lines = take-append-le p.0 lines more within in
       (p.0, omega (arith, length-append lines more), p.2, p.3, rw front (p.4))
-  stops_more Write s x lines more failed out p =
+  stops_more Write s x lines more x' failed out p =
       let within : p.1 ≤ length lines = p.2 in
       let front : take p.1 (lines ++ more) ≡ take p.1 lines = take-append-le p.1 lines more within in
       (p.0, p.1, omega (arith, length-append lines more), p.3, p.4, p.5, rw front (p.6), p.7, p.8)
-  stops_more Read s x lines more failed out p = absurd p
+  stops_more Read s x lines more x' failed out p = absurd p
 
-  pub stopped_more : (fault : ScriptFault) (s : S) (x : X) (held : Option (List ℕ)) (lines more : List (List ℕ)) (n : Option (List ℕ)) (failed : Bool)
-      → Stopped answers refuses s x held lines n failed fault → Stopped answers refuses s x held (lines ++ more) n failed fault
-  stopped_more fault s x held lines more n failed p =
-      wrote_so held n (StopsIn answers refuses s x lines failed fault) (StopsIn answers refuses s x (lines ++ more) failed fault) p
-      (λ out h. stops_more fault s x lines more failed out h)
+  pub stopped_more : (fault : ScriptFault) (s : S) (x : X) (held : Option (List ℕ)) (lines more : List (List ℕ)) (x' : X) (n : Option (List ℕ)) (failed : Bool)
+      → Stopped answers refuses s x held lines x' n failed fault → Stopped answers refuses s x held (lines ++ more) x' n failed fault
+  stopped_more fault s x held lines more x' n failed p =
+      wrote_so held n (StopsIn answers refuses s x lines x' failed fault) (StopsIn answers refuses s x (lines ++ more) x' failed fault) p
+      (λ out h. stops_more fault s x lines more x' failed out h)
 
   -- whole lines have no more lines than these, and the empty one after them
   pub lines_given : (given : List ℕ) (lines : List (List ℕ)) → ((more : List ℕ) → lines_of (given ++ more) ≡ lines ++ lines_of more) → lines_of given ≡ lines ++ [] ∷ []
   lines_given given lines cuts = sym (ap lines_of (append-nil given)) ∙ cuts []
 
   -- what stopped in the lines so far stopped within the text
-  stopped_here : (fault : ScriptFault) (s : S) (x : X) (held : Option (List ℕ)) (text more : List ℕ) (run : Run) (t : S) (y : X) (m n : Option (List ℕ)) (failed : Bool)
-      (st : Stands answers s x held text run t y m) → Stopped answers refuses s x held st.lines n failed fault → StoppedWithin answers refuses s x held (text ++ more) n failed fault
-  stopped_here fault s x held text more run t y m n failed st p =
-      wrote_so held n (StopsIn answers refuses s x st.lines failed fault)
-      (λ out. (given : List ℕ) × (rest : List ℕ) × (text ++ more ≡ given ++ rest) × IsWhole given × StopsIn answers refuses s x (lines_of given) failed fault out) p
-      (λ out h. (st.given, st.tail ++ more, rw (st.whole) (append_assoc st.given st.tail more), st.ends, rw (lines_given st.given st.lines st.cuts) (stops_more fault s x st.lines ([] ∷ []) failed out h)))
+  stopped_here : (fault : ScriptFault) (s : S) (x : X) (held : Option (List ℕ)) (text more : List ℕ) (run : Run) (t : S) (y : X) (x' : X) (m n : Option (List ℕ)) (failed : Bool)
+      (st : Stands answers s x held text run t y m) → Stopped answers refuses s x held st.lines x' n failed fault → StoppedWithin answers refuses s x held (text ++ more) x' n failed fault
+  stopped_here fault s x held text more run t y x' m n failed st p =
+      wrote_so held n (StopsIn answers refuses s x st.lines x' failed fault)
+      (λ out. (given : List ℕ) × (rest : List ℕ) × (text ++ more ≡ given ++ rest) × IsWhole given × StopsIn answers refuses s x (lines_of given) x' failed fault out) p
+      (λ out h. (st.given, st.tail ++ more, rw (st.whole) (append_assoc st.given st.tail more), st.ends, rw (lines_given st.given st.lines st.cuts) (stops_more fault s x st.lines ([] ∷ []) x' failed out h)))
 
   -- the lines so far, and one more
   pub lines_more : (s : S) (x : X) (held : Option (List ℕ)) (text part : List ℕ) (run : Run) (t : S) (y : X) (m : Option (List ℕ)) (st : Stands answers s x held text run t y m) → HasNoEnd part
@@ -122,20 +122,20 @@ module _ {S X : Type 0} (answers : S → X → List ℕ → List ℕ → S → X
       ap lines_of same ∙ st.cuts (line ++ 10 ∷ more) ∙ ap (λ (ls : List (List ℕ)). st.lines ++ ls) one ∙ sym (append_assoc st.lines (line ∷ []) (lines_of more))
 
   -- what stopped in the next line stopped within the text
-  stopped_next : (fault : ScriptFault) (s : S) (x : X) (held : Option (List ℕ)) (text part after : List ℕ) (run : Run) (t : S) (y : X) (m n : Option (List ℕ)) (failed : Bool)
-      (st : Stands answers s x held text run t y m) → HasNoEnd part → Stopped answers refuses s x held (st.lines ++ (st.tail ++ part) ∷ []) n failed fault
-      → StoppedWithin answers refuses s x held (text ++ (part ++ 10 ∷ after)) n failed fault
-  stopped_next fault s x held text part after run t y m n failed st h p =
+  stopped_next : (fault : ScriptFault) (s : S) (x : X) (held : Option (List ℕ)) (text part after : List ℕ) (run : Run) (t : S) (y : X) (x' : X) (m n : Option (List ℕ)) (failed : Bool)
+      (st : Stands answers s x held text run t y m) → HasNoEnd part → Stopped answers refuses s x held (st.lines ++ (st.tail ++ part) ∷ []) x' n failed fault
+      → StoppedWithin answers refuses s x held (text ++ (part ++ 10 ∷ after)) x' n failed fault
+  stopped_next fault s x held text part after run t y x' m n failed st h p =
       let line = st.tail ++ part in
       let given = st.given ++ (line ++ 10 ∷ []) in
-      wrote_so held n (StopsIn answers refuses s x (st.lines ++ line ∷ []) failed fault)
-      (λ out. (given : List ℕ) × (rest : List ℕ) × (text ++ (part ++ 10 ∷ after) ≡ given ++ rest) × IsWhole given × StopsIn answers refuses s x (lines_of given) failed fault out) p
+      wrote_so held n (StopsIn answers refuses s x (st.lines ++ line ∷ []) x' failed fault)
+      (λ out. (given : List ℕ) × (rest : List ℕ) × (text ++ (part ++ 10 ∷ after) ≡ given ++ rest) × IsWhole given × StopsIn answers refuses s x (lines_of given) x' failed fault out) p
       (λ out q. (
         given,
         after,
         rw (st.whole) (simp append_assoc),
         inr (st.given ++ line, sym (append_assoc st.given line (10 ∷ []))),
-        rw (lines_given given (st.lines ++ line ∷ []) (lines_more s x held text part run t y m st h)) (stops_more fault s x (st.lines ++ line ∷ []) ([] ∷ []) failed out q),
+        rw (lines_given given (st.lines ++ line ∷ []) (lines_more s x held text part run t y m st h)) (stops_more fault s x (st.lines ++ line ∷ []) ([] ∷ []) x' failed out q),
       ))
 
   -- the next line is answered
@@ -175,18 +175,18 @@ module _ {S X : Type 0} (answers : S → X → List ℕ → List ℕ → S → X
   }
 
   -- the same where the text ends within a chunk
-  pub stopped_here_in : (fault : ScriptFault) (s : S) (x : X) (held : Option (List ℕ)) (text done rest chunk : List ℕ) (run : Run) (t : S) (y : X) (m n : Option (List ℕ)) (failed : Bool) → chunk ≡ done ++ rest
-      → (st : Stands answers s x held (text ++ done) run t y m) → Stopped answers refuses s x held st.lines n failed fault → StoppedWithin answers refuses s x held (text ++ chunk) n failed fault
-  stopped_here_in fault s x held text done rest chunk run t y m n failed e st p =
+  pub stopped_here_in : (fault : ScriptFault) (s : S) (x : X) (held : Option (List ℕ)) (text done rest chunk : List ℕ) (run : Run) (t : S) (y : X) (x' : X) (m n : Option (List ℕ)) (failed : Bool) → chunk ≡ done ++ rest
+      → (st : Stands answers s x held (text ++ done) run t y m) → Stopped answers refuses s x held st.lines x' n failed fault → StoppedWithin answers refuses s x held (text ++ chunk) x' n failed fault
+  stopped_here_in fault s x held text done rest chunk run t y x' m n failed e st p =
       let same : (text ++ done) ++ rest ≡ text ++ chunk = rw e (append_assoc text done rest) in
-      subst (λ (bytes : List ℕ). StoppedWithin answers refuses s x held bytes n failed fault) same (stopped_here fault s x held (text ++ done) rest run t y m n failed st p)
+      subst (λ (bytes : List ℕ). StoppedWithin answers refuses s x held bytes x' n failed fault) same (stopped_here fault s x held (text ++ done) rest run t y x' m n failed st p)
 
-  pub stopped_next_in : (fault : ScriptFault) (s : S) (x : X) (held : Option (List ℕ)) (text done rest part after chunk : List ℕ) (run : Run) (t : S) (y : X) (m n : Option (List ℕ)) (failed : Bool) → chunk ≡ done ++ rest
-      → rest ≡ part ++ 10 ∷ after → HasNoEnd part → (st : Stands answers s x held (text ++ done) run t y m) → Stopped answers refuses s x held (st.lines ++ (st.tail ++ part) ∷ []) n failed fault
-      → StoppedWithin answers refuses s x held (text ++ chunk) n failed fault
-  stopped_next_in fault s x held text done rest part after chunk run t y m n failed e f h st p =
+  pub stopped_next_in : (fault : ScriptFault) (s : S) (x : X) (held : Option (List ℕ)) (text done rest part after chunk : List ℕ) (run : Run) (t : S) (y : X) (x' : X) (m n : Option (List ℕ)) (failed : Bool) → chunk ≡ done ++ rest
+      → rest ≡ part ++ 10 ∷ after → HasNoEnd part → (st : Stands answers s x held (text ++ done) run t y m) → Stopped answers refuses s x held (st.lines ++ (st.tail ++ part) ∷ []) x' n failed fault
+      → StoppedWithin answers refuses s x held (text ++ chunk) x' n failed fault
+  stopped_next_in fault s x held text done rest part after chunk run t y x' m n failed e f h st p =
       let same : (text ++ done) ++ (part ++ 10 ∷ after) ≡ text ++ chunk = rw (e, f) (append_assoc text done (part ++ 10 ∷ after)) in
-      subst (λ (bytes : List ℕ). StoppedWithin answers refuses s x held bytes n failed fault) same (stopped_next fault s x held (text ++ done) part after run t y m n failed st h p)
+      subst (λ (bytes : List ℕ). StoppedWithin answers refuses s x held bytes x' n failed fault) same (stopped_next fault s x held (text ++ done) part after run t y x' m n failed st h p)
 
   pub stands_line_in : (s : S) (x : X) (held : Option (List ℕ)) (text done part : List ℕ) (run run' : Run) (t : S) (y : X) (s' : S) (x' : X) (m n : Option (List ℕ)) → HasNoEnd part
       → (st : Stands answers s x held (text ++ done) run t y m) → Shown answers s x held (st.lines ++ (st.tail ++ part) ∷ []) run'.waiting.items s' x' n

@@ -30,18 +30,18 @@ module _ {S X : Type 0} (refuses : S → X → List ℕ → Type 0) where
   IsBad s x (b ∷ bs) = (4096 < length (b ∷ bs)) ⊎ refuses s x (b ∷ bs)
 
 module _ {S X : Type 0} (answers : S → X → List ℕ → List ℕ → S → X → Type 0) (refuses : S → X → List ℕ → Type 0) where
-  -- The answering of these lines, begun at s and x, stopped with a fault, and out was written. `failed` says whether the writer failed.
-  abbrev pub StopsIn : S → X → List (List ℕ) → Bool → ScriptFault → List ℕ → Type 0
-  -- the lines before the bad one are answered and written
-  StopsIn s x lines failed (BadLine n) out =
-      (0 < n) × (n ≤ length lines) × (t : S) × (y : X) × Printed answers s x (take (n - 1) lines) out t y × IsBad refuses t y (slice_index_or lines (n - 1) [])
-  -- some lines are, up to the one that found no memory
-  StopsIn s x lines failed OutOfMemory out = (n : ℕ) × (n ≤ length lines) × (t : S) × (y : X) × Printed answers s x (take n lines) out t y
-  -- some lines are answered, and a front of what they print is written
-  StopsIn s x lines failed Write out =
+  -- The answering of these lines, begun at s and x, stopped with a fault, with context x', and out was written. `failed` says whether the writer failed.
+  abbrev pub StopsIn : S → X → List (List ℕ) → X → Bool → ScriptFault → List ℕ → Type 0
+  -- the lines before the bad one are answered and written, and the context is the one after them
+  StopsIn s x lines x' failed (BadLine n) out =
+      (0 < n) × (n ≤ length lines) × (t : S) × Printed answers s x (take (n - 1) lines) out t x' × IsBad refuses t x' (slice_index_or lines (n - 1) [])
+  -- some lines are, up to the one that found no memory; that one may have used the context, so x' is open
+  StopsIn s x lines x' failed OutOfMemory out = (n : ℕ) × (n ≤ length lines) × (t : S) × (y : X) × Printed answers s x (take n lines) out t y
+  -- Some lines are answered, and a front of what they print is written. The write may have come after a line that found no memory, so x' is open.
+  StopsIn s x lines x' failed Write out =
       (failed ≡ true) × (n : ℕ) × (n ≤ length lines) × (t : S) × (y : X) × (all : List ℕ) × Printed answers s x (take n lines) all t y × (k : ℕ) × (out ≡ take k all)
   -- answering reads nothing
-  StopsIn s x lines failed Read out = ⊥
+  StopsIn s x lines x' failed Read out = ⊥
 
   -- What a script did that began at s and x and ended at s' and x', by its result: it read these bytes and left these, and wrote out.
   -- `failed_reader` and `failed_writer` say whether reader and writer failed.
@@ -53,6 +53,6 @@ module _ {S X : Type 0} (answers : S → X → List ℕ → List ℕ → S → X
       ((failed_reader ≡ true) ⊎ (16777216 < length read))
       × (text : List ℕ) × IsWithinBound read text × (given : List ℕ) × AreWholeLines text given × Printed answers s x (lines_of given) out s' x'
   -- a line is bad, memory ran out, or the writer failed
-  Outcome s x s' x' left failed_reader failed_writer read (Err (BadLine n)) out = (given : List ℕ) × IsJudged left read given × StopsIn s x (lines_of given) failed_writer (BadLine n) out
-  Outcome s x s' x' left failed_reader failed_writer read (Err OutOfMemory) out = (given : List ℕ) × IsJudged left read given × StopsIn s x (lines_of given) failed_writer OutOfMemory out
-  Outcome s x s' x' left failed_reader failed_writer read (Err Write) out = (given : List ℕ) × IsJudged left read given × StopsIn s x (lines_of given) failed_writer Write out
+  Outcome s x s' x' left failed_reader failed_writer read (Err (BadLine n)) out = (given : List ℕ) × IsJudged left read given × StopsIn s x (lines_of given) x' failed_writer (BadLine n) out
+  Outcome s x s' x' left failed_reader failed_writer read (Err OutOfMemory) out = (given : List ℕ) × IsJudged left read given × StopsIn s x (lines_of given) x' failed_writer OutOfMemory out
+  Outcome s x s' x' left failed_reader failed_writer read (Err Write) out = (given : List ℕ) × IsJudged left read given × StopsIn s x (lines_of given) x' failed_writer Write out

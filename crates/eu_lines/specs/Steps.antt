@@ -35,22 +35,22 @@ module _ {S X : Type 0} (answers : S → X → List ℕ → List ℕ → S → X
       (s : S) (x : X) (held : Option (List ℕ)) (text : List ℕ) → Stands s x held text run t y m → Stands s x held (text ++ bytes) run' s' x' n
 
 module _ {S X : Type 0} (answers : S → X → List ℕ → List ℕ → S → X → Type 0) (refuses : S → X → List ℕ → Type 0) where
-  -- A script stopped with a fault in these lines.
-  abbrev pub Stopped : S → X → Option (List ℕ) → List (List ℕ) → Option (List ℕ) → Bool → ScriptFault → Type 0
-  Stopped s x held lines holds failed fault = Wrote held holds (StopsIn answers refuses s x lines failed fault)
+  -- A script stopped with a fault in these lines, with context x'.
+  abbrev pub Stopped : S → X → Option (List ℕ) → List (List ℕ) → X → Option (List ℕ) → Bool → ScriptFault → Type 0
+  Stopped s x held lines x' holds failed fault = Wrote held holds (StopsIn answers refuses s x lines x' failed fault)
 
-  -- A script stopped with a fault in whole lines of this text.
-  abbrev pub StoppedWithin : S → X → Option (List ℕ) → List ℕ → Option (List ℕ) → Bool → ScriptFault → Type 0
-  StoppedWithin s x held text holds failed fault =
-      Wrote held holds (λ out. (given : List ℕ) × (rest : List ℕ) × (text ≡ given ++ rest) × IsWhole given × StopsIn answers refuses s x (lines_of given) failed fault out)
+  -- A script stopped with a fault in whole lines of this text, with context x'.
+  abbrev pub StoppedWithin : S → X → Option (List ℕ) → List ℕ → X → Option (List ℕ) → Bool → ScriptFault → Type 0
+  StoppedWithin s x held text x' holds failed fault =
+      Wrote held holds (λ out. (given : List ℕ) × (rest : List ℕ) × (text ≡ given ++ rest) × IsWhole given × StopsIn answers refuses s x (lines_of given) x' failed fault out)
 
-  -- From one place a script stops with a fault, at the latest in the line that ends with this part.
-  abbrev pub StopsAdding : Run → S → X → Option (List ℕ) → List ℕ → Option (List ℕ) → Bool → ScriptFault → Type 0
-  StopsAdding run t y m part n failed fault =
+  -- From one place a script stops with a fault, at the latest in the line that ends with this part, with context x'.
+  abbrev pub StopsAdding : Run → S → X → Option (List ℕ) → List ℕ → X → Option (List ℕ) → Bool → ScriptFault → Type 0
+  StopsAdding run t y m part x' n failed fault =
       (s : S) (x : X) (held : Option (List ℕ)) (lines : List (List ℕ)) (line : List ℕ) → Shown answers s x held lines run.waiting.items t y m → IsKept run.kept.items line → run.number ≡ length lines
-      → Stopped s x held (lines ++ (line ++ part) ∷ []) n failed fault
+      → Stopped s x held (lines ++ (line ++ part) ∷ []) x' n failed fault
 
-  -- From one place a script stops with a fault within these bytes.
-  abbrev pub StopsTaking : Run → S → X → Option (List ℕ) → List ℕ → Option (List ℕ) → Bool → ScriptFault → Type 0
-  StopsTaking run t y m bytes n failed fault =
-      (s : S) (x : X) (held : Option (List ℕ)) (text : List ℕ) → Stands answers s x held text run t y m → StoppedWithin s x held (text ++ bytes) n failed fault
+  -- From one place a script stops with a fault within these bytes, with context x'.
+  abbrev pub StopsTaking : Run → S → X → Option (List ℕ) → List ℕ → X → Option (List ℕ) → Bool → ScriptFault → Type 0
+  StopsTaking run t y m bytes x' n failed fault =
+      (s : S) (x : X) (held : Option (List ℕ)) (text : List ℕ) → Stands answers s x held text run t y m → StoppedWithin s x held (text ++ bytes) x' n failed fault

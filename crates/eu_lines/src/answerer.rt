@@ -16,7 +16,8 @@ pub trait Answerer<X> {
     /// prints goes into `out`.
     ///
     /// Of a bad line the error is `Bad`, and where there is no memory for the answer `OutOfMemory`. What is then in
-    /// `out` isn't printed, and `self` and `context` are left open.
+    /// `out` isn't printed, and `self` is left open. A bad line leaves `context` as it was; where there is no memory
+    /// that is left open too.
     fn answer(
         &mut self,
         alloc: Global,
@@ -28,5 +29,6 @@ pub trait Answerer<X> {
         requires short { length line.now ≤ LONGEST_LINE }
         requires empty { string_bytes out.old ≡ [] }
         ensures ok { OnOk result (answers self.old context.old line.now (string_bytes out.new) self.new context.new) }
-        ensures bad { result ≡ Err LineError.Bad → refuses self.old context.old line.now };
+        ensures bad { result ≡ Err LineError.Bad → refuses self.old context.old line.now }
+        ensures kept { result ≡ Err LineError.Bad → context.new ≡ context.old };
 }

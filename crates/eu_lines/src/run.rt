@@ -54,6 +54,7 @@ fn answer_line<X, D: Answerer<X>>(
 ) -> Result<(), LineError>
     ensures ok { OnOk result ((out : List ℕ) × Prints D.answers desk.old context.old line.now out desk.new context.new × (waiting.new.items ≡ waiting.old.items ++ out)) }
     ensures bad { result ≡ Err LineError.Bad → IsBad D.refuses desk.old context.old line.now }
+    ensures same_context { result ≡ Err LineError.Bad → context.new ≡ context.old }
     ensures err { OnErr result (waiting.new.items ≡ waiting.old.items) }
 {
     if line.is_empty() {
@@ -82,6 +83,7 @@ fn answer_part<X, D: Answerer<X>>(
     ensures kept { OnOk result (run.new.kept.items ≡ []) }
     ensures number { OnOk result (run.new.number ≡ run.old.number + 1) }
     ensures bad { result ≡ Err LineError.Bad → (line : List ℕ) → IsKept run.old.kept.items line → IsBad D.refuses desk.old context.old (line ++ part.now) }
+    ensures same_context { result ≡ Err LineError.Bad → context.new ≡ context.old }
     ensures err { OnErr result ((run.new.waiting.items ≡ run.old.waiting.items) × (run.new.number ≡ run.old.number)) }
 {
     if run.kept.is_empty() {
@@ -136,7 +138,7 @@ pub fn take_line<W: Sink, X, D: Answerer<X>>(
     ensures ok { OnOk result (Adds D.answers run.old desk.old context.old (W.contents writer.old) part.now run.new desk.new context.new (W.contents writer.new)) }
     ensures kept { OnOk result (run.new.kept.items ≡ []) }
     ensures number { OnOk result (run.new.number ≡ run.old.number + 1) }
-    ensures err { IfErr result (StopsAdding D.answers D.refuses run.old desk.old context.old (W.contents writer.old) part.now (W.contents writer.new) (W.failed writer.new)) }
+    ensures err { IfErr result (StopsAdding D.answers D.refuses run.old desk.old context.old (W.contents writer.old) part.now context.new (W.contents writer.new) (W.failed writer.new)) }
     ensures sound { OnOk result (W.failed writer.new ≡ W.failed writer.old) }
     ensures same_stream { W.stream writer.new ≡ W.stream writer.old }
 {
@@ -163,7 +165,7 @@ pub fn take_chunk<W: Sink, X, D: Answerer<X>>(
     ensures ok { OnOk result (Takes D.answers run.old desk.old context.old (W.contents writer.old) chunk.now run.new desk.new context.new (W.contents writer.new)) }
     ensures written { OnOk result (run.new.waiting.items ≡ []) }
     ensures number { OnOk result (run.new.number ≤ run.old.number + length chunk.now) }
-    ensures err { IfErr result (StopsTaking D.answers D.refuses run.old desk.old context.old (W.contents writer.old) chunk.now (W.contents writer.new) (W.failed writer.new)) }
+    ensures err { IfErr result (StopsTaking D.answers D.refuses run.old desk.old context.old (W.contents writer.old) chunk.now context.new (W.contents writer.new) (W.failed writer.new)) }
     ensures sound { OnOk result (W.failed writer.new ≡ W.failed writer.old) }
     ensures same_stream { W.stream writer.new ≡ W.stream writer.old }
 {
@@ -188,7 +190,7 @@ pub fn take_end<W: Sink, X, D: Answerer<X>>(
     requires { run.old.number < 2 ^ 63 }
     ensures ok { OnOk result (Adds D.answers run.old desk.old context.old (W.contents writer.old) [] run.new desk.new context.new (W.contents writer.new)) }
     ensures written { OnOk result (run.new.waiting.items ≡ []) }
-    ensures err { IfErr result (StopsAdding D.answers D.refuses run.old desk.old context.old (W.contents writer.old) [] (W.contents writer.new) (W.failed writer.new)) }
+    ensures err { IfErr result (StopsAdding D.answers D.refuses run.old desk.old context.old (W.contents writer.old) [] context.new (W.contents writer.new) (W.failed writer.new)) }
     ensures sound { OnOk result (W.failed writer.new ≡ W.failed writer.old) }
     ensures same_stream { W.stream writer.new ≡ W.stream writer.old }
 {

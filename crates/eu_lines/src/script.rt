@@ -31,7 +31,8 @@ fn room_for(alloc: Global, len: usize) -> Result<Vec<u8>, AllocError>
 /// known; `Read` where a read failed, or the script is too long; `Write` where a write or a flush failed; and
 /// `OutOfMemory` where there was no memory, for which the line prints nothing. Before `BadLine`, `Read` and
 /// `OutOfMemory` what the lines before it print is written and flushed. After any of them more may have been
-/// read than was answered.
+/// read than was answered. After `BadLine` and `Read` `context` is as the answered lines left it; after `Write`
+/// and `OutOfMemory` it's left open, since a line that found no memory may have used it.
 pub fn answer_lines<R: Source, W: Sink, X, D: Answerer<X>>(
     alloc: Global,
     reader: &mut R,

@@ -139,6 +139,52 @@ impl Sink for Held {
     }
 }
 
+/// Takes whatever is written, and fails after so many good writes, or so many good flushes.
+#[derive(Drop)]
+struct Failing {
+    text: Vec<u8>,
+    writes: usize,
+    flushes: usize,
+    has_failed: bool,
+}
+
+impl Failing {
+    fn new(alloc: Global, writes: usize, flushes: usize) -> Failing {
+        Failing {
+            text: Vec::new(alloc),
+            writes,
+            flushes,
+            has_failed: false,
+        }
+    }
+}
+
+impl Sink for Failing {
+    ghost stream = { λ _. 0 };
+
+    ghost contents = { λ _. None };
+
+    ghost failed = { λ s. s.has_failed };
+
+    fn write_some(&mut self, bytes: &[u8]) -> Result<usize, WriteFault> {
+        if self.writes == 0 || self.text.extend_from_slice(bytes).is_err() {
+            self.has_failed = true;
+            return Err(WriteFault);
+        }
+        self.writes -= 1;
+        Ok(bytes.len())
+    }
+
+    fn flush(&mut self) -> Result<(), WriteFault> {
+        if self.flushes == 0 {
+            self.has_failed = true;
+            return Err(WriteFault);
+        }
+        self.flushes -= 1;
+        Ok(())
+    }
+}
+
 /// Gives a line three times, and sees at each read how much was flushed before.
 #[derive(Drop)]
 struct Watching<'a> {
@@ -289,6 +335,42 @@ fn a_writer_fails_after_some_bytes(rt: HostRuntime) -> Result<(), Fail> {
                 "at {most}"
             );
         }
+    }
+    Ok(())
+}
+
+#[test]
+fn a_writer_fails_at_a_write_or_at_a_flush(rt: HostRuntime) -> Result<(), Fail> {
+    for (text, fails, writes, flushes, printed) in [
+        (
+            b"a\nb\nc\n".as_slice(),
+            false,
+            0usize,
+            9usize,
+            b"".as_slice(),
+        ),
+        (b"a\nb\nc\n", false, 1, 9, b"1\n"),
+        (b"a\nb\nc\n", false, 2, 9, b"1\n1\n"),
+        (b"a\nb\nc\n", false, 9, 0, b"1\n"),
+        (b"a\nb\nc\n", false, 9, 1, b"1\n1\n"),
+        (b"a\nb\nc\n", false, 9, 2, b"1\n1\n1\n"),
+        (b"a\n", true, 9, 0, b"1\n"),
+        (b"a", false, 0, 9, b""),
+        (b"!\n", false, 9, 0, b""),
+    ] {
+        let mut reader = Parts::new(text, 2, fails);
+        let mut writer = Failing::new(rt.alloc(), writes, flushes);
+        let mut count = 0;
+        let result = answer_lines(
+            rt.alloc(),
+            &mut reader,
+            &mut writer,
+            &mut Lengths,
+            &mut count,
+        );
+        assert!(rt; result == Err(ScriptFault::Write), "at {writes} {flushes}");
+        assert!(rt; writer.has_failed, "at {writes} {flushes}");
+        assert!(rt; writer.text.as_slice() == printed, "at {writes} {flushes}");
     }
     Ok(())
 }

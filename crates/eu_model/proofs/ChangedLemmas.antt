@@ -1,24 +1,21 @@
 -- A change of one lease, in plain form
-use Rattle.std.proofs.Common.{◌≡◌, ℕ, ◌+◌, Bool, true, false, refl, sym, ap, ◌∙◌, subst}
-use Rattle.std.specs.Prelude.{cond, Option, Some, None, ◌==◌, ◌^◌, is_some, Ok, Err}
+use Rattle.std.proofs.Common.{◌≡◌, ℕ, ◌+◌, Bool, true, false, refl, sym, ap, ◌∙◌}
+use Rattle.std.specs.Prelude.{cond, Option, Some, None, ◌==◌, ◌^◌, is_some}
 use Rattle.std.specs.Option.{option_map}
 use Rattle.std.specs.FinMap.{FinMap, get, len, contains_key}
-use Rattle.eu_base.specs.declared.faults.Fault.{Fault}
 use Rattle.eu_base.specs.declared.faults.Fault.TheVariants.{Full, Exhausted}
 use Rattle.eu_base.specs.declared.names.Key.{Key}
 use Rattle.eu_base.specs.Key.{key_cmp}
 use Rattle.eu_base.proofs.KeyLemmas.{keys_total, keys_exact}
 use Rattle.eu_model.specs.declared.views.Listed.{Listed}
-use Rattle.eu_model.specs.declared.commands.Command.{Command}
 use Rattle.eu_model.specs.Record.{Record}
 use Rattle.eu_model.specs.Marks.{since, last}
-use Rattle.eu_model.specs.Maps.{map_values}
+use Rattle.eu_model.specs.Maps.{map_values, with_value}
 use Rattle.eu_model.specs.Machine.{Machine}
 use Rattle.eu_model.specs.Change.{Change}
-use Rattle.eu_model.specs.Step.{Step, changed, marked}
-use Rattle.eu_model.specs.Run.{fault, join_fault}
+use Rattle.eu_model.specs.Step.{changed, marked}
+use Rattle.eu_model.specs.Run.{join_fault}
 use Rattle.eu_model.specs.Plain.{Plain, listed, plain}
-use Rattle.eu_model.specs.Answers.{IsRefusal, IsAnswer, Answers}
 use Rattle.eu_model.specs.Kept.{kept, after, kept_join_fault}
 use Rattle.eu_model.proofs.MarkLemmas.{since_renewal, last_renewal}
 use Rattle.eu_model.proofs.MapLemmas.{get-map_values, len-map_values, map_values-with_value}
@@ -54,26 +51,3 @@ join_fault-kept s k =
 -- the lease at a key, as it is kept
 pub held_of : (s : Machine) (k : Key) → option_map listed (get s.leases k) ≡ get (plain s).leases k
 held_of s k = sym (get-map_values key_cmp listed s.leases k)
-
--- A command whose change and whose fault are functions of what is kept is answered so, from each machine of that form
-module _ (c : Command) (t : ℕ) (k : Key) (change : Machine → Change Record) (kept_change : Plain → Change Listed) (kept_fault : Plain → Option Fault)
-    (steps : (s : Machine) → Step s c t (change s).reply (changed s k (change s)))
-    (changes : (s : Machine) → kept (change s) ≡ kept_change (plain s))
-    (faults : (s : Machine) → fault s c t ≡ kept_fault (plain s)) where
-  is_answered : (s : Machine) → kept_fault (plain s) ≡ None → IsAnswer s c t (Ok (kept_change (plain s)).reply) (after (plain s) k (kept_change (plain s)))
-  unfolding IsAnswer
-  is_answered s ok =
-      let same : (change s).reply ≡ (kept_change (plain s)).reply = ap (λ (x : Change Listed). x.reply) (changes s) in (
-        faults s ∙ ok,
-        (changed s k (change s), subst (λ reply. Step s c t reply (changed s k (change s))) same (steps s), plain-changed s k (change s) ∙ ap (after (plain s) k) (changes s)),
-      )
-
-  pub answered : (p : Plain) → kept_fault p ≡ None → Answers p c t (Ok (kept_change p).reply) (after p k (kept_change p))
-  unfolding Answers
-  answered p ok s e =
-      subst (λ q. kept_fault q ≡ None → IsAnswer s c t (Ok (kept_change q).reply) (after q k (kept_change q))) e (is_answered s) ok
-
-  pub refused : (p : Plain) (f : Fault) → IsRefusal (kept_fault p) f → Answers p c t (Err f) p
-  unfolding Answers IsAnswer
-  refused p f h s e =
-      subst (λ q. IsRefusal (kept_fault q) f → IsAnswer s c t (Err f) q) e (λ g. (subst (λ o. IsRefusal o f) (sym (faults s)) g, refl)) h

@@ -2,9 +2,14 @@ pub mod MarkLemmas
 pub mod RecordLemmas
 pub mod MapLemmas
 pub mod ChangedLemmas
+pub mod AnswerLemmas
 pub mod RegisterLemmas
 pub mod RenewLemmas
+pub mod CancelLemmas
+pub mod MinuteLemmas
 pub mod OpeningLemmas
+pub mod SeenLemmas
+pub mod EvictLemmas
 pub mod RunLemmas
 pub mod RaiseLemmas
 pub mod LawLemmas

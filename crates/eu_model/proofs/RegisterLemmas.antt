@@ -11,10 +11,12 @@ use Rattle.eu_model.specs.declared.commands.Command.TheVariants.{Register}
 use Rattle.eu_model.specs.Record.{Record}
 use Rattle.eu_model.specs.Machine.{Machine}
 use Rattle.eu_model.specs.Change.{Change, register}
+use Rattle.eu_model.specs.Step.{changed}
 use Rattle.eu_model.specs.Plain.{Plain, listed, plain}
 use Rattle.eu_model.specs.Answers.{IsRefusal, Answers}
 use Rattle.eu_model.specs.Kept.{kept, kept_register, after, kept_join_fault}
-use Rattle.eu_model.proofs.ChangedLemmas.{held_of, join_fault-kept, answered, refused}
+use Rattle.eu_model.proofs.ChangedLemmas.{held_of, plain-changed, join_fault-kept}
+use Rattle.eu_model.proofs.AnswerLemmas.{IsKept, answered, refused}
 
 register-kept : (held : Option Record) (row : Option Status) (expected : ℕ) (n : Instance) (replicated : Bool) (t : ℕ) →
     kept (register held row expected n replicated t) ≡ kept_register (option_map listed held) row expected n replicated t
@@ -34,10 +36,14 @@ module _ (n : Instance) (replicated : Bool) (t : ℕ) where
       register-kept (get s.leases n.key) (get s.rows n.key.id) s.expected n replicated t
       ∙ ap (λ held. kept_register held (get s.rows n.key.id) s.expected n replicated t) (held_of s n.key)
 
+  pub register_is_kept : IsKept (λ s. changed s n.key (register_change s)) (λ s. (register_change s).reply) (λ p. after p n.key (registers p)) (λ p. (registers p).reply)
+  register_is_kept = record {
+    nexts = λ s. plain-changed s n.key (register_change s) ∙ ap (after (plain s) n.key) (register_change-kept s);
+    replies = λ s. ap (λ (c : Change Listed). c.reply) (register_change-kept s);
+  }
+
   pub register_answers : (p : Plain) → kept_join_fault p n.key ≡ None → Answers p (Register n replicated) t (Ok (registers p).reply) (after p n.key (registers p))
-  register_answers =
-      answered (Register n replicated) t n.key register_change registers (λ p. kept_join_fault p n.key) (λ s. (refl, refl)) register_change-kept (λ s. join_fault-kept s n.key)
+  register_answers = answered (Register n replicated) t _ _ _ _ (λ p. kept_join_fault p n.key) register_is_kept (λ s. (refl, refl)) (λ s. join_fault-kept s n.key)
 
   pub register_refused : (p : Plain) (f : Fault) → IsRefusal (kept_join_fault p n.key) f → Answers p (Register n replicated) t (Err f) p
-  register_refused =
-      refused (Register n replicated) t n.key register_change registers (λ p. kept_join_fault p n.key) (λ s. (refl, refl)) register_change-kept (λ s. join_fault-kept s n.key)
+  register_refused = refused (Register n replicated) t (λ p. kept_join_fault p n.key) (λ s. join_fault-kept s n.key)

@@ -19,11 +19,13 @@ use Rattle.eu_model.specs.Override.{rule, is_status}
 use Rattle.eu_model.specs.Machine.{Machine}
 use Rattle.eu_model.specs.Change.{Change, uncounted, renew, renew_as, renew_reply, brought, under_row}
 use Rattle.eu_model.specs.Run.{fault}
+use Rattle.eu_model.specs.Step.{changed}
 use Rattle.eu_model.specs.Plain.{Plain, listed, plain}
 use Rattle.eu_model.specs.Answers.{IsRefusal, Answers}
 use Rattle.eu_model.specs.Kept.{raised, kept, kept_renew, after, kept_renew_fault}
 use Rattle.eu_model.proofs.RecordLemmas.{listed_renewed}
-use Rattle.eu_model.proofs.ChangedLemmas.{held_of, answered, refused}
+use Rattle.eu_model.proofs.ChangedLemmas.{held_of, plain-changed}
+use Rattle.eu_model.proofs.AnswerLemmas.{IsKept, answered, refused}
 
 module _ (row : Option Status) (expected : ℕ) (dirty : Option Stamp) (overridden : Option Status) (replicated : Bool) (t : ℕ) where
   renew_as-kept : (r : Record) (status : Status) →
@@ -61,10 +63,15 @@ module _ (k : Key) (dirty : Option Stamp) (overridden : Option Status) (replicat
   pub renew_fault-kept : (s : Machine) → fault s (Renew k dirty overridden replicated) t ≡ kept_renew_fault (plain s) (renews (plain s)).counted
   renew_fault-kept s = ap (λ (c : Change Listed). cond (c.counted && (since s.marks == 2 ^ 62)) (Some Exhausted) None) (renew_change-kept s)
 
+  pub renew_is_kept : IsKept (λ s. changed s k (renew_change s)) (λ s. (renew_change s).reply) (λ p. after p k (renews p)) (λ p. (renews p).reply)
+  renew_is_kept = record {
+    nexts = λ s. plain-changed s k (renew_change s) ∙ ap (after (plain s) k) (renew_change-kept s);
+    replies = λ s. ap (λ (c : Change Listed). c.reply) (renew_change-kept s);
+  }
+
   pub renew_answers : (p : Plain) → kept_renew_fault p (renews p).counted ≡ None → Answers p (Renew k dirty overridden replicated) t (Ok (renews p).reply) (after p k (renews p))
   renew_answers =
-      answered (Renew k dirty overridden replicated) t k renew_change renews (λ p. kept_renew_fault p (renews p).counted) (λ s. (refl, refl)) renew_change-kept renew_fault-kept
+      answered (Renew k dirty overridden replicated) t _ _ _ _ (λ p. kept_renew_fault p (renews p).counted) renew_is_kept (λ s. (refl, refl)) renew_fault-kept
 
   pub renew_refused : (p : Plain) (f : Fault) → IsRefusal (kept_renew_fault p (renews p).counted) f → Answers p (Renew k dirty overridden replicated) t (Err f) p
-  renew_refused =
-      refused (Renew k dirty overridden replicated) t k renew_change renews (λ p. kept_renew_fault p (renews p).counted) (λ s. (refl, refl)) renew_change-kept renew_fault-kept
+  renew_refused = refused (Renew k dirty overridden replicated) t (λ p. kept_renew_fault p (renews p).counted) renew_fault-kept

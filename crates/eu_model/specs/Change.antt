@@ -1,5 +1,5 @@
 -- What a step on one lease leaves at its key and its id: a definition for each command
-use Rattle.std.specs.Prelude.{ℕ, ◌+◌, ◌==◌, Bool, true, false, not, ◌&&◌, ◌||◌, nat_lt, if◌then◌else◌, Option, Some, None, is_some}
+use Rattle.std.specs.Prelude.{ℕ, ◌+◌, ◌-◌, ◌==◌, Bool, true, false, not, ◌&&◌, ◌||◌, nat_lt, if◌then◌else◌, Option, Some, None, is_some}
 use Rattle.std.specs.Option.{option_map, option_map_or, option_or}
 use Rattle.eu_base.specs.declared.statuses.Status.{Status}
 use Rattle.eu_base.specs.declared.statuses.Status.TheVariants.{Up, Unknown}
@@ -103,3 +103,9 @@ renew (Some r) row expected dirty overridden replicated t =
     let status = rule r.instance.status row (Some r.instance.status) replicated in
     if is_status status Unknown then uncounted (Some r) row expected NotFound
     else renew_as r row expected dirty overridden replicated t status
+
+-- ---- a cancel: the row of the id goes, also where no lease is held; a client that leaves is one less expected
+
+abbrev pub cancel : Option Record → ℕ → Change Record
+cancel None expected = uncounted None None expected NotFound
+cancel (Some r) expected = uncounted None None (expected - 1) Done

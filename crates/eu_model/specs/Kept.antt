@@ -1,18 +1,23 @@
--- The steps and the faults, taken on what is kept. Only proofs read this file
-use Rattle.std.specs.Prelude.{ℕ, ◌+◌, ◌^◌, ◌==◌, Bool, ◌&&◌, if◌then◌else◌, Option, Some, None, [], ◌∷◌}
+-- The steps, taken on what is kept: no rule stands here a second time
+use Rattle.std.specs.Prelude.{◌≡◌, ℕ, ◌+◌, ◌^◌, ◌==◌, Bool, ◌&&◌, nat_lt, if◌then◌else◌, Option, Some, None, List, [], ◌∷◌, length, map, filter, All, Contains}
 use Rattle.std.specs.Option.{option_map}
-use Rattle.std.specs.FinMap.{len, contains_key}
+use Rattle.std.specs.List.{IsDistinct}
+use Rattle.std.specs.FinMap.{get, len, contains_key, entries}
 use Rattle.eu_base.specs.declared.statuses.Status.{Status}
 use Rattle.eu_base.specs.declared.times.Stamp.{Stamp}
 use Rattle.eu_base.specs.declared.faults.Fault.{Fault}
 use Rattle.eu_base.specs.declared.faults.Fault.TheVariants.{Full, Exhausted}
 use Rattle.eu_base.specs.declared.instances.Instance.{Instance}
 use Rattle.eu_base.specs.declared.names.Key.{Key}
+use Rattle.eu_base.specs.Key.{key_eq}
 use Rattle.eu_model.specs.declared.views.Listed.{Listed}
-use Rattle.eu_model.specs.Record.{Record}
+use Rattle.eu_model.specs.declared.commands.Reply.{Reply}
+use Rattle.eu_model.specs.Record.{Record, duration}
 use Rattle.eu_model.specs.Record.Kind.{Fresh}
-use Rattle.eu_model.specs.Maps.{with_value}
-use Rattle.eu_model.specs.Change.{Change, register, renew}
+use Rattle.eu_model.specs.Meter.{is_permitted, expected_after}
+use Rattle.eu_model.specs.Maps.{with_value, without}
+use Rattle.eu_model.specs.Evict.{extra_time, victims_of}
+use Rattle.eu_model.specs.Change.{Change, register, renew, cancel}
 use Rattle.eu_model.specs.Plain.{Plain, listed}
 
 -- some record that is listed so
@@ -35,6 +40,9 @@ abbrev pub kept_renew : Option Listed → Option Status → ℕ → Option Stamp
 kept_renew held row expected dirty overridden replicated t =
     kept (renew (option_map raised held) row expected dirty overridden replicated t)
 
+abbrev pub kept_cancel : Option Listed → ℕ → Change Listed
+kept_cancel held expected = kept (cancel (option_map raised held) expected)
+
 -- the plain form after a change
 abbrev pub after : Plain → Key → Change Listed → Plain
 after p k change = record p {
@@ -53,3 +61,38 @@ kept_join_fault p k =
 
 abbrev pub kept_renew_fault : Plain → Bool → Option Fault
 kept_renew_fault p counted = if counted && (p.since == 2 ^ 62) then Some Exhausted else None
+
+-- whether what is kept has expired
+abbrev pub kept_expired : Listed → ℕ → ℕ → Bool
+kept_expired l t extra = nat_lt (l.times.updated + duration l.instance + extra) t
+
+-- a listed lease, unless eviction is permitted and it has expired
+abbrev pub kept_seen : Bool → ℕ → Option Listed → Option Listed
+kept_seen permitted t None = None
+kept_seen permitted t (Some l) = if permitted && kept_expired l t 0 then None else Some l
+
+abbrev pub kept_rolled : Plain → Plain
+kept_rolled p = record p { last = p.since; since = 0 }
+
+abbrev pub kept_updated : Plain → ℕ
+kept_updated p = expected_after p.config p.expected (len p.leases)
+
+-- the keys of what has expired, in key order
+abbrev pub kept_due : Plain → ℕ → List Key
+kept_due p t = map (λ e. e.0) (filter (λ e. kept_expired e.1 t (extra_time p.config p.previous t)) (entries p.leases))
+
+abbrev pub kept_evicted_at : Plain → ℕ → ℕ
+kept_evicted_at p t = victims_of p.config (is_permitted p.config p.expected p.last) (length (kept_due p t)) (len p.leases)
+
+-- the victims of a pass
+pub record AreKeptVictims (p : Plain) (t : ℕ) (victims : List Key) : Type 0 where
+  pub expired : All (Contains (kept_due p t)) victims
+  pub once : IsDistinct key_eq victims
+  pub number : length victims ≡ kept_evicted_at p t
+
+abbrev pub kept_evicted : Plain → ℕ → List Key → Plain
+kept_evicted p t victims = record p {
+  leases = without p.leases victims;
+  rows = without p.rows (map (λ k. k.id) victims);
+  previous = Some t;
+}

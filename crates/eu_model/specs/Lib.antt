@@ -5,11 +5,12 @@ pub mod Override
 pub mod Maps
 pub mod Machine
 pub mod Change
+pub mod Evict
 pub mod Step
 pub mod Run
 pub mod Delta
-pub mod View
 pub mod Plain
+pub mod View
 pub mod Answers
 pub mod Reaches
 pub mod Law

@@ -1,10 +1,11 @@
 -- The lease machine, with its whole past
-use Rattle.std.specs.Prelude.{ℕ, Bool, List, [], Option, None}
-use Rattle.std.specs.FinMap.{FinMap, empty}
+use Rattle.std.specs.Prelude.{ℕ, Bool, ◌&&◌, if◌then◌else◌, List, [], Option, Some, None}
+use Rattle.std.specs.FinMap.{FinMap, empty, get}
 use Rattle.eu_base.specs.declared.settings.Config.{Config}
 use Rattle.eu_base.specs.declared.statuses.Status.{Status}
+use Rattle.eu_base.specs.declared.names.Key.{Key}
 use Rattle.eu_base.specs.Key.{name_cmp, key_cmp}
-use Rattle.eu_model.specs.Record.{Record}
+use Rattle.eu_model.specs.Record.{Record, is_expired}
 use Rattle.eu_model.specs.Marks.{Mark, last}
 use Rattle.eu_model.specs.Meter.{is_permitted}
 
@@ -25,3 +26,12 @@ opening c expected = record { config = c; leases = empty; rows = empty; expected
 -- whether eviction is permitted now
 abbrev pub permits : Machine → Bool
 permits s = is_permitted s.config s.expected (last s.marks)
+
+-- a lease that is held, unless eviction is permitted and it has expired
+abbrev pub seen : Bool → ℕ → Option Record → Option Record
+seen permitted t None = None
+seen permitted t (Some r) = if permitted && is_expired r t 0 then None else Some r
+
+-- the lease that is visible at a key, at a moment
+abbrev pub visible : Machine → Key → ℕ → Option Record
+visible s k t = seen (permits s) t (get s.leases k)

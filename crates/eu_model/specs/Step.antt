@@ -1,16 +1,19 @@
 -- What a step of the lease machine may be
 use Rattle.std.specs.Prelude.{◌≡◌, ℕ, Bool, if◌then◌else◌, List, [], ◌∷◌, ◌++◌}
-use Rattle.std.specs.FinMap.{get}
+use Rattle.std.specs.FinMap.{get, len}
 use Rattle.eu_base.specs.declared.names.Key.{Key}
 use Rattle.eu_model.specs.declared.commands.Command.{Command}
-use Rattle.eu_model.specs.declared.commands.Command.TheVariants.{Register, Renew}
+use Rattle.eu_model.specs.declared.commands.Command.TheVariants.{Register, Renew, Cancel, Roll, Update, Evict}
 use Rattle.eu_model.specs.declared.commands.Reply.{Reply}
+use Rattle.eu_model.specs.declared.commands.Reply.TheVariants.{Last, Expected, Evicted}
 use Rattle.eu_model.specs.Record.{Record}
-use Rattle.eu_model.specs.Marks.{Mark}
-use Rattle.eu_model.specs.Marks.Mark.{Renewal}
+use Rattle.eu_model.specs.Marks.{Mark, last}
+use Rattle.eu_model.specs.Marks.Mark.{Renewal, Minute}
+use Rattle.eu_model.specs.Meter.{expected_after}
 use Rattle.eu_model.specs.Maps.{with_value}
 use Rattle.eu_model.specs.Machine.{Machine}
-use Rattle.eu_model.specs.Change.{Change, register, renew}
+use Rattle.eu_model.specs.Change.{Change, register, renew, cancel}
+use Rattle.eu_model.specs.Evict.{AreVictims, evicted}
 
 -- a renewal that is counted leaves a mark
 abbrev pub marked : Bool → List Mark → List Mark
@@ -29,9 +32,22 @@ changed s k change = record s {
 abbrev pub Changes : Machine → Key → Change Record → Reply → Machine → Type 0
 Changes old k change reply new = (reply ≡ change.reply) × (new ≡ changed old k change)
 
+-- the machine after a minute ended
+abbrev pub rolled : Machine → Machine
+rolled s = record s { marks = s.marks ++ Minute ∷ [] }
+
+-- the number expected after an update
+abbrev pub updated : Machine → ℕ
+updated s = expected_after s.config s.expected (len s.leases)
+
 -- From old, the machine may answer the command so at the moment t, and go on to new
 abbrev pub Step : Machine → Command → ℕ → Reply → Machine → Type 0
 Step old (Register n replicated) t reply new =
     Changes old n.key (register (get old.leases n.key) (get old.rows n.key.id) old.expected n replicated t) reply new
 Step old (Renew k dirty overridden replicated) t reply new =
     Changes old k (renew (get old.leases k) (get old.rows k.id) old.expected dirty overridden replicated t) reply new
+Step old (Cancel k replicated) t reply new = Changes old k (cancel (get old.leases k) old.expected) reply new
+Step old Roll t reply new = (reply ≡ Last (last (rolled old).marks)) × (new ≡ rolled old)
+Step old Update t reply new = (reply ≡ Expected (updated old)) × (new ≡ record old { expected = updated old })
+-- a pass may take any victims of the right number
+Step old Evict t reply new = (victims : List Key) × (reply ≡ Evicted victims) × AreVictims old t victims × (new ≡ evicted old t victims)

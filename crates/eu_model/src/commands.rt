@@ -1,5 +1,6 @@
 //! Commands and replies.
 
+use crate::Keys;
 use eu_base::{Instance, Key, Moment, Stamp, Status};
 
 /// What changes a registry. Each is one step of the lease machine.
@@ -23,6 +24,19 @@ pub enum Command {
         /// Whether a peer sends it.
         replicated: bool,
     },
+    /// A client leaves (`AbstractInstanceRegistry.cancel`).
+    Cancel {
+        /// The lease.
+        key: Key,
+        /// Whether a peer sends it.
+        replicated: bool,
+    },
+    /// A minute ends (`MeasuredRate`'s timer).
+    Roll,
+    /// The number of clients is counted anew (`PeerAwareInstanceRegistryImpl.updateRenewalThreshold`).
+    Update,
+    /// An eviction pass (`AbstractInstanceRegistry.evict`).
+    Evict,
 }
 
 /// What a command is answered.
@@ -41,6 +55,12 @@ pub enum Reply {
     Stale,
     /// The registry holds a newer instance than the peer that asks: this one.
     Conflict(Instance),
+    /// The renewals of the minute that ended.
+    Last(u64),
+    /// The number of clients that are expected now.
+    Expected(u64),
+    /// The leases that a pass took out.
+    Evicted(Keys),
 }
 
 /// A command that was accepted, with its reply.

@@ -4,9 +4,11 @@
 #![tactic(auto)]
 
 mod commands;
+mod keys;
 mod law;
 mod views;
 
 pub use commands::{Command, Entry, Reply};
+pub use keys::Keys;
 pub use law::plain_form_decides;
 pub use views::{Counts, Listed, Query, Times, View};

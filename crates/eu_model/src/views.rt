@@ -1,10 +1,12 @@
 //! What is seen of a registry.
 
-use eu_base::Instance;
+use eu_base::{Instance, Key};
 
 /// What may be asked of a registry without changing it.
 #[derive(Debug, Drop)]
 pub enum Query {
+    /// One lease, where it is visible.
+    One(Key),
     /// How many leases are held, expected and renewed.
     Counts,
 }
@@ -12,6 +14,8 @@ pub enum Query {
 /// What a query is answered.
 #[derive(Debug, Drop)]
 pub enum View {
+    /// The lease; none where none is visible.
+    One(Option<Listed>),
     /// The counts.
     Counts(Counts),
 }

@@ -31,18 +31,18 @@ module _ {S T X : Type 0}
   is_bad s t x (b ∷ bs) a (inl long) = inl long
   is_bad s t x (b ∷ bs) a (inr refused) = inr (bad s t x (b ∷ bs) a refused)
 
-  stops : (s : S) (t : T) (x : X) (lines : List (List ℕ)) (failed : Bool) (fault : ScriptFault) (out : List ℕ) → A s t
-      → StopsIn answers refuses s x lines failed fault out → StopsIn answers' refuses' t x lines failed fault out
-  stops s t x lines failed (BadLine n) out a p =
-      let r = printed s t x (take (n - 1) lines) out p.2 p.3 a p.4 in
-      (p.0, p.1, r.0, p.3, r.1, is_bad p.2 r.0 p.3 (slice_index_or lines (n - 1) []) r.2 p.5)
-  stops s t x lines failed OutOfMemory out a p =
+  stops : (s : S) (t : T) (x : X) (lines : List (List ℕ)) (x' : X) (failed : Bool) (fault : ScriptFault) (out : List ℕ) → A s t
+      → StopsIn answers refuses s x lines x' failed fault out → StopsIn answers' refuses' t x lines x' failed fault out
+  stops s t x lines x' failed (BadLine n) out a p =
+      let r = printed s t x (take (n - 1) lines) out p.2 x' a p.3 in
+      (p.0, p.1, r.0, r.1, is_bad p.2 r.0 x' (slice_index_or lines (n - 1) []) r.2 p.4)
+  stops s t x lines x' failed OutOfMemory out a p =
       let r = printed s t x (take p.0 lines) out p.2 p.3 a p.4 in
       (p.0, p.1, r.0, p.3, r.1)
-  stops s t x lines failed Write out a p =
+  stops s t x lines x' failed Write out a p =
       let r = printed s t x (take p.1 lines) p.5 p.3 p.4 a p.6 in
       (p.0, p.1, p.2, r.0, p.4, p.5, r.1, p.7, p.8)
-  stops s t x lines failed Read out a p = p
+  stops s t x lines x' failed Read out a p = p
 
   -- what the first does with a script, the second does too
   pub outcome : (s s' : S) (t : T) (x x' : X) (left : Option (List ℕ)) (failed_reader failed_writer : Bool) (read : List ℕ) (result : Result (Unit {0}) ScriptFault) (out : List ℕ)
@@ -54,6 +54,6 @@ module _ {S T X : Type 0}
   outcome s s' t x x' left failed_reader failed_writer read (Err Read) out a p =
       let r = printed s t x _ out s' x' a p.5 in
       (r.0, (p.0, p.1, p.2, p.3, p.4, r.1))
-  outcome s s' t x x' left failed_reader failed_writer read (Err (BadLine n)) out a p = (t, (p.0, p.1, stops s t x _ failed_writer (BadLine n) out a p.2))
-  outcome s s' t x x' left failed_reader failed_writer read (Err OutOfMemory) out a p = (t, (p.0, p.1, stops s t x _ failed_writer OutOfMemory out a p.2))
-  outcome s s' t x x' left failed_reader failed_writer read (Err Write) out a p = (t, (p.0, p.1, stops s t x _ failed_writer Write out a p.2))
+  outcome s s' t x x' left failed_reader failed_writer read (Err (BadLine n)) out a p = (t, (p.0, p.1, stops s t x _ x' failed_writer (BadLine n) out a p.2))
+  outcome s s' t x x' left failed_reader failed_writer read (Err OutOfMemory) out a p = (t, (p.0, p.1, stops s t x _ x' failed_writer OutOfMemory out a p.2))
+  outcome s s' t x x' left failed_reader failed_writer read (Err Write) out a p = (t, (p.0, p.1, stops s t x _ x' failed_writer Write out a p.2))

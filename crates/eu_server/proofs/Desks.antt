@@ -1,26 +1,31 @@
 -- What a registry answers, against the lease machine
-use Rattle.std.proofs.Common.{codes, ◌≡◌, ◌≢◌, ℕ, Bool, List, Option, Some, None, Result, Ok, Err, OnOk, refl, sym, ◌∙◌, ap, inl, inr}
+use Rattle.std.proofs.Common.{codes, ◌≡◌, ◌≢◌, ℕ, List, [], ◌∷◌, ◌++◌, Option, Some, None, Result, Ok, Err, OnOk, IfOk, refl, sym, ◌∙◌, ap, inl, inr}
 use Rattle.std.specs.Option.{option_map}
 use Rattle.eu_base.specs.declared.faults.Fault.{Fault}
 use Rattle.eu_base.specs.declared.faults.Fault.TheVariants.{OutOfMemory}
-use Rattle.eu_base.specs.declared.instances.Instance.{Instance}
-use Rattle.eu_base.specs.declared.names.Key.{Key}
-use Rattle.eu_base.specs.declared.settings.Config.{Config}
 use Rattle.eu_lines.specs.declared.faults.LineError.{LineError}
+use Rattle.eu_base.specs.declared.names.Key.{Key}
 use Rattle.eu_model.specs.declared.commands.Command.{Command}
-use Rattle.eu_model.specs.declared.commands.Command.TheVariants as command
+use Rattle.eu_model.specs.declared.commands.Command.TheVariants.{Evict}
+use Rattle.eu_model.specs.declared.commands.Reply.TheVariants.{Evicted}
+use Rattle.eu_core.specs.Evicts.{Draws}
+use Rattle.eu_model.specs.declared.commands.Entry.{Entry}
 use Rattle.eu_model.specs.declared.commands.Reply.{Reply}
-use Rattle.eu_model.specs.declared.views.Counts.{Counts}
+use Rattle.eu_model.specs.declared.views.Query.{Query}
+use Rattle.eu_model.specs.declared.views.View.{View}
 use Rattle.eu_model.specs.Answers as model
 use Rattle.eu_model.specs.Answers.{IsRefusal, Shows}
 use Rattle.eu_model.specs.Machine.{Machine, opening}
 use Rattle.eu_model.specs.Plain.{Plain, plain}
-use Rattle.eu_model.specs.View.{counts}
+use Rattle.eu_model.specs.Run.{fault}
+use Rattle.eu_model.specs.Step.{Step}
+use Rattle.eu_model.specs.View.{view}
+use Rattle.eu_model.proofs.RunLemmas.{run_push}
 use Rattle.eu_server.specs.declared.desk.Desk.{Desk}
-use Rattle.eu_server.specs.Desk.{DeskAnswers}
-use Rattle.eu_server.specs.Lines.{Said, newcomer_of, line_of}
-use Rattle.eu_server.specs.Script.{Does, Says}
-use Rattle.eu_server.specs.Texts.{answer_text, counts_text}
+use Rattle.eu_server.specs.Desk.{kept_of, DeskAnswers, ClosedAnswers, OpenedAnswers}
+use Rattle.eu_server.specs.Lines.{Said, line_of}
+use Rattle.eu_server.specs.Script.{Ran, opened_with, Does, Sees, Says, SaysOpened, SaysClosed}
+use Rattle.eu_server.specs.Texts.{answer_text, reply_text, view_text}
 
 -- a refusal that isn't want of memory is the machine's fault
 abbrev IsTold : Result Reply Fault → Type 0
@@ -30,72 +35,92 @@ refused : (o : Option Fault) (f : Fault) → IsRefusal o f → IsTold (Err f) �
 refused None f e known = absurd (known (ap Err e))
 refused (Some g) f e known = ap Some (sym e)
 
--- a registry's answer that is printed is what the command does to each machine of that plain form
-does : (old new : Plain) (c : Command) (t : ℕ) (result : Result Reply Fault) (out : List ℕ) (s : Machine)
-    → model.Answers old c t result new → result ≢ Err OutOfMemory → out ≡ answer_text result → plain s ≡ old
-    → (s' : Option Machine) × Does s c t out s' × (option_map plain s' ≡ Some new)
+-- the entry of a command in a script
+abbrev entry_of : Command → ℕ → Reply → Entry
+entry_of c t reply = record { pass = 0; number = 0; command = c; moment = t; reply = reply }
+
+-- the run with one step more
+abbrev and_then : (r : Ran) (c : Command) (t : ℕ) (reply : Reply) (mid : Machine) → fault r.machine c t ≡ None → Step r.machine c t reply mid → Ran
+and_then r c t reply mid none step = record {
+  config = r.config;
+  opened = r.opened;
+  entries = r.entries ++ entry_of c t reply ∷ [];
+  machine = mid;
+  runs = run_push (opening r.config r.opened) r.entries r.machine (entry_of c t reply) mid r.runs none step;
+}
+
+-- an answer that is printed is what the command does to each run of that plain form
+does : (old new : Plain) (c : Command) (t : ℕ) (result : Result Reply Fault) (out : List ℕ)
+    → model.Answers old c t result new → result ≢ Err OutOfMemory → out ≡ answer_text result
+    → (r : Ran) → kept_of r ≡ old → (next : Ran) × Does r c t out next × (kept_of next ≡ new)
 unfolding model.Answers model.IsAnswer
-does old new c t (Ok reply) out s answers known text e =
-    let a = answers s e in
-    (Some a.1.0, inl (reply, a.1.0, a.0, a.1.1, text, refl), ap Some a.1.2)
-does old new c t (Err f) out s answers known text e =
-    let a = answers s e in
-    (Some s, inr (f, refused _ f a.0 known, text, refl), ap Some (sym a.1))
+does old new c t (Ok reply) out answers known text r e =
+    let a = answers r.machine e in
+    (and_then r c t reply a.1.0 a.0 a.1.1, inl (entry_of c t reply, refl, refl, (refl, refl, refl, a.0, a.1.1), text), a.1.2)
+does old new c t (Err f) out answers known text r e =
+    let a = answers r.machine e in
+    (r, inr (f, refused _ f a.0 known, text, refl), sym a.1)
 
-module _ {C : Type 0} (config : Config) (asks : C → ℕ → ℕ × C) (x : C) where
-  does_at : (old new : Plain) (said : Said) (c : Command) (t : ℕ) (result : Result Reply Fault) (out : List ℕ)
-      → ((s : Machine) (s' : Option Machine) → Does s c t out s' → Says config asks (Some said) (Some s) x out s' x)
-      → model.Answers old c t result new → result ≢ Err OutOfMemory → out ≡ answer_text result
-      → (s : Option Machine) → option_map plain s ≡ Some old
-      → (s' : Option Machine) × Says config asks (Some said) s x out s' x × (option_map plain s' ≡ Some new)
-  does_at old new said c t result out says answers known text None e = cc
-  does_at old new said c t result out says answers known text (Some s) e =
-      let h : plain s ≡ old = cc in
-      let d = does old new c t result out s answers known text h in
-      (d.0, says s d.0 d.1, d.2)
+module _ {C : Type 0} (asks : C → ℕ → ℕ × C) (x : C) where
+  -- the same as what a line says
+  pub told : (old new : Plain) (said : Said) (c : Command) (t : ℕ) (answer : Result Reply Fault) (r : Result (Unit {0}) LineError) (out : List ℕ)
+      → ((y next : Ran) → Does y c t out next → SaysOpened asks said y x out next x)
+      → model.Answers old c t answer new → OnOk r (answer ≢ Err OutOfMemory) → OnOk r (out ≡ answer_text answer)
+      → OnOk r (OpenedAnswers asks old x said out new x)
+  told old new said c t answer (Err e) out says answers known text = tt
+  told old new said c t answer (Ok u) out says answers known text =
+      λ y e. let d = does old new c t answer out answers known text y e in (d.0, says y d.0 d.1, d.2)
 
-  opens_at : (n : ℕ) (out : List ℕ) → out ≡ codes "opened\n" → (s : Option Machine) → option_map plain s ≡ None
-      → (s' : Option Machine) × Says config asks (Some (Said.Open n)) s x out s' x × (option_map plain s' ≡ Some (plain (opening config n)))
-  opens_at n out text None e = (Some (opening config n), (text, refl, refl), refl)
-  opens_at n out text (Some s) e = cc
+  -- a view that is printed is what is seen of each run of that plain form
+  pub sees : (p : Plain) (q : Query) (t : ℕ) (out : List ℕ) (value : View) → Shows p (λ s. view s q t) value → out ≡ view_text value
+      → (r : Ran) → kept_of r ≡ p → (next : Ran) × (Sees r q t out next × (x ≡ x)) × (kept_of next ≡ p)
+  sees p q t out value shows text r e = (r, ((text ∙ ap view_text (shows r.machine e), refl), refl), e)
 
-  counts_at : (t : ℕ) (p : Plain) (seen : Counts) (out : List ℕ) → Shows p counts seen → out ≡ counts_text seen
-      → (s : Option Machine) → option_map plain s ≡ Some p
-      → (s' : Option Machine) × Says config asks (Some (Said.Counts t)) s x out s' x × (option_map plain s' ≡ Some p)
-  counts_at t p seen out shows text None e = cc
-  counts_at t p seen out shows text (Some s) e =
-      let h : plain s ≡ p = cc in
-      (Some s, (text ∙ ap counts_text (shows s h), refl, refl), e)
+  module _ (x' : C) (old new : Plain) (t : ℕ) (out : List ℕ) where
+    pass : (answer : Result Reply Fault) → model.Answers old Evict t answer new
+        → IfOk answer (λ reply. (victims : List Key) × (reply ≡ Evicted victims) × Draws asks old t x victims x')
+        → answer ≢ Err OutOfMemory → out ≡ answer_text answer → OpenedAnswers asks old x (Said.Evict t) out new x'
+    unfolding model.Answers model.IsAnswer
+    pass (Ok reply) answers drawn known text = λ r e.
+        let a = answers r.machine e in
+        let d = drawn.2 r.machine e in
+        (and_then r Evict t reply a.1.0 a.0 a.1.1, (entry_of Evict t reply, refl, refl, (refl, refl, refl, a.0, a.1.1), drawn.1 ∙ ap Evicted d.0, text, d.1), a.1.2)
+    pass (Err f) answers drawn known text = λ r e. absurd (known (ap Err (answers r.machine e).0))
+
+    -- a pass whose victims are printed
+    pub passes : (answer : Result Reply Fault) (r : Result (Unit {0}) LineError) → model.Answers old Evict t answer new
+        → IfOk answer (λ reply. (victims : List Key) × (reply ≡ Evicted victims) × Draws asks old t x victims x')
+        → OnOk r (answer ≢ Err OutOfMemory) → OnOk r (out ≡ answer_text answer) → OnOk r (OpenedAnswers asks old x (Said.Evict t) out new x')
+    passes answer (Err e) answers drawn known text = tt
+    passes answer (Ok u) answers drawn known text = pass answer answers drawn known text
+
+-- the registry is opened
+pub opens : (d d' : Desk) (n : ℕ) (r : Result (Unit {0}) LineError) (out : List ℕ)
+    → OnOk r (d' ≡ record d { registry = Some (plain (opening d.config n)) }) → OnOk r (out ≡ codes "opened\n")
+    → OnOk r (ClosedAnswers d (Said.Open n) out d')
+opens d d' n (Err e) out new text = tt
+opens d d' n (Ok u) out new text = (opened_with d.config n, (text, refl), new)
 
 module _ {C : Type 0} (asks : C → ℕ → ℕ × C) (x : C) (d d' : Desk) (line out : List ℕ) where
-  pub opens : (r : Result (Unit {0}) LineError) (n : ℕ) → line_of line ≡ Some (Said.Open n)
-      → OnOk r (d.registry ≡ None) → OnOk r (d' ≡ record d { registry = Some (plain (opening d.config n)) }) → OnOk r (out ≡ codes "opened\n")
-      → OnOk r (DeskAnswers asks d x line out d' x)
-  opens (Err e) n says closed opened text = tt
-  opens (Ok u) n says closed opened text = rw opened (refl, λ s k. rw says (opens_at d.config asks x n out text s (k ∙ closed)))
+  -- what an open registry answers is what the line says
+  on : (q : Plain) (said : Said) (x' : C) (r : Ran) → (next : Ran) × SaysOpened asks said r x out next x' × (kept_of next ≡ q)
+      → (s' : Option Ran) × Says d.config asks (Some said) (Some r) x out s' x' × (option_map kept_of s' ≡ Some q)
+  on q said x' r (next, says, kept) = (Some next, (next, says, refl), ap Some kept)
 
-  pub counted : (t : ℕ) (p : Plain) (seen : Counts) → line_of line ≡ Some (Said.Counts t) → d.registry ≡ Some p → d'.config ≡ d.config → d'.registry ≡ Some p
-      → Shows p counts seen → out ≡ counts_text seen → DeskAnswers asks d x line out d' x
-  counted t p seen says before same after shows text = (same, λ s k. rw (says, after) (counts_at d.config asks x t p seen out shows text s (k ∙ before)))
+  -- a line once the registry is open
+  pub opened : (p q : Plain) (x' : C) (said : Said) (r : Result (Unit {0}) LineError) → line_of line ≡ Some said → d.registry ≡ Some p → d'.config ≡ d.config → d'.registry ≡ Some q
+      → OnOk r (OpenedAnswers asks p x said out q x') → OnOk r (DeskAnswers asks d x line out d' x')
+  opened p q x' said (Err e) says before same after answers = tt
+  opened p q x' said (Ok u) says before same after answers = (same, λ s k. rw (says, after) (at s (k ∙ before))) where
+    at : (s : Option Ran) → option_map kept_of s ≡ Some p → (s' : Option Ran) × Says d.config asks (Some said) s x out s' x' × (option_map kept_of s' ≡ Some q)
+    at None e = cc
+    at (Some r) e = on q said x' r (answers r cc)
 
-  pub registers : (r : Result (Unit {0}) LineError) (old new : Plain) (t : ℕ) (i : Instance) (replicated : Bool) (result : Result Reply Fault)
-      → line_of line ≡ Some (Said.Register t (newcomer_of i) replicated) → d.registry ≡ Some old → d'.config ≡ d.config → d'.registry ≡ Some new
-      → model.Answers old (command.Register i replicated) t result new → OnOk r (result ≢ Err OutOfMemory) → OnOk r (out ≡ answer_text result)
-      → OnOk r (DeskAnswers asks d x line out d' x)
-  registers (Err e) old new t i replicated result says before same after answers known text = tt
-  registers (Ok u) old new t i replicated result says before same after answers known text = (
-    same,
-    λ s k. rw (says, after) (does_at d.config asks x old new (Said.Register t (newcomer_of i) replicated) (command.Register i replicated) t result out
-        (λ m n does. ((i, refl, does), refl)) answers known text s (k ∙ before)),
-  )
-
-  pub renews : (r : Result (Unit {0}) LineError) (old new : Plain) (t : ℕ) (key : Key) (replicated : Bool) (result : Result Reply Fault)
-      → line_of line ≡ Some (Said.Renew t key replicated) → d.registry ≡ Some old → d'.config ≡ d.config → d'.registry ≡ Some new
-      → model.Answers old (command.Renew key None None replicated) t result new → OnOk r (result ≢ Err OutOfMemory) → OnOk r (out ≡ answer_text result)
-      → OnOk r (DeskAnswers asks d x line out d' x)
-  renews (Err e) old new t key replicated result says before same after answers known text = tt
-  renews (Ok u) old new t key replicated result says before same after answers known text = (
-    same,
-    λ s k. rw (says, after) (does_at d.config asks x old new (Said.Renew t key replicated) (command.Renew key None None replicated) t result out
-        (λ m n does. (does, refl)) answers known text s (k ∙ before)),
-  )
+  -- a line before that
+  pub closed : (said : Said) (r : Result (Unit {0}) LineError) → line_of line ≡ Some said → d.registry ≡ None
+      → OnOk r (ClosedAnswers d said out d') → OnOk r (DeskAnswers asks d x line out d' x)
+  closed said (Err e) says before answers = tt
+  closed said (Ok u) says before answers = rw (answers.2) (refl, λ s k. rw says (at s (k ∙ before))) where
+    at : (s : Option Ran) → option_map kept_of s ≡ None → (s' : Option Ran) × Says d.config asks (Some said) s x out s' x × (option_map kept_of s' ≡ Some (kept_of answers.0))
+    at None e = (Some answers.0, (answers.0, answers.1, refl, refl), refl)
+    at (Some r) e = cc

@@ -3,24 +3,23 @@ use Rattle.std.proofs.Common.{◌≡◌, ℕ, Bool, List, Option, None, Result, 
 use Rattle.eu_base.specs.declared.settings.Config.{Config}
 use Rattle.eu_lines.specs.declared.faults.ScriptFault.{ScriptFault}
 use Rattle.eu_lines.specs.Script.{Outcome}
-use Rattle.eu_model.specs.Machine.{Machine}
 use Rattle.eu_server.specs.declared.desk.Desk.{Desk}
 use Rattle.eu_server.specs.Desk.{DeskAnswers, DeskRefuses, Keeps}
-use Rattle.eu_server.specs.Script.{Answers, Refuses, ScriptRuns}
+use Rattle.eu_server.specs.Script.{Ran, Answers, Refuses, ScriptRuns}
 use Rattle.eu_server.proofs.Alike.{outcome}
 
 module _ {C : Type 0} (config : Config) (asks : C → ℕ → ℕ × C) where
-  -- the desk has these settings, and keeps the plain form of this machine
-  abbrev IsAt : Desk → Option Machine → Type 0
+  -- the desk has these settings, and keeps the plain form of this run
+  abbrev IsAt : Desk → Option Ran → Type 0
   IsAt d s = (d.config ≡ config) × Keeps d s
 
-  both : (d : Desk) (s : Option Machine) (x : C) (line out : List ℕ) (d' : Desk) (x' : C) → IsAt d s → DeskAnswers asks d x line out d' x'
-      → (s' : Option Machine) × Answers config asks s x line out s' x' × IsAt d' s'
+  both : (d : Desk) (s : Option Ran) (x : C) (line out : List ℕ) (d' : Desk) (x' : C) → IsAt d s → DeskAnswers asks d x line out d' x'
+      → (s' : Option Ran) × Answers config asks s x line out s' x' × IsAt d' s'
   both d s x line out d' x' at p =
       let r = p.1 s at.1 in
       (r.0, rw (at.0) at (r.1), (p.0 ∙ at.0, r.2))
 
-  bad : (d : Desk) (s : Option Machine) (x : C) (line : List ℕ) → IsAt d s → DeskRefuses d x line → Refuses s x line
+  bad : (d : Desk) (s : Option Ran) (x : C) (line : List ℕ) → IsAt d s → DeskRefuses d x line → Refuses s x line
   bad d s x line at p = p s at.1
 
   -- what a desk before the registry is opened does with a script

@@ -29,6 +29,16 @@ pub data Said : Type 0 where
   Register : ℕ → Newcomer → Bool → Said
   -- the lease is to be renewed, and whether a peer sends it
   Renew : ℕ → Key → Bool → Said
+  -- the lease is to be ended, and whether a peer sends it
+  Cancel : ℕ → Key → Bool → Said
+  -- a minute ends
+  Roll : ℕ → Said
+  -- the clients are to be counted anew
+  Update : ℕ → Said
+  -- leases that have expired are to be evicted
+  Evict : ℕ → Said
+  -- the lease is asked for
+  Look : ℕ → Key → Said
   -- the counts are asked for
   Counts : ℕ → Said
 
@@ -37,6 +47,11 @@ abbrev pub said_of : Line → Said
 said_of (line.Open n) = Open n
 said_of (line.Register t i replicated) = Register t (newcomer_of i) replicated
 said_of (line.Renew t k replicated) = Renew t k replicated
+said_of (line.Cancel t k replicated) = Cancel t k replicated
+said_of (line.Roll t) = Roll t
+said_of (line.Update t) = Update t
+said_of (line.Evict t) = Evict t
+said_of (line.Look t k) = Look t k
 said_of (line.Counts t) = Counts t
 
 -- N, below 2^32
@@ -70,12 +85,29 @@ renew_says ws = do
   e ← end_at source.1
   Some (Renew t.0 key.0 source.0)
 
--- T
-unfoldable pub counts_says : List (List ℕ) → Option Said
-counts_says ws = do
+-- T APP ID SRC
+unfoldable pub cancel_says : List (List ℕ) → Option Said
+cancel_says ws = do
+  t ← moment_at ws
+  key ← key_at t.1
+  source ← source_at key.1
+  e ← end_at source.1
+  Some (Cancel t.0 key.0 source.0)
+
+-- T APP ID
+unfoldable pub look_says : List (List ℕ) → Option Said
+look_says ws = do
+  t ← moment_at ws
+  key ← key_at t.1
+  e ← end_at key.1
+  Some (Look t.0 key.0)
+
+-- T alone
+unfoldable pub moment_says : (ℕ → Said) → List (List ℕ) → Option Said
+moment_says said ws = do
   t ← moment_at ws
   e ← end_at t.1
-  Some (Counts t.0)
+  Some (said t.0)
 
 -- the first word tells which line it is
 unfoldable pub words_say : List (List ℕ) → Option Said
@@ -84,7 +116,12 @@ words_say ws = do
   if bytes_eq verb.0 (codes "open") then open_says verb.1
       else if bytes_eq verb.0 (codes "register") then register_says verb.1
       else if bytes_eq verb.0 (codes "renew") then renew_says verb.1
-      else if bytes_eq verb.0 (codes "counts") then counts_says verb.1
+      else if bytes_eq verb.0 (codes "cancel") then cancel_says verb.1
+      else if bytes_eq verb.0 (codes "roll") then moment_says Roll verb.1
+      else if bytes_eq verb.0 (codes "update") then moment_says Update verb.1
+      else if bytes_eq verb.0 (codes "evict") then moment_says Evict verb.1
+      else if bytes_eq verb.0 (codes "look") then look_says verb.1
+      else if bytes_eq verb.0 (codes "counts") then moment_says Counts verb.1
       else None
 
 -- what a line says, if it says anything
@@ -95,3 +132,8 @@ line_of text = words_say (words_of text)
 abbrev pub IsReading : Result Line LineError → Option Said → Type 0
 IsReading (Ok x) said = said ≡ Some (said_of x)
 IsReading (Err e) said = Fails e said
+
+-- a moment that was read, as what a line with it says
+abbrev pub MomentReads : (ℕ → Said) → Result ℕ LineError → Option Said → Type 0
+MomentReads made (Ok t) said = said ≡ Some (made t)
+MomentReads made (Err e) said = Fails e said

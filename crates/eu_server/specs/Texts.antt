@@ -1,14 +1,27 @@
 -- What is printed
-use Rattle.std.specs.Prelude.{ℕ, Bool, List, Result, Ok, Err, ◌++◌, codes, if◌then◌else◌}
+use Rattle.std.specs.Prelude.{ℕ, Bool, List, [], ◌∷◌, length, Option, Some, None, Result, Ok, Err, ◌++◌, codes, if◌then◌else◌}
 use Rattle.std.specs.Fmt.{decimal}
 use Rattle.eu_base.specs.declared.faults.Fault.{Fault}
+use Rattle.eu_base.specs.declared.instances.Instance.{Instance}
+use Rattle.eu_base.specs.declared.names.Key.{Key}
 use Rattle.eu_base.specs.Fault.{fault_number}
 use Rattle.eu_base.specs.Status.{status_name}
 use Rattle.eu_model.specs.declared.commands.Reply.{Reply}
-use Rattle.eu_model.specs.declared.commands.Reply.TheVariants.{Registered, Done, NotFound, Stale, Conflict}
+use Rattle.eu_model.specs.declared.commands.Reply.TheVariants.{Registered, Done, NotFound, Stale, Conflict, Last, Expected, Evicted}
 use Rattle.eu_model.specs.declared.views.Counts.{Counts}
+use Rattle.eu_model.specs.declared.views.Listed.{Listed}
+use Rattle.eu_model.specs.declared.views.Times.{Times}
 use Rattle.eu_model.specs.declared.views.View.{View}
 use Rattle.eu_model.specs.declared.views.View.TheVariants as seen
+
+-- keys, one after the other
+abbrev pub keys_text : List Key → List ℕ
+keys_text [] = []
+keys_text (k ∷ ks) = codes " " ++ (k.app ++ (codes " " ++ (k.id ++ keys_text ks)))
+
+-- the printed line of the victims of a pass
+abbrev pub evicted_text : List Key → List ℕ
+evicted_text ks = codes "evicted " ++ (decimal (length ks) ++ (keys_text ks ++ codes "\n"))
 
 -- the printed line of a reply, by its HTTP status; a conflict tells the instance that is held
 abbrev pub reply_text : Reply → List ℕ
@@ -18,6 +31,9 @@ reply_text NotFound = codes "404\n"
 reply_text Stale = codes "404\n"
 reply_text (Conflict i) =
     codes "409 " ++ (status_name i.status ++ (codes " " ++ (status_name i.overridden ++ (codes " " ++ (decimal i.dirty ++ codes "\n")))))
+reply_text (Last n) = codes "last " ++ (decimal n ++ codes "\n")
+reply_text (Expected n) = codes "expected " ++ (decimal n ++ codes "\n")
+reply_text (Evicted ks) = evicted_text ks
 
 -- the printed line of a command that is refused
 abbrev pub refused_text : Fault → List ℕ
@@ -32,8 +48,22 @@ counts_text c =
     codes "held " ++ (decimal c.held ++ (codes " expected " ++ (decimal c.expected ++ (codes " threshold " ++ (decimal c.threshold
     ++ (codes " last " ++ (decimal c.last ++ (codes " permitted " ++ (yes_or_no c.permitted ++ codes "\n")))))))))
 
--- the printed lines of what a query sees
+-- the printed line of a lease that is looked at
+abbrev pub found_text : Instance → Times → List ℕ
+found_text i times =
+    codes "found " ++ (status_name i.status ++ (codes " " ++ (status_name i.overridden
+    ++ (codes " dirty " ++ (decimal i.dirty ++ (codes " secs " ++ (decimal i.secs
+    ++ (codes " registered " ++ (decimal times.registered ++ (codes " up " ++ (decimal times.up
+    ++ (codes " updated " ++ (decimal times.updated ++ codes "\n")))))))))))))
+
+-- the same, or that there is none
+abbrev pub look_text : Option Listed → List ℕ
+look_text None = codes "404\n"
+look_text (Some l) = found_text l.instance l.times
+
+-- the printed line of what a query sees
 abbrev pub view_text : View → List ℕ
+view_text (seen.One l) = look_text l
 view_text (seen.Counts c) = counts_text c
 
 -- the printed line of a command's answer

@@ -1,12 +1,12 @@
 //! A registry that answers the lines of a script.
-ghost use Rattle.std.specs.Prelude.{◌≡◌, ◌≢◌, ◌++◌, None, Some, OnOk, IfErr, Err, IsSome, codes, string_bytes};
-ghost use Rattle.eu_model.specs.Machine.{opening};
-ghost use Rattle.eu_model.specs.Plain.{plain};
+ghost use Rattle.std.specs.Prelude.{◌≡◌, ◌≢◌, ◌++◌, [], None, OnOk, IfErr, Err, IsTrue, not, string_bytes};
 ghost use Rattle.eu_server.specs.Texts.{answer_text};
-ghost use Rattle.eu_server.specs.Desk.{DeskAnswers, DeskRefuses};
+ghost use Rattle.eu_server.specs.Lines.{said_of};
+ghost use Rattle.eu_server.specs.Script.{opens};
+ghost use Rattle.eu_server.specs.Desk.{DeskAnswers, DeskRefuses, ClosedAnswers, OpenedAnswers};
 
 use crate::lines::{Line, read_line};
-use crate::printing::{print_counts, print_refusal, print_reply};
+use crate::printing::{print_counts, print_look, print_refusal, print_reply};
 use eu_base::{Config, Fault};
 use eu_clock::Chooser;
 use eu_core::Registry;
@@ -33,16 +33,15 @@ impl Desk {
         }
     }
 
-    /// Opens the registry, and prints that. `Bad` where it is open already; `OutOfMemory`.
-    fn open(&mut self, alloc: Global, expected: u32, out: &mut String) -> Result<(), LineError>
-        ensures closed { OnOk result (self.old.registry ≡ None) }
-        ensures opened { OnOk result (self.new ≡ record self.old { registry = Some (plain (opening self.old.config expected)) }) }
-        ensures text { OnOk result (string_bytes out.new ≡ string_bytes out.old ++ codes "opened\n") }
-        ensures bad { result ≡ Err LineError.Bad → IsSome self.old.registry }
+    /// Answers a line before the registry is open: opens it. `Bad` where the line doesn't say that; `OutOfMemory`.
+    fn open(&mut self, alloc: Global, line: Line, out: &mut String) -> Result<(), LineError>
+        requires { string_bytes out.old ≡ [] }
+        ensures ok { OnOk result (ClosedAnswers self.old (said_of line) (string_bytes out.new) self.new) }
+        ensures bad { result ≡ Err LineError.Bad → IsTrue (not (opens (said_of line))) }
     {
-        if self.registry.is_some() {
+        let Line::Open(expected) = line else {
             return Err(LineError::Bad);
-        }
+        };
         out.push_str("opened\n")?;
         self.registry = Some(Registry::open(alloc, self.config, expected));
         Ok(())
@@ -57,39 +56,49 @@ impl<C: Chooser> Answerer<C> for Desk {
     fn answer(
         &mut self,
         alloc: Global,
-        _context: &mut C,
+        chooser: &mut C,
         line: &[u8],
         out: &mut String,
     ) -> Result<(), LineError> {
-        match read_line(alloc, line)? {
-            Line::Open(expected) => self.open(alloc, expected, out),
-            Line::Register {
-                moment,
-                instance,
-                replicated,
-            } => {
-                let Some(registry) = self.registry.as_mut() else {
-                    return Err(LineError::Bad);
-                };
-                print_answer(out, registry.register(alloc, instance, replicated, moment))
-            }
-            Line::Renew {
-                moment,
-                key,
-                replicated,
-            } => {
-                let Some(registry) = self.registry.as_mut() else {
-                    return Err(LineError::Bad);
-                };
-                print_answer(out, registry.renew(&key, replicated, moment))
-            }
-            Line::Counts { .. } => {
-                let Some(registry) = self.registry.as_ref() else {
-                    return Err(LineError::Bad);
-                };
-                Ok(print_counts(out, &registry.counts())?)
-            }
-        }
+        let line = read_line(alloc, line)?;
+        let Some(registry) = self.registry.as_mut() else {
+            return self.open(alloc, line, out);
+        };
+        answer_opened(alloc, registry, chooser, line, out)
+    }
+}
+
+/// Answers a line once the registry is open. `Bad` where the line opens it once more, which asks no word; `OutOfMemory`.
+fn answer_opened<C: Chooser>(
+    alloc: Global,
+    registry: &mut Registry,
+    chooser: &mut C,
+    line: Line,
+    out: &mut String,
+) -> Result<(), LineError>
+    requires { string_bytes out.old ≡ [] }
+    ensures ok { OnOk result (OpenedAnswers C.asks registry.old chooser.old (said_of line) (string_bytes out.new) registry.new chooser.new) }
+    ensures bad { result ≡ Err LineError.Bad → IsTrue (opens (said_of line)) }
+    ensures kept { result ≡ Err LineError.Bad → chooser.new ≡ chooser.old }
+{
+    match line {
+        Line::Open(_) => Err(LineError::Bad),
+        Line::Register {
+            moment,
+            instance,
+            replicated,
+        } => print_answer(out, registry.register(alloc, instance, replicated, moment)),
+        Line::Renew {
+            moment,
+            key,
+            replicated,
+        } => print_answer(out, registry.renew(&key, replicated, moment)),
+        Line::Cancel { key, .. } => print_answer(out, Ok(registry.cancel(&key))),
+        Line::Roll { .. } => print_answer(out, Ok(registry.roll())),
+        Line::Update { .. } => print_answer(out, Ok(registry.update())),
+        Line::Evict { moment } => print_answer(out, registry.evict(alloc, moment, chooser)),
+        Line::Look { moment, key } => Ok(print_look(out, registry.look(&key, moment))?),
+        Line::Counts { .. } => Ok(print_counts(out, &registry.counts())?),
     }
 }
 

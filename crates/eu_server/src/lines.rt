@@ -1,6 +1,6 @@
 //! What a line says.
-ghost use Rattle.std.specs.Prelude.{◌≡◌};
-ghost use Rattle.eu_server.specs.Lines.{IsReading, line_of, words_say, open_says, register_says, renew_says, counts_says};
+ghost use Rattle.std.specs.Prelude.{◌≡◌, ◌≢◌, ℕ, Err};
+ghost use Rattle.eu_server.specs.Lines.{IsReading, line_of, words_say, open_says, register_says, renew_says, cancel_says, look_says, moment_says, MomentReads, Said};
 
 use crate::words::{Words, is_text};
 use eu_base::{Instance, Key, Moment, Status};
@@ -30,6 +30,37 @@ pub enum Line {
         /// Whether a peer sends it.
         replicated: bool,
     },
+    /// A lease is to be ended.
+    Cancel {
+        /// When.
+        moment: Moment,
+        /// The lease.
+        key: Key,
+        /// Whether a peer sends it.
+        replicated: bool,
+    },
+    /// A minute ends.
+    Roll {
+        /// When.
+        moment: Moment,
+    },
+    /// The clients are to be counted anew.
+    Update {
+        /// When.
+        moment: Moment,
+    },
+    /// Leases that have expired are to be evicted.
+    Evict {
+        /// When.
+        moment: Moment,
+    },
+    /// A lease is asked for.
+    Look {
+        /// When.
+        moment: Moment,
+        /// The lease.
+        key: Key,
+    },
     /// The counts are asked for.
     Counts {
         /// When.
@@ -37,8 +68,8 @@ pub enum Line {
     },
 }
 
-/// What a line says, by its words: `open N`, `register T APP ID SECS STATUS UNKNOWN DIRTY SRC`, `renew T APP ID - - SRC`
-/// or `counts T`.
+/// What a line says, by its words: `open N`, `register T APP ID SECS STATUS UNKNOWN DIRTY SRC`, `renew T APP ID - - SRC`,
+/// `cancel T APP ID SRC`, `roll T`, `update T`, `evict T`, `look T APP ID` or `counts T`.
 ///
 /// `Bad` where it says none of these; `OutOfMemory`.
 pub fn read_line(alloc: Global, line: &[u8]) -> Result<Line, LineError>
@@ -47,7 +78,7 @@ pub fn read_line(alloc: Global, line: &[u8]) -> Result<Line, LineError>
     say(alloc, &mut Words::of(line))
 }
 
-#[tactic(auto, unfolding(crate::specs::Lines::words_say))]
+#[tactic(auto, unfolding(crate::specs::Lines::words_say, crate::specs::Lines::moment_says))]
 fn say(alloc: Global, words: &mut Words<'_>) -> Result<Line, LineError>
     ensures { IsReading result (words_say words.old) }
 {
@@ -61,15 +92,35 @@ fn say(alloc: Global, words: &mut Words<'_>) -> Result<Line, LineError>
     if is_text(verb, "renew") {
         return renew_line(alloc, words);
     }
+    if is_text(verb, "cancel") {
+        return cancel_line(alloc, words);
+    }
+    if is_text(verb, "roll") {
+        let moment = lone_moment(words)?;
+        return Ok(Line::Roll { moment });
+    }
+    if is_text(verb, "update") {
+        let moment = lone_moment(words)?;
+        return Ok(Line::Update { moment });
+    }
+    if is_text(verb, "evict") {
+        let moment = lone_moment(words)?;
+        return Ok(Line::Evict { moment });
+    }
+    if is_text(verb, "look") {
+        return look_line(alloc, words);
+    }
     if is_text(verb, "counts") {
-        return counts_line(words);
+        let moment = lone_moment(words)?;
+        return Ok(Line::Counts { moment });
     }
     Err(LineError::Bad)
 }
 
 #[tactic(auto, unfolding(crate::specs::Lines::open_says))]
 fn open_line(words: &mut Words<'_>) -> Result<Line, LineError>
-    ensures { IsReading result (open_says words.old) }
+    ensures said { IsReading result (open_says words.old) }
+    ensures memory { result ≢ Err LineError.OutOfMemory }
 {
     let expected = words.number_at(u64::from(u32::MAX))?;
     words.end()?;
@@ -119,11 +170,38 @@ fn renew_line(alloc: Global, words: &mut Words<'_>) -> Result<Line, LineError>
     })
 }
 
-#[tactic(auto, unfolding(crate::specs::Lines::counts_says))]
-fn counts_line(words: &mut Words<'_>) -> Result<Line, LineError>
-    ensures { IsReading result (counts_says words.old) }
+#[tactic(auto, unfolding(crate::specs::Lines::cancel_says))]
+fn cancel_line(alloc: Global, words: &mut Words<'_>) -> Result<Line, LineError>
+    ensures { IsReading result (cancel_says words.old) }
+{
+    let moment = words.moment_at()?;
+    let key = words.key_at(alloc)?;
+    let replicated = words.source_at()?;
+    words.end()?;
+    Ok(Line::Cancel {
+        moment,
+        key,
+        replicated,
+    })
+}
+
+#[tactic(auto, unfolding(crate::specs::Lines::look_says))]
+fn look_line(alloc: Global, words: &mut Words<'_>) -> Result<Line, LineError>
+    ensures { IsReading result (look_says words.old) }
+{
+    let moment = words.moment_at()?;
+    let key = words.key_at(alloc)?;
+    words.end()?;
+    Ok(Line::Look { moment, key })
+}
+
+/// A moment and no other word.
+#[tactic(auto, unfolding(crate::specs::Lines::moment_says))]
+fn lone_moment(words: &mut Words<'_>) -> Result<Moment, LineError>
+    ensures said { (said : ℕ → Said) → MomentReads said result (moment_says said words.old) }
+    ensures memory { result ≢ Err LineError.OutOfMemory }
 {
     let moment = words.moment_at()?;
     words.end()?;
-    Ok(Line::Counts { moment })
+    Ok(moment)
 }

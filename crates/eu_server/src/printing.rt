@@ -1,10 +1,11 @@
 //! What is printed.
-ghost use Rattle.std.specs.Prelude.{◌≡◌, ◌++◌, OnOk, string_bytes};
-ghost use Rattle.eu_server.specs.Texts.{reply_text, refused_text, counts_text};
+ghost use Rattle.std.specs.Prelude.{◌≡◌, ◌++◌, OnOk, codes, string_bytes};
+ghost use Rattle.eu_server.specs.Texts.{reply_text, evicted_text, keys_text, refused_text, found_text, look_text, counts_text};
+ghost use Rattle.eu_core.specs.Shown.{shown};
 ghost use Rattle.eu_model.specs.declared.commands.Reply.TheVariants.{Conflict};
 
-use eu_base::{Fault, Instance};
-use eu_model::{Counts, Reply};
+use eu_base::{Fault, Instance, Key};
+use eu_model::{Counts, Reply, Times};
 use std::alloc::AllocError;
 
 /// Prints the line of a reply: its HTTP status and, of a conflict, the held instance's status, overridden status and stamp.
@@ -16,6 +17,9 @@ pub fn print_reply(out: &mut String, reply: &Reply) -> Result<(), AllocError>
         Reply::Done => out.push_str("200\n"),
         Reply::NotFound | Reply::Stale => out.push_str("404\n"),
         Reply::Conflict(instance) => print_conflict(out, instance),
+        Reply::Last(renewals) => writeln!(out, "last {renewals}"),
+        Reply::Expected(clients) => writeln!(out, "expected {clients}"),
+        Reply::Evicted(victims) => print_victims(out, victims.as_slice()),
     }
 }
 
@@ -28,12 +32,62 @@ fn print_conflict(out: &mut String, held: &Instance) -> Result<(), AllocError>
     writeln!(out, "409 {status} {overridden} {dirty}")
 }
 
+fn print_victims(out: &mut String, victims: &[Key]) -> Result<(), AllocError>
+    ensures { OnOk result (string_bytes out.new ≡ string_bytes out.old ++ evicted_text victims.now) }
+{
+    let number = victims.len();
+    write!(out, "evicted {number}")?;
+    print_keys(out, victims)?;
+    out.push_str("\n")
+}
+
+fn print_keys(out: &mut String, keys: &[Key]) -> Result<(), AllocError>
+    ensures { OnOk result (string_bytes out.new ≡ string_bytes out.old ++ keys_text keys.now) }
+{
+    for key in keys {
+        print_key(out, key)?;
+    }
+    Ok(())
+}
+
+fn print_key(out: &mut String, key: &Key) -> Result<(), AllocError>
+    ensures { OnOk result (string_bytes out.new ≡ string_bytes out.old ++ (codes " " ++ (key.now.app ++ (codes " " ++ key.now.id)))) }
+{
+    out.push_str(" ")?;
+    out.push_str(key.app.as_str())?;
+    out.push_str(" ")?;
+    out.push_str(key.id.as_str())
+}
+
 /// Prints the line of a command that is refused: the fault's number.
 pub fn print_refusal(out: &mut String, fault: Fault) -> Result<(), AllocError>
     ensures { OnOk result (string_bytes out.new ≡ string_bytes out.old ++ refused_text fault) }
 {
     let number = fault.number();
     writeln!(out, "refused {number}")
+}
+
+/// Prints the line of a lease that is looked at: its instance and its moments, or `404`.
+pub fn print_look(out: &mut String, lease: Option<(&Instance, Times)>) -> Result<(), AllocError>
+    ensures { OnOk result (string_bytes out.new ≡ string_bytes out.old ++ look_text (shown lease.entry)) }
+{
+    match lease {
+        Some((instance, times)) => print_found(out, instance, times),
+        None => out.push_str("404\n"),
+    }
+}
+
+fn print_found(out: &mut String, instance: &Instance, times: Times) -> Result<(), AllocError>
+    ensures { OnOk result (string_bytes out.new ≡ string_bytes out.old ++ found_text instance.now times) }
+{
+    let status = instance.status.name();
+    let overridden = instance.overridden.name();
+    let (dirty, secs) = (instance.dirty, instance.secs);
+    let (registered, up, updated) = (times.registered, times.up, times.updated);
+    writeln!(
+        out,
+        "found {status} {overridden} dirty {dirty} secs {secs} registered {registered} up {up} updated {updated}"
+    )
 }
 
 /// Prints the line of the counts.

@@ -21,6 +21,13 @@ use std::io::{Read, Write};
 /// - `register T APP ID SECS STATUS UNKNOWN DIRTY SRC` registers an instance with a lease of SECS seconds (0 stands for
 ///   90) and the stamp DIRTY (`-` stands for T), and prints `204`.
 /// - `renew T APP ID - - SRC` renews a lease, and prints `200`, or `404` where none is held or it isn't to be renewed.
+/// - `cancel T APP ID SRC` ends a lease, and prints `200`, or `404` where none is held.
+/// - `roll T` ends a minute, and prints `last N`: the renewals that were counted in it.
+/// - `update T` counts the clients anew, and prints `expected N`: how many are expected from now on.
+/// - `evict T` makes a pass, and prints `evicted K` and the application and the id of each of the K victims, in the order in
+///   which the chooser drew them.
+/// - `look T APP ID` prints `found STATUS OVERRIDDEN dirty D secs S registered R up U updated P`, or `404` where no lease
+///   is visible: none is held, or it has expired and eviction is permitted.
 /// - `counts T` prints `held H expected E threshold V last L permitted yes`, or `no`.
 ///
 /// T is a moment in milliseconds, up to 2^62. APP and ID have 1 to 255 bytes of UTF-8; APP's ASCII letters are put in
@@ -31,7 +38,8 @@ use std::io::{Read, Write};
 /// `BadLine` comes where a line is none of these, or has more than 4,096 bytes; `Read` where a read failed, or the script
 /// has more than 16,777,216 bytes; `Write` where a write or a flush failed; and `OutOfMemory` where there was no memory
 /// for a line's answer, which isn't printed. Before `BadLine`, `Read` and `OutOfMemory` the lines before are answered
-/// and what they print is written. What the registry then holds is lost with it. No line asks `chooser` for a word.
+/// and what they print is written. What the registry then holds is lost with it. Only passes ask `chooser`
+/// for words: it is then as the lines that were answered left it, but after `Write` and `OutOfMemory` that is left open.
 pub fn answer_script<R: Source, W: Sink, C: Chooser>(
     alloc: Global,
     reader: &mut R,
@@ -53,8 +61,8 @@ pub fn answer_script<R: Source, W: Sink, C: Chooser>(
 
 /// Runs a script as `answer_script` does, over any reader and writer of std.
 ///
-/// A read, a write or a flush that a signal interrupts is tried up to 16 times. Their contracts don't tell when a read or a
-/// write fails, so this one doesn't either: `answer_script` does.
+/// A read, a write or a flush that a signal interrupts is tried up to 16 times. The contracts of std's traits don't tell
+/// when a read or a write fails, so this one leaves open whether one did: `answer_script` tells it exactly.
 pub fn run_script<R: Read, W: Write, C: Chooser>(
     alloc: Global,
     reader: &mut R,

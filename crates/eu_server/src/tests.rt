@@ -7,23 +7,47 @@ use eu_base::{App, Config, Fault, Id, Instance, Key, Status};
 use eu_clock::FirstChooser;
 use eu_lines::ScriptFault;
 use eu_model::Reply;
-use std::alloc::Global;
+use std::alloc::{AllocError, Global};
 use std::io;
 use std::io::Read;
 use std::test::Fail;
 
-/// Self-preservation is on, at 85%, with a renewal each 30 s and an eviction pass each minute.
-fn settings() -> Result<Config, Fault> {
-    Config::new(true, 85, 30, 60_000)
-}
-
+/// Runs a script: self-preservation is on, at 85%, with a renewal each 30 s and an eviction pass each minute.
 fn run<R: Read>(
     alloc: Global,
     reader: &mut R,
     out: &mut Vec<u8>,
 ) -> Result<Result<(), ScriptFault>, Fault> {
-    let config = settings()?;
+    let config = Config::new(true, 85, 30, 60_000)?;
     Ok(run_script(alloc, reader, out, config, &mut FirstChooser))
+}
+
+/// Whether a script of these settings runs to its end and prints this.
+fn prints(alloc: Global, config: Config, text: &[u8], printed: &[u8]) -> bool {
+    let mut reader = text;
+    let mut out = Vec::new(alloc);
+    let result = run_script(alloc, &mut reader, &mut out, config, &mut FirstChooser);
+    result == Ok(()) && out.as_slice() == printed
+}
+
+/// A script that opens a registry, and registers so many clients at moment 0, each for so many seconds.
+fn joined(alloc: Global, expected: u32, clients: u32, secs: u32) -> Result<String, AllocError> {
+    let mut text = String::new(alloc);
+    writeln!(text, "open {expected}")?;
+    for i in 0..clients {
+        writeln!(text, "register 0 A i{i} {secs} UP UNKNOWN - c")?;
+    }
+    Ok(text)
+}
+
+/// What that prints.
+fn joined_printed(alloc: Global, clients: u32) -> Result<String, AllocError> {
+    let mut text = String::new(alloc);
+    text.push_str("opened\n")?;
+    for _ in 0..clients {
+        text.push_str("204\n")?;
+    }
+    Ok(text)
 }
 
 /// Gives a text one byte at a time.
@@ -82,6 +106,208 @@ fn scripts_are_answered(rt: HostRuntime) -> Result<(), Fail> {
         assert!(rt; result == Ok(()));
         assert!(rt; out.as_slice() == printed);
     }
+    Ok(())
+}
+
+#[test]
+fn leases_are_looked_at_and_cancelled(rt: HostRuntime) -> Result<(), Fail> {
+    let cases = [
+        // the greater stamp stays, and of equal ones the newcomer's
+        (
+            b"open 0\nregister 1 A i1 90 UP UNKNOWN 10 c\nregister 5 A i1 30 STARTING UNKNOWN 9 c\nlook 5 A i1\nregister 7 A i1 30 STARTING UNKNOWN 10 c\nlook 7 A i1\n".as_slice(),
+            b"opened\n204\n204\nfound UP UNKNOWN dirty 10 secs 30 registered 5 up 1 updated 5\n204\nfound STARTING UNKNOWN dirty 10 secs 30 registered 7 up 1 updated 7\n".as_slice(),
+        ),
+        (
+            b"open 0\ncancel 0 A i1 c\nregister 0 A i1 90 UP UNKNOWN - c\ncancel 1 A i1 c\ncancel 1 A i1 c\ncounts 1\n",
+            b"opened\n404\n204\n200\n404\nheld 0 expected 0 threshold 0 last 0 permitted no\n",
+        ),
+        // one fewer is expected where a lease goes, also where a peer says so
+        (
+            b"open 2\nregister 0 A i1 90 UP UNKNOWN - c\ncancel 1 A i2 r\ncancel 1 A i1 r\nlook 1 A i1\ncounts 1\n",
+            b"opened\n204\n404\n200\n404\nheld 0 expected 2 threshold 3 last 0 permitted no\n",
+        ),
+        // a renewal counts from one duration later: 1000 + 90,000
+        (
+            b"open 1\nregister 0 a i1 90 UP UNKNOWN 4 c\nrenew 1000 A i1 - - c\nlook 1000 a i1\n",
+            b"opened\n204\n200\nfound UP UNKNOWN dirty 4 secs 90 registered 0 up 0 updated 91000\n",
+        ),
+    ];
+    let config = Config::new(true, 85, 30, 60_000)?;
+    for (text, printed) in cases {
+        assert!(rt; prints(rt.alloc(), config, text, printed));
+    }
+    Ok(())
+}
+
+#[test]
+fn an_expired_lease_is_hidden_while_eviction_is_permitted(rt: HostRuntime) -> Result<(), Fail> {
+    let text =
+        b"open 5\nregister 0 A i1 1 UP UNKNOWN - c\nlook 1000 A i1\nlook 1001 A i1\n".as_slice();
+    let found =
+        b"opened\n204\nfound UP UNKNOWN dirty 0 secs 1 registered 0 up 0 updated 0\nfound UP UNKNOWN dirty 0 secs 1 registered 0 up 0 updated 0\n".as_slice();
+    let hidden =
+        b"opened\n204\nfound UP UNKNOWN dirty 0 secs 1 registered 0 up 0 updated 0\n404\n".as_slice();
+    let preserving = Config::new(true, 85, 30, 60_000)?;
+    let evicting = Config::new(false, 85, 30, 60_000)?;
+    assert!(rt; prints(rt.alloc(), preserving, text, found));
+    assert!(rt; prints(rt.alloc(), evicting, text, hidden));
+    Ok(())
+}
+
+#[test]
+fn minutes_end(rt: HostRuntime) -> Result<(), Fail> {
+    let config = Config::new(true, 85, 30, 60_000)?;
+    let cases = [
+        (
+            b"open 1\nregister 0 A i1 90 UP UNKNOWN 0 c\nrenew 30000 A i1 - - c\ncounts 30000\nroll 60000\ncounts 60000\n".as_slice(),
+            b"opened\n204\n200\nheld 1 expected 2 threshold 3 last 0 permitted no\nlast 1\nheld 1 expected 2 threshold 3 last 1 permitted no\n".as_slice(),
+        ),
+        // eviction is permitted above the threshold alone, which is 1 for one client: 1 * 60 * 85 / 3000 = 1.7
+        (
+            b"open 0\nregister 0 A i1 90 UP UNKNOWN 0 c\nupdate 0\nrenew 1 A i1 - - c\nroll 1\ncounts 1\nrenew 2 A i1 - - c\nrenew 2 A i1 - - c\nroll 2\ncounts 2\nroll 3\ncounts 3\n",
+            b"opened\n204\nexpected 1\n200\nlast 1\nheld 1 expected 1 threshold 1 last 1 permitted no\n200\n200\nlast 2\nheld 1 expected 1 threshold 1 last 2 permitted yes\nlast 0\nheld 1 expected 1 threshold 1 last 0 permitted no\n",
+        ),
+    ];
+    for (text, printed) in cases {
+        assert!(rt; prints(rt.alloc(), config, text, printed));
+    }
+    Ok(())
+}
+
+#[test]
+fn clients_are_counted_anew(rt: HostRuntime) -> Result<(), Fail> {
+    let config = Config::new(true, 85, 30, 60_000)?;
+    let cases = [
+        (
+            0u32,
+            3u32,
+            "counts 0\nupdate 0\ncounts 0\n",
+            "held 3 expected 0 threshold 0 last 0 permitted no\nexpected 3\nheld 3 expected 3 threshold 5 last 0 permitted no\n",
+        ),
+        (
+            3,
+            17,
+            "counts 0\nupdate 0\n",
+            "held 17 expected 20 threshold 34 last 0 permitted no\nexpected 20\n",
+        ),
+        (
+            2,
+            18,
+            "update 0\ncounts 0\n",
+            "expected 18\nheld 18 expected 18 threshold 30 last 0 permitted no\n",
+        ),
+        (
+            5,
+            0,
+            "update 0\ncounts 0\n",
+            "expected 5\nheld 0 expected 5 threshold 8 last 0 permitted no\n",
+        ),
+    ];
+    for (expected, clients, lines, replies) in cases {
+        let mut text = joined(rt.alloc(), expected, clients, 90)?;
+        text.push_str(lines)?;
+        let mut printed = joined_printed(rt.alloc(), clients)?;
+        printed.push_str(replies)?;
+        assert!(rt;
+            prints(rt.alloc(), config, text.as_bytes(), printed.as_bytes()),
+            "at {clients}"
+        );
+    }
+    Ok(())
+}
+
+#[test]
+fn settings_change_the_threshold(rt: HostRuntime) -> Result<(), Fail> {
+    let cases = [
+        (
+            Config::new(false, 85, 30, 60_000)?,
+            b"open 5\nupdate 0\ncounts 0\n".as_slice(),
+            b"opened\nexpected 0\nheld 0 expected 0 threshold 0 last 0 permitted yes\n".as_slice(),
+        ),
+        (
+            Config::new(true, 0, 30, 60_000)?,
+            b"open 5\nregister 0 A i1 90 UP UNKNOWN - c\nrenew 1 A i1 - - c\nroll 2\ncounts 2\n",
+            b"opened\n204\n200\nlast 1\nheld 1 expected 6 threshold 0 last 1 permitted no\n",
+        ),
+    ];
+    for (config, text, printed) in cases {
+        assert!(rt; prints(rt.alloc(), config, text, printed));
+    }
+    Ok(())
+}
+
+#[test]
+fn passes_evict(rt: HostRuntime) -> Result<(), Fail> {
+    let cases = [
+        (
+            b"open 0\nregister 0 A i1 90 UP UNKNOWN 0 c\nevict 90000\nevict 90001\n".as_slice(),
+            b"opened\n204\nevicted 0\nevicted 1 A i1\n".as_slice(),
+        ),
+        (
+            b"open 0\nregister 0 A i1 90 UP UNKNOWN 0 c\nrenew 30000 A i1 - - c\nevict 210000\nevict 210001\n",
+            b"opened\n204\n200\nevicted 0\nevicted 1 A i1\n",
+        ),
+        // the second pass comes 140,000 ms later than an interval after the first
+        (
+            b"open 0\nregister 0 A i1 90 UP UNKNOWN 0 c\nevict 0\nevict 200000\nevict 230001\n",
+            b"opened\n204\nevicted 0\nevicted 0\nevicted 1 A i1\n",
+        ),
+        (
+            b"open 0\nregister 100000 A i1 10 UP UNKNOWN 0 c\nevict 50000\nevict 40000\nevict 110001\nevict 120001\n",
+            b"opened\n204\nevicted 0\nevicted 0\nevicted 0\nevicted 1 A i1\n",
+        ),
+    ];
+    let config = Config::new(false, 85, 30, 60_000)?;
+    for (text, printed) in cases {
+        assert!(rt; prints(rt.alloc(), config, text, printed));
+    }
+    Ok(())
+}
+
+/// Ten leases of 10 s, of which the first is renewed so often, a minute's end, and four passes with counts after each.
+fn waves(alloc: Global, renewals: u32) -> Result<String, AllocError> {
+    let mut text = joined(alloc, 0, 10, 10)?;
+    text.push_str("update 0\n")?;
+    for _ in 0..renewals {
+        text.push_str("renew 0 A i0 - - c\n")?;
+    }
+    text.push_str("roll 0\n")?;
+    for _ in 0..4 {
+        text.push_str("evict 100000\ncounts 100000\n")?;
+    }
+    Ok(text)
+}
+
+#[test]
+fn passes_keep_the_share(rt: HostRuntime) -> Result<(), Fail> {
+    let config = Config::new(true, 85, 30, 60_000)?;
+    let text = waves(rt.alloc(), 18)?;
+    let mut printed = joined_printed(rt.alloc(), 10)?;
+    printed.push_str("expected 10\n")?;
+    for _ in 0..18 {
+        printed.push_str("200\n")?;
+    }
+    printed.push_str(
+        "last 18\nevicted 2 A i0 A i1\nheld 8 expected 10 threshold 17 last 18 permitted yes\nevicted 2 A i2 A i3\nheld 6 expected 10 threshold 17 last 18 permitted yes\nevicted 1 A i4\nheld 5 expected 10 threshold 17 last 18 permitted yes\nevicted 1 A i5\nheld 4 expected 10 threshold 17 last 18 permitted yes\n",
+    )?;
+    assert!(rt; prints(rt.alloc(), config, text.as_bytes(), printed.as_bytes()));
+    Ok(())
+}
+
+#[test]
+fn preservation_forbids_passes(rt: HostRuntime) -> Result<(), Fail> {
+    let config = Config::new(true, 85, 30, 60_000)?;
+    let text = waves(rt.alloc(), 17)?;
+    let mut printed = joined_printed(rt.alloc(), 10)?;
+    printed.push_str("expected 10\n")?;
+    for _ in 0..17 {
+        printed.push_str("200\n")?;
+    }
+    printed.push_str("last 17\n")?;
+    for _ in 0..4 {
+        printed.push_str("evicted 0\nheld 10 expected 10 threshold 17 last 17 permitted no\n")?;
+    }
+    assert!(rt; prints(rt.alloc(), config, text.as_bytes(), printed.as_bytes()));
     Ok(())
 }
 
@@ -151,6 +377,16 @@ fn bad_lines_are_told(rt: HostRuntime) -> Result<(), Fail> {
         ),
         (b"open 1\nrenew 0 A i1 5 - c\n", b"opened\n", 2),
         (b"open 1\nrenew 0 A i1 - UP c\n", b"opened\n", 2),
+        (b"open 1\ncancel 0 A i1\n", b"opened\n", 2),
+        (b"open 1\ncancel 0 A i1 c c\n", b"opened\n", 2),
+        (b"open 1\nroll\n", b"opened\n", 2),
+        (b"open 1\nroll 0 0\n", b"opened\n", 2),
+        (b"open 1\nupdate c\n", b"opened\n", 2),
+        (b"open 1\nlook 0 A\n", b"opened\n", 2),
+        (b"open 1\nlook 0 A i1 c\n", b"opened\n", 2),
+        (b"open 1\nevict 0 0\n", b"opened\n", 2),
+        (b"look 0 A i1\n", b"", 1),
+        (b"roll 0\n", b"", 1),
     ];
     for (text, printed, line) in cases {
         let mut reader = text;
@@ -205,6 +441,11 @@ fn conflicts_and_refusals_are_told(rt: HostRuntime) -> Result<(), Fail> {
     };
     print_reply(&mut out, &Reply::Conflict(held))?;
     print_refusal(&mut out, Fault::Full)?;
-    assert_eq!(rt; out.as_str(), "409 OUT_OF_SERVICE UNKNOWN 7\nrefused 7\n");
+    print_reply(&mut out, &Reply::Last(4))?;
+    print_reply(&mut out, &Reply::Expected(9))?;
+    assert_eq!(rt;
+        out.as_str(),
+        "409 OUT_OF_SERVICE UNKNOWN 7\nrefused 7\nlast 4\nexpected 9\n"
+    );
     Ok(())
 }

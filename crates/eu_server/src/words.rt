@@ -1,5 +1,5 @@
 //! The words of a line.
-ghost use Rattle.std.specs.Prelude.{◌≡◌, ◌==◌, ◌∷◌, ◌^◌, ◌<◌, ◌≤◌, List, ℕ, length, IfOk, IfSome};
+ghost use Rattle.std.specs.Prelude.{◌≡◌, ◌≢◌, ◌==◌, ◌∷◌, ◌^◌, ◌<◌, ◌≤◌, List, ℕ, length, IfOk, IfSome, Err};
 ghost use Rattle.std.specs.List.{slice_split};
 ghost use Rattle.std.specs.Str.{bytes_eq};
 ghost use Rattle.eu_server.specs.Words.{words_of, words_left, number, Gives, word_at, word_is, number_at, moment_at, app_at, id_at, key_at, status_at, secs_at, dirty_at, source_at, end_at};
@@ -41,7 +41,8 @@ impl<'a> Words<'a> {
 
     /// The next word. `Bad` where none is left.
     pub fn next_word(&mut self) -> Result<&'a [u8], LineError>
-        ensures { Gives (λ w. w.now) result self.new (word_at self.old) }
+        ensures said { Gives (λ w. w.now) result self.new (word_at self.old) }
+        ensures memory { result ≢ Err LineError.OutOfMemory }
     {
         let Some(text) = self.rest else {
             return Err(LineError::Bad);
@@ -53,7 +54,8 @@ impl<'a> Words<'a> {
 
     /// No word is left, else `Bad`.
     pub fn end(&self) -> Result<(), LineError>
-        ensures { Gives (λ u. u) result self.now (end_at self.now) }
+        ensures said { Gives (λ u. u) result self.now (end_at self.now) }
+        ensures memory { result ≢ Err LineError.OutOfMemory }
     {
         match self.rest {
             None => Ok(()),
@@ -64,7 +66,8 @@ impl<'a> Words<'a> {
     /// The next word is this text, else `Bad`.
     #[tactic(auto, unfolding(crate::specs::Words::word_is))]
     pub fn word_is(&mut self, text: &str) -> Result<(), LineError>
-        ensures { Gives (λ u. u) result self.new (word_is text.now self.old) }
+        ensures said { Gives (λ u. u) result self.new (word_is text.now self.old) }
+        ensures memory { result ≢ Err LineError.OutOfMemory }
     {
         if !is_text(self.next_word()?, text) {
             return Err(LineError::Bad);
@@ -77,6 +80,7 @@ impl<'a> Words<'a> {
     pub fn number_at(&mut self, most: u64) -> Result<u64, LineError>
         ensures said { Gives (λ n. n) result self.new (number_at most self.old) }
         ensures small { IfOk result (λ n. n ≤ most) }
+        ensures memory { result ≢ Err LineError.OutOfMemory }
     {
         let word = self.next_word()?;
         let Some(n) = number(word) else {
@@ -90,7 +94,8 @@ impl<'a> Words<'a> {
 
     /// A moment, else `Bad`.
     pub fn moment_at(&mut self) -> Result<Moment, LineError>
-        ensures { Gives (λ t. t) result self.new (moment_at self.old) }
+        ensures said { Gives (λ t. t) result self.new (moment_at self.old) }
+        ensures memory { result ≢ Err LineError.OutOfMemory }
     {
         let ms = self.number_at(LAST_MOMENT)?;
         Moment::new(ms).ok_or(LineError::Bad)
@@ -141,7 +146,8 @@ impl<'a> Words<'a> {
     /// A status, else `Bad`.
     #[tactic(auto, unfolding(crate::specs::Words::status_at))]
     pub fn status_at(&mut self) -> Result<Status, LineError>
-        ensures { Gives (λ s. s) result self.new (status_at self.old) }
+        ensures said { Gives (λ s. s) result self.new (status_at self.old) }
+        ensures memory { result ≢ Err LineError.OutOfMemory }
     {
         let word = self.next_word()?;
         Status::read(word).ok_or(LineError::Bad)
@@ -152,6 +158,7 @@ impl<'a> Words<'a> {
     pub fn secs_at(&mut self) -> Result<u32, LineError>
         ensures said { Gives (λ n. n) result self.new (secs_at self.old) }
         ensures small { IfOk result (λ n. (1 ≤ n) × (n ≤ 2147483)) }
+        ensures memory { result ≢ Err LineError.OutOfMemory }
     {
         match self.number_at(LONGEST_SECS)? {
             0 => Ok(Instance::DEFAULT_SECS),
@@ -165,6 +172,7 @@ impl<'a> Words<'a> {
         requires { absent < 2 ^ 63 }
         ensures said { Gives (λ n. n) result self.new (dirty_at absent self.old) }
         ensures small { IfOk result (λ n. n < 2 ^ 63) }
+        ensures memory { result ≢ Err LineError.OutOfMemory }
     {
         let before = self.rest;
         let word = self.next_word()?;
@@ -178,7 +186,8 @@ impl<'a> Words<'a> {
     /// Whether a peer sends the line: `r`, or `c` for a client, else `Bad`.
     #[tactic(auto, unfolding(crate::specs::Words::source_at))]
     pub fn source_at(&mut self) -> Result<bool, LineError>
-        ensures { Gives (λ b. b) result self.new (source_at self.old) }
+        ensures said { Gives (λ b. b) result self.new (source_at self.old) }
+        ensures memory { result ≢ Err LineError.OutOfMemory }
     {
         let word = self.next_word()?;
         if is_text(word, "c") {

@@ -1,13 +1,19 @@
 //! `eureka script`: a script from standard input to standard output.
 #![tactic(auto)]
 
-mod options;
+ghost use Rattle.std.specs.Prelude.{ℕ, ◌≡◌, ◌≢◌, ◌⊎◌, OnOk, Err};
+ghost use Rattle.clap.specs.Words.{kind_of};
 
+mod options;
+#[cfg(test)]
+mod tests;
+
+use clap::Error;
 use clap::error::ErrorKind;
 use eu_base::{Config, Fault};
-use eu_clock::FirstChooser;
+use eu_clock::{Chooser, FirstChooser, RngChooser};
 use eu_server::{ScriptFault, run_script};
-use options::{command, config_of};
+use options::{command, config_of, seed_of};
 use std::process::ExitCode;
 use std::rt::Env;
 use std::{env, io};
@@ -22,38 +28,65 @@ const BAD_INPUT: u8 = 2;
 const FAILED: u8 = 3;
 
 /// Tells a fault by its number, if standard error takes it, and gives the exit status.
-fn tell_fault(rt: &impl Eprint, fault: Fault) -> u8 {
+fn tell_fault(rt: &impl Eprint, fault: Fault) -> u8
+    ensures { result ≡ 3 }
+{
     let number = fault.number();
     let _ = eprintln!(rt; "fault {number}");
     FAILED
 }
 
-/// Tells why a script ended early, if standard error takes it, and gives the exit status.
-fn tell_end(rt: &impl Eprint, fault: ScriptFault) -> u8 {
-    match fault {
-        ScriptFault::BadLine(line) => {
+/// Tells why a script ended early, if it did and standard error takes it, and gives the exit status.
+fn tell_end(rt: &impl Eprint, ended: Result<(), ScriptFault>) -> u8
+    ensures whole { OnOk ended (result ≡ 0) }
+    ensures bad_line { (line : ℕ) → ended ≡ Err (ScriptFault.BadLine line) → result ≡ 2 }
+    ensures read { ended ≡ Err ScriptFault.Read → result ≡ 3 }
+    ensures write { ended ≡ Err ScriptFault.Write → result ≡ 3 }
+    ensures no_memory { ended ≡ Err ScriptFault.OutOfMemory → result ≡ 3 }
+{
+    match ended {
+        Ok(()) => DONE,
+        Err(ScriptFault::BadLine(line)) => {
             let _ = eprintln!(rt; "line {line}: bad line");
             BAD_INPUT
         }
-        ScriptFault::Read => tell_fault(rt, Fault::Read),
-        ScriptFault::Write => tell_fault(rt, Fault::Write),
-        ScriptFault::OutOfMemory => tell_fault(rt, Fault::OutOfMemory),
+        Err(ScriptFault::Read) => tell_fault(rt, Fault::Read),
+        Err(ScriptFault::Write) => tell_fault(rt, Fault::Write),
+        Err(ScriptFault::OutOfMemory) => tell_fault(rt, Fault::OutOfMemory),
     }
 }
 
+/// Tells why the words were refused, or prints the help that they ask for. Gives the exit status.
+fn tell_words<R: Print + Eprint>(rt: &R, error: &Error) -> u8
+    ensures no_memory { kind_of error.now ≡ ErrorKind.OutOfMemory → result ≡ 3 }
+    ensures help { kind_of error.now ≡ ErrorKind.DisplayHelp → result ≡ 0 }
+    ensures version { kind_of error.now ≡ ErrorKind.DisplayVersion → result ≡ 0 }
+    ensures mistake { kind_of error.now ≢ ErrorKind.OutOfMemory → kind_of error.now ≢ ErrorKind.DisplayHelp
+        → kind_of error.now ≢ ErrorKind.DisplayVersion → result ≡ 2 }
+{
+    if error.kind() == ErrorKind::OutOfMemory {
+        return tell_fault(rt, Fault::OutOfMemory);
+    }
+    let _ = error.print(rt);
+    if error.use_stderr() { BAD_INPUT } else { DONE }
+}
+
 /// Runs a script, and gives the exit status.
-fn run<R: Input + Print + Eprint + AllocGlobal>(rt: &R, config: Config) -> u8 {
+fn run<R: Input + Print + Eprint + AllocGlobal, C: Chooser>(
+    rt: &R,
+    config: Config,
+    chooser: &mut C,
+) -> u8
+    ensures { (result ≡ 0) ⊎ ((result ≡ 2) ⊎ (result ≡ 3)) }
+{
     let ended = run_script(
         rt.alloc(),
         &mut rt.reader(),
         &mut io::writer(rt),
         config,
-        &mut FirstChooser,
+        chooser,
     );
-    match ended {
-        Ok(()) => DONE,
-        Err(fault) => tell_end(rt, fault),
-    }
+    tell_end(rt, ended)
 }
 
 /// The words of the command line. None where there is no memory for them.
@@ -62,7 +95,9 @@ fn words_given<R: Env + AllocGlobal>(rt: &R) -> Option<Vec<String>> {
 }
 
 /// Judges the words, and then does what they say. Gives the exit status.
-fn start<R: Env + Input + Print + Eprint + AllocGlobal>(rt: &R) -> u8 {
+fn start<R: Env + Input + Print + Eprint + AllocGlobal>(rt: &R) -> u8
+    ensures { (result ≡ 0) ⊎ ((result ≡ 2) ⊎ (result ≡ 3)) }
+{
     let Some(words) = words_given(rt) else {
         return tell_fault(rt, Fault::OutOfMemory);
     };
@@ -71,20 +106,17 @@ fn start<R: Env + Input + Print + Eprint + AllocGlobal>(rt: &R) -> u8 {
     };
     let matches = match command.try_get_matches_from(words.as_slice()) {
         Ok(matches) => matches,
-        Err(error) if error.kind() == ErrorKind::OutOfMemory => {
-            return tell_fault(rt, Fault::OutOfMemory);
-        }
-        Err(error) => {
-            let _ = error.print(rt);
-            return if error.use_stderr() { BAD_INPUT } else { DONE };
-        }
+        Err(error) => return tell_words(rt, &error),
     };
     let Some(("script", given)) = matches.subcommand() else {
         return BAD_INPUT;
     };
-    match config_of(given) {
-        Some(config) => run(rt, config),
-        None => BAD_INPUT,
+    let Some(config) = config_of(given) else {
+        return BAD_INPUT;
+    };
+    match seed_of(given) {
+        Some(seed) => run(rt, config, &mut RngChooser::seeded(seed)),
+        None => run(rt, config, &mut FirstChooser),
     }
 }
 

@@ -1,44 +1,89 @@
 //! The words of the command line.
+ghost use Rattle.std.specs.Prelude.{ℕ, ◌≡◌, ◌<◌, ◌^◌, false, codes, IfOk, IfSome, IsSome};
+ghost use Rattle.clap.specs.Words.{rule_of, app_of};
+ghost use Rattle.clap.specs.declared.builder.command.Command.TheViews.{out-Command};
+ghost use Rattle.eureka.specs.Options.{option_rule, with_options, seed_rule, program_app, IsSwitchParser, IsNumber, IsConfig};
 
+use clap::builder::ValueParser;
 use clap::{Arg, ArgMatches, Command, value_parser};
 use eu_base::Config;
 use std::alloc::{AllocError, Global};
 
-/// The options that say how a registry is set.
-fn with_settings<'a>(alloc: Global, command: Command<'a>) -> Result<Command<'a>, AllocError> {
-    let preservation = Arg::new(alloc, "preservation")
-        .long("preservation")
-        .value_name("on|off")
-        .value_parser(["on", "off"].as_slice())
-        .default_value("on")
-        .help("Whether eviction stops when too many renewals are missing");
-    let percent = Arg::new(alloc, "percent")
-        .long("percent")
+/// The words of an option that is on or off.
+static SWITCH: [&str; 2] = ["on", "off"];
+
+/// The option `--NAME VALUE`, with the value that it has where it isn't given.
+fn option<'a>(
+    alloc: Global,
+    name: &'a str,
+    value_name: &'a str,
+    parser: ValueParser<'a>,
+    given: &'a str,
+) -> Arg<'a>
+    ensures rule { rule_of result ≡ option_rule name.entry.now parser.entry given.entry.now }
+    ensures local { result.global ≡ false }
+{
+    Arg::new(alloc, name)
+        .long(name)
+        .value_name(value_name)
+        .value_parser(parser)
+        .default_value(given)
+}
+
+/// The option `--seed N`, which may be left out.
+fn seed_option<'a>(alloc: Global) -> Arg<'a>
+    ensures rule { rule_of result ≡ seed_rule }
+    ensures local { result.global ≡ false }
+{
+    Arg::new(alloc, "seed")
+        .long("seed")
         .value_name("N")
-        .value_parser(value_parser!(u32).range(0..=100))
-        .default_value("85")
-        .help("The share of the expected renewals, in percent, above which eviction goes on");
-    let interval = Arg::new(alloc, "interval")
-        .long("interval")
-        .value_name("SECONDS")
-        .value_parser(value_parser!(u32).range(1..=3600))
-        .default_value("30")
-        .help("The time between two renewals of a client");
-    let evict_ms = Arg::new(alloc, "evict-ms")
-        .long("evict-ms")
-        .value_name("MS")
-        .value_parser(value_parser!(u32))
-        .default_value("60000")
-        .help("The time between two eviction passes");
+        .value_parser(value_parser!(u64))
+        .help(
+            "Draws the victims of a pass by a generator with this seed; without it, the first are taken",
+        )
+}
+
+/// The options that say how a registry is set, and how the victims of a pass are drawn.
+fn with_settings<'a>(alloc: Global, command: Command<'a>) -> Result<Command<'a>, AllocError>
+    ensures app { IfOk result (λ c. (switch : _) × IsSwitchParser switch × (app_of c ≡ with_options (app_of command.entry) switch)) }
+    ensures local { (out-Command command.entry).has_globals ≡ false → IfOk result (λ c. (out-Command c).has_globals ≡ false) }
+{
+    let switch = ValueParser::from(SWITCH.as_slice());
+    let preservation = option(alloc, "preservation", "on|off", switch, "on").help(
+        "Whether eviction stops when too many renewals are missing",
+    );
+    let percent = option(
+        alloc,
+        "percent",
+        "N",
+        value_parser!(u32).range(0..=100),
+        "85",
+    )
+    .help("The share of the expected renewals, in percent, above which eviction goes on");
+    let interval = option(
+        alloc,
+        "interval",
+        "SECONDS",
+        value_parser!(u32).range(1..=3600),
+        "30",
+    )
+    .help("The time between two renewals of a client");
+    let evict_ms = option(alloc, "evict-ms", "MS", value_parser!(u32), "60000").help(
+        "The time between two eviction passes",
+    );
     command
         .arg(preservation)?
         .arg(percent)?
         .arg(interval)?
-        .arg(evict_ms)
+        .arg(evict_ms)?
+        .arg(seed_option(alloc))
 }
 
 /// The command line: `eureka script` with its options.
-pub fn command<'a>(alloc: Global) -> Result<Command<'a>, AllocError> {
+pub fn command<'a>(alloc: Global) -> Result<Command<'a>, AllocError>
+    ensures { IfOk result (λ c. (switch : _) × IsSwitchParser switch × (app_of c ≡ program_app switch)) }
+{
     let script = Command::new(alloc, "script").about(
         "Runs a script from standard input and prints the replies",
     );
@@ -49,11 +94,30 @@ pub fn command<'a>(alloc: Global) -> Result<Command<'a>, AllocError> {
         .subcommand(script)
 }
 
+/// The number that an option gives. None where it has none, or one that is no `u32`.
+fn number(given: &ArgMatches<'_>, name: &str) -> Option<u32>
+    ensures some { IfSome result (IsNumber given.now name.now) }
+    ensures none { (n : ℕ) → n < 2 ^ 32 → IsNumber given.now name.now n → IsSome result }
+{
+    given.get_one::<u32>(name)
+}
+
 /// The settings that the options give. None where one is missing or out of its range, which the command line rules out.
-pub fn config_of(given: &ArgMatches<'_>) -> Option<Config> {
+pub fn config_of(given: &ArgMatches<'_>) -> Option<Config>
+    ensures some { IfSome result (IsConfig given.now) }
+    ensures none { (c : Config) → c.evict_ms < 2 ^ 32 → IsConfig given.now c → IsSome result }
+{
     let preservation = given.get_str("preservation")? == "on";
-    let percent = given.get_one::<u32>("percent")?;
-    let interval = given.get_one::<u32>("interval")?;
-    let evict_ms = given.get_one::<u32>("evict-ms")?;
+    let percent = number(given, "percent")?;
+    let interval = number(given, "interval")?;
+    let evict_ms = number(given, "evict-ms")?;
     Config::new(preservation, percent, interval, evict_ms).ok()
+}
+
+/// The seed that the options give, if they do.
+pub fn seed_of(given: &ArgMatches<'_>) -> Option<u64>
+    ensures some { IfSome result (IsNumber given.now (codes "seed")) }
+    ensures none { (n : ℕ) → n < 2 ^ 64 → IsNumber given.now (codes "seed") n → IsSome result }
+{
+    given.get_one::<u64>("seed")
 }

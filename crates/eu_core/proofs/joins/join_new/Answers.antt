@@ -1,13 +1,18 @@
-use Rattle.std.proofs.Common.{refl}
+use Rattle.std.proofs.Common.{refl, ap, ◌∙◌}
 use Rattle.std.specs.Prelude.{None}
+use Rattle.std.specs.FinMap.{insert}
+use Rattle.eu_lease.specs.Term.{Term, times_of}
+use Rattle.eu_model.specs.Change.{up_after}
 use Rattle.eu_core.proofs.JoinLemmas.{joins_from, put_at}
 use Rattle.eu_core.proofs.joins.join_new.Goals as goal
 
 pub returns-clause-ok : goal.returns-clause-ok
 returns-clause-ok c =
+    let L = c.args.leases.now.held in
     joins_from _ _ _ _ _ c.args.instance c.args.instance c.args.replicated c.args.moment None _ _ _ _ _ _
-    c.requires refl c.get-row.ensures
+    c.requires.absent refl c.get-row.ensures
     c.settle-settled.ensures.row c.settle-settled.ensures.overridden c.settle-settled.ensures.status
-    refl c.times_now-times.ensures
-    (put_at _ _ _ _ _ _ c.put.ensures.held c.reserve.ensures.held c.in_ok-key.ensures)
+    refl
+    (ap times_of (c.begun-lease.ensures ∙ ap (λ (a : Term). let b : Term = record a { up = up_after a.up c.settle-settled.result.status c.args.moment } in b) c.fresh-fresh.ensures))
+    (put_at _ _ _ _ _ _ c.put_prepared.ensures.held c.prepare_put.ensures.held c.in_ok-key.ensures ∙ ap (insert L c.args.instance.key) c.new.ensures)
     c.prepare_row.ensures.rows c.in_ok-put.ensures.put c.put_row.ensures

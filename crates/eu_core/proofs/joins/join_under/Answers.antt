@@ -1,13 +1,15 @@
 use Rattle.std.proofs.Common.{refl, ap, ◌∙◌, subst, ◌<◌}
 use Rattle.std.specs.Prelude.{Some, unwrap_or}
-use Rattle.std.specs.Option.{option_map}
+use Rattle.std.specs.Option.{option_map_or}
+use Rattle.std.specs.FinMap.{insert}
 use Rattle.eu_base.specs.declared.instances.Instance.{Instance}
 use Rattle.eu_model.specs.Override.{rule}
 use Rattle.eu_model.specs.Change.{row_after}
-use Rattle.eu_model.specs.Maps.{with_value}
-use Rattle.eu_core.specs.Store.{rejoined}
+use Rattle.eu_model.specs.Change.{up_after}
+use Rattle.eu_lease.specs.Term.{Term, times_of, anew}
+use Rattle.eu_store.specs.Stored.{rejoined}
 use Rattle.eu_core.specs.Joins.{IsPart}
-use Rattle.eu_core.proofs.JoinLemmas.{joins_from, some_and, chosen_under, times_at}
+use Rattle.eu_core.proofs.JoinLemmas.{joins_from, some_and, chosen_under}
 use Rattle.eu_core.proofs.joins.join_under.Goals as goal
 
 pub returns-clause-ok : goal.returns-clause-ok
@@ -24,6 +26,9 @@ returns-clause-ok c =
     (s.overridden ∙ ap (λ o. unwrap_or (row_after row o) o) h.2.overridden)
     (s.status ∙ ap (λ o. rule c.args.held.status (row_after row o) (Some c.args.held.status) c.args.replicated) h.2.overridden
     ∙ ap (λ x. rule x (row_after row l.instance.overridden) (Some x) c.args.replicated) h.2.status)
-    refl (times_at _ _ _ _ _ c.times_now-times.ensures h.2.up)
-    (c.rejoin.ensures ∙ ap (λ o. with_value c.args.leases.now.held n.key (option_map (rejoined n c.settle-settled.result.status c.settle-settled.result.overridden c.times_now-times.result) o)) h.1)
+    refl
+    (ap times_of (c.begun-lease.ensures ∙ ap (λ (a : Term). let b : Term = record a { up = up_after a.up c.settle-settled.result.status c.args.moment } in b)
+    (c.anew-anew.ensures ∙ ap (λ a. anew a c.args.moment n.secs) h.2.lease)))
+    (c.rejoin.ensures.held
+    ∙ ap (λ o. option_map_or (λ x. insert c.args.leases.now.held n.key (rejoined n c.settle-settled.result.status c.settle-settled.result.overridden c.begun-lease.result x)) o c.args.leases.now.held) h.1)
     c.prepare_row.ensures.rows c.in_ok-put.ensures.put c.put_row.ensures

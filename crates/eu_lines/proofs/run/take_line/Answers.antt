@@ -10,16 +10,16 @@ returns-in_err-write_out-clause-err g c =
     let f = c.in_err-write_out.ensures.err in
     let a = rw (c.in-Err.ensures.err.0) at f.1 in
     rw (p.1, p.2) (λ s x held lines line shown kept counts.
-    stopped_more g.D.Answerer.answers g.D.Answerer.refuses Write s x held lines ((line ++ c.args.part.now) ∷ []) _ _
-    (stopped_writing g.D.Answerer.answers g.D.Answerer.refuses s x held lines c.args.run.now.waiting.items f.0 _ c.args.desk.now c.args.context.now _ _ shown c.in_err-write_out.ensures.failed a))
+    stopped_more g.D.Answerer.answers g.D.Answerer.refuses Write s x held lines ((line ++ c.args.part.now) ∷ []) c.answer_part.new.context _ _
+    (stopped_writing g.D.Answerer.answers g.D.Answerer.refuses s x held lines c.args.run.now.waiting.items f.0 _ c.args.desk.now c.args.context.now c.answer_part.new.context _ _ shown c.in_err-write_out.ensures.failed a))
 
 pub returns-in-Err-clause-err : goal.returns-in-Err-clause-err
 returns-in-Err-clause-err g c =
     let a = rw (c.in-Err.ensures.err.0) at c.in_ok-write_out.ensures.ok in
     λ s x held lines line shown kept counts.
     rw c.fault_at.ensures
-    (stopped_line g.D.Answerer.answers g.D.Answerer.refuses c.in-Err.error s x held lines (line ++ c.args.part.now) c.args.run.now.waiting.items c.answer_part.new.run.number _ c.args.desk.now c.args.context.now _ _ shown
-    (c.in-Err.ensures.err.1 ∙ counts) (λ h. c.in-Err.ensures.bad (ap Err h) line kept) a)
+    (stopped_line g.D.Answerer.answers g.D.Answerer.refuses c.in-Err.error s x held lines (line ++ c.args.part.now) c.args.run.now.waiting.items c.answer_part.new.run.number _ c.args.desk.now c.args.context.now c.answer_part.new.context _ _ shown
+    (c.in-Err.ensures.err.1 ∙ counts) (λ h. c.in-Err.ensures.bad (ap Err h) line kept) (λ h. c.in-Err.ensures.same_context (ap Err h)) a)
 
 pub returns-in_err-write_waiting-clause-err : goal.returns-in_err-write_waiting-clause-err
 returns-in_err-write_waiting-clause-err g c =
@@ -27,7 +27,7 @@ returns-in_err-write_waiting-clause-err g c =
     let f = c.in_err-write_waiting.ensures.err in
     rw (p.1, p.2) (λ s x held lines line shown kept counts.
     let ok = c.in_default.ensures.ok line kept in
-    stopped_writing g.D.Answerer.answers g.D.Answerer.refuses s x held (lines ++ (line ++ c.args.part.now) ∷ []) c.answer_part.new.run.waiting.items f.0 _ c.answer_part.new.desk c.answer_part.new.context _ _
+    stopped_writing g.D.Answerer.answers g.D.Answerer.refuses s x held (lines ++ (line ++ c.args.part.now) ∷ []) c.answer_part.new.run.waiting.items f.0 _ c.answer_part.new.desk c.answer_part.new.context c.answer_part.new.context _ _
     (shown_line g.D.Answerer.answers s x held lines (line ++ c.args.part.now) c.args.run.now.waiting.items ok.0 c.answer_part.new.run.waiting.items c.args.desk.now c.args.context.now c.answer_part.new.desk c.answer_part.new.context _ shown ok.1 ok.2)
     c.in_err-write_waiting.ensures.failed f.1)
 

@@ -7,11 +7,6 @@ use Rattle.eu_model.specs.Plain.{Plain}
 use Rattle.eu_model.proofs.OpeningLemmas.{plain-opening}
 use Rattle.eu_core.proofs.registry.Registry.open.Goals as goal
 
-pub invariant_of-result : goal.invariant_of-result
-invariant_of-result c =
-    let none : len c.new.result.held ≡ 0 = ap len c.new.ensures ∙ len-empty key_cmp Listed in
-    omega (arith, none)
-
 pub returns : goal.returns
 returns c =
     let t = c.open.ensures in

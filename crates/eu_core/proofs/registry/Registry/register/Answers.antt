@@ -9,7 +9,7 @@ use Rattle.eu_model.specs.Plain.{Plain}
 use Rattle.eu_model.specs.Answers.{Answers}
 use Rattle.eu_core.specs.Joins.{IsPart}
 use Rattle.eu_core.specs.Registry.{plain_of}
-use Rattle.eu_core.proofs.RegisterLemmas.{held_no_fault, new_no_fault, full_fault, exhausted_fault, refused, out_of_memory, joined_answers, moved, err_moved, some_held, held_len, new_len, moved_both}
+use Rattle.eu_core.proofs.RegisterLemmas.{held_no_fault, new_no_fault, full_fault, exhausted_fault, refused, out_of_memory, joined_answers, moved, err_moved, some_held, moved_both}
 use Rattle.eu_core.proofs.registry.Registry.register.Goals as goal
 
 pub returns-in_err-join_held-in-Some-clause-answers : goal.returns-in_err-join_held-in-Some-clause-answers
@@ -21,18 +21,12 @@ returns-in_err-join_held-in-Some-clause-answers c =
     (out_of_memory p c.args.instance c.args.replicated c.args.moment _ (held_no_fault p c.args.instance c.args.replicated c.args.moment h.0 h.1)
     (λ x. record p { leases = e.err_leases x; rows = e.err_rows x }))
 
-pub invariant_of-self-in-Some : goal.invariant_of-self-in-Some
-invariant_of-self-in-Some c =
-    let h = some_held _ (IsPart c.in-Some.held) c.in-Some.ensures.some in
-    let n = held_len _ _ _ _ c.args.instance c.args.replicated c.ms-now.result h.0 h.1 c.in_ok-join_held-in-Some.ensures.ok in
-    omega (arith, n, c.self.invariant)
-
 pub returns-then-len-eq-MOST_LEASES-clause-answers : goal.returns-then-len-eq-MOST_LEASES-clause-answers
 returns-then-len-eq-MOST_LEASES-clause-answers c =
     let p = plain_of c.self.inside in
     moved_both _ _ _ _ _ c.self.view_is
     (refused p c.args.instance c.args.replicated c.args.moment Full
-    (full_fault p c.args.instance c.args.replicated c.args.moment c.in-None.ensures.none (sym c.len.ensures ∙ c.if-len-eq-MOST_LEASES.true)))
+    (full_fault p c.args.instance c.args.replicated c.args.moment c.in-None.ensures.none (sym c.len.ensures.value ∙ c.if-len-eq-MOST_LEASES.true)))
 
 pub returns-in_err-joined-in-None-clause-answers : goal.returns-in_err-joined-in-None-clause-answers
 returns-in_err-joined-in-None-clause-answers c =
@@ -42,22 +36,16 @@ returns-in_err-joined-in-None-clause-answers c =
     subst (λ q. Answers q (Register c.args.instance c.args.replicated) c.args.moment c.from_residual-in_err-joined-in-None.result q) view
     (err_moved p p _ _ _ _ _ p refl c.from_residual-in_err-joined-in-None.ensures.1 e.no_other
     (refused p c.args.instance c.args.replicated c.args.moment Exhausted
-    (exhausted_fault p c.args.instance c.args.replicated c.args.moment c.in-None.ensures.none (λ z. c.if-len-eq-MOST_LEASES.false (c.len.ensures ∙ z)) (e.exhausted.0 (ap Err e.no_other)))))
+    (exhausted_fault p c.args.instance c.args.replicated c.args.moment c.in-None.ensures.none (λ z. c.if-len-eq-MOST_LEASES.false (c.len.ensures.value ∙ z)) (e.exhausted.0 (ap Err e.no_other)))))
 
 pub returns-in_err-join_new-in-None-clause-answers : goal.returns-in_err-join_new-in-None-clause-answers
 returns-in_err-join_new-in-None-clause-answers c =
     let p = plain_of c.self.inside in
     let e = c.in_err-join_new-in-None.ensures in
-    err_moved _ _ _ _ _ _ _ _ c.self.view_is c.from_residual-in_err-join_new-in-None.ensures.1 refl
+    err_moved _ _ _ _ _ _ _ _ c.self.view_is c.from_residual-in_err-join_new-in-None.ensures.1 e.no_other
     (out_of_memory p c.args.instance c.args.replicated c.args.moment _
-    (new_no_fault p c.args.instance c.args.replicated c.args.moment c.in-None.ensures.none (λ z. c.if-len-eq-MOST_LEASES.false (c.len.ensures ∙ z)) (λ z. let same = c.in_ok-joined-in-None.ensures.exhausted.1 z in cc))
+    (new_no_fault p c.args.instance c.args.replicated c.args.moment c.in-None.ensures.none (λ z. c.if-len-eq-MOST_LEASES.false (c.len.ensures.value ∙ z)) (λ z. let same = c.in_ok-joined-in-None.ensures.exhausted.1 z in cc))
     (λ x. record p { leases = e.err_leases x; rows = e.err_rows x }))
-
-pub invariant_of-self-in-None : goal.invariant_of-self-in-None
-invariant_of-self-in-None c =
-    let n = new_len _ _ _ _ c.args.instance c.args.replicated c.ms-now.result c.in-None.ensures.none c.in_ok-join_new-in-None.ensures.ok in
-    let less : len c.self.inside.leases.held < 65536 = omega (arith, c.self.invariant, c.len.ensures, c.if-len-eq-MOST_LEASES.false) in
-    omega (arith, n, less)
 
 pub returns-in_ok-join_held-in-Some-clause-answers : goal.returns-in_ok-join_held-in-Some-clause-answers
 returns-in_ok-join_held-in-Some-clause-answers c =
@@ -65,7 +53,7 @@ returns-in_ok-join_held-in-Some-clause-answers c =
     let h = some_held _ (IsPart c.in-Some.held) c.in-Some.ensures.some in
     moved _ _ _ _ _ _ c.self.view_is
     (joined_answers p c.args.instance c.args.replicated c.args.moment (Some h.0) c.join_held.new.leases.held c.join_held.new.rows.rows c.self.inside.threshold.expected h.1
-    (held_no_fault p c.args.instance c.args.replicated c.args.moment h.0 h.1) (rw c.ms-now.ensures.value at c.in_ok-join_held-in-Some.ensures.ok) refl)
+    (held_no_fault p c.args.instance c.args.replicated c.args.moment h.0 h.1) c.in_ok-join_held-in-Some.ensures.ok refl)
 
 pub returns-in_ok-join_new-in-None-clause-answers : goal.returns-in_ok-join_new-in-None-clause-answers
 returns-in_ok-join_new-in-None-clause-answers c =
@@ -78,5 +66,5 @@ returns-in_ok-join_new-in-None-clause-answers c =
     subst (λ q. Answers c.args.self.now (Register c.args.instance c.args.replicated) c.args.moment (Ok (Registered true)) q) (sym whole)
     (moved _ _ _ _ _ _ c.self.view_is
     (joined_answers p c.args.instance c.args.replicated c.args.moment None L O (one_more true p.expected) c.in-None.ensures.none
-    (new_no_fault p c.args.instance c.args.replicated c.args.moment c.in-None.ensures.none (λ z. c.if-len-eq-MOST_LEASES.false (c.len.ensures ∙ z)) (λ z. let same = c.in_ok-joined-in-None.ensures.exhausted.1 z in cc))
-    (rw c.ms-now.ensures.value at c.in_ok-join_new-in-None.ensures.ok) refl))
+    (new_no_fault p c.args.instance c.args.replicated c.args.moment c.in-None.ensures.none (λ z. c.if-len-eq-MOST_LEASES.false (c.len.ensures.value ∙ z)) (λ z. let same = c.in_ok-joined-in-None.ensures.exhausted.1 z in cc))
+    c.in_ok-join_new-in-None.ensures.ok refl))

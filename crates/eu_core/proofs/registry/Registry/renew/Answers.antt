@@ -9,10 +9,9 @@ use Rattle.eu_model.specs.Plain.{Plain}
 use Rattle.eu_model.specs.Answers.{Answers}
 use Rattle.eu_core.specs.Joins.{IsPart}
 use Rattle.eu_core.specs.Registry.{plain_of}
-use Rattle.eu_core.specs.Store.{updated_to}
 use Rattle.eu_core.proofs.JoinLemmas.{some_and}
 use Rattle.eu_core.proofs.RegisterLemmas.{moved, moved_both, err_moved}
-use Rattle.eu_core.proofs.RenewLemmas.{ruled, renewed_lease, absent_answers, unknown_answers, exhausted_answers, done_answers, status_is, lease_is, len-changed_at}
+use Rattle.eu_core.proofs.RenewLemmas.{ruled, renewed_lease, absent_answers, unknown_answers, exhausted_answers, done_answers, status_is, lease_is}
 use Rattle.eu_core.proofs.registry.Registry.renew.Goals as goal
 
 pub returns-in-None-clause-answers : goal.returns-in-None-clause-answers
@@ -38,21 +37,14 @@ returns-in_err-count-in-Some-clause-answers c =
     (err_moved _ _ _ _ _ _ _ _ c.self.view_is c.from_residual.ensures.1 e.no_other
     (exhausted_answers p c.args.key.now c.args.replicated c.args.moment h.0 h.1 (ap (λ x. is_status x Unknown) (sym s) ∙ sym c.is_unknown.ensures ∙ c.if-is_unknown.false) (e.exhausted.0 (ap Err e.no_other))))
 
-pub invariant_of-self-in-Some : goal.invariant_of-self-in-Some
-invariant_of-self-in-Some c =
-    let h = some_and (IsPart c.in-Some.held) _ c.in-Some.ensures.some in
-    let n = len-changed_at c.self.inside.leases.held c.args.key.now (updated_to c.override_rule-status.result c.update_at.result) h.0 h.1 in
-    rw c.update.ensures (omega (arith, n, c.self.invariant))
-
 pub returns-in_ok-count-in-Some-clause-answers : goal.returns-in_ok-count-in-Some-clause-answers
 returns-in_ok-count-in-Some-clause-answers c =
     let p = plain_of c.self.inside in
     let h = some_and (IsPart c.in-Some.held) _ c.in-Some.ensures.some in
     let s = status_is p c.args.key.now c.args.replicated c.args.moment h.0 _ _ _ h.2.status c.get-row.ensures c.override_rule-status.ensures in
     let counts = c.in_ok-count-in-Some.ensures.counts in
-    let leases = c.update.ensures ∙ lease_is c.self.inside.leases.held c.args.key.now h.0 _ (ruled p c.args.key.now c.args.replicated c.args.moment h.0) _ c.args.moment h.1 s
-    (c.update_at.ensures ∙ ap (λ x. x + 1000 * c.in-Some.held.secs) c.ms.ensures.value ∙ ap (λ x. c.args.moment + 1000 * x) h.2.secs) in
-    let whole : ◌≡◌ {A = Plain} (record p { leases = c.update.new.self.held; last = c.count.new.self.last; since = c.count.new.self.since })
+    let leases = c.renew_as.ensures.held ∙ lease_is c.self.inside.leases.held c.args.key.now h.0 _ (ruled p c.args.key.now c.args.replicated c.args.moment h.0) c.args.moment h.1 s in
+    let whole : ◌≡◌ {A = Plain} (record p { leases = c.renew_as.new.self.held; last = c.count.new.self.last; since = c.count.new.self.since })
     (record p { leases = with_value p.leases c.args.key.now (Some (renewed_lease h.0 (ruled p c.args.key.now c.args.replicated c.args.moment h.0) c.args.moment)); since = p.since + 1 }) =
     λ i. record p { leases = leases i; last = (counts i).last; since = (counts i).since } in
     subst (λ q. Answers c.args.self.now (Renew c.args.key.now None None c.args.replicated) c.args.moment (Ok Done) q) (sym whole)

@@ -1,0 +1,9 @@
+//! Draws: some members of a list, by the words of a chooser.
+#![tactic(auto)]
+
+mod shuffle;
+
+pub use shuffle::choose;
+
+#[cfg(test)]
+mod tests;

@@ -1,0 +1,36 @@
+//! Lists of keys.
+ghost use Rattle.std.specs.Prelude.{◌≡◌};
+
+use eu_base::Key;
+use std::marker::Model;
+
+/// Some keys, in their order. Contracts see the list.
+#[derive(Debug, Drop)]
+pub struct Keys {
+    keys: Vec<Key>,
+}
+
+impl Model for Keys {
+    ghost use Rattle.std.specs.Prelude.{List};
+    ghost use Rattle.eu_base.specs.declared.names.Key.{Key};
+
+    ghost Value = { List Key };
+
+    ghost view = { λ k. k.keys.items };
+}
+
+impl Keys {
+    /// These keys. Takes no memory.
+    pub fn new(keys: Vec<Key>) -> Keys
+        ensures { result ≡ keys.items }
+    {
+        Keys { keys }
+    }
+
+    /// The keys, one after the other.
+    pub fn as_slice(&self) -> &[Key]
+        ensures { result.now ≡ self.now }
+    {
+        self.keys.as_slice()
+    }
+}

@@ -1,0 +1,8 @@
+use Rattle.std.proofs.Common.{refl}
+use Rattle.eu_server.specs.Script.{opened_with}
+use Rattle.eu_server.proofs.desk.Desk.open.Goals as goal
+
+pub returns-clause-ok : goal.returns-clause-ok
+returns-clause-ok c =
+    rw c.in-Open.is
+    (opened_with c.args.self.now.config c.in-Open.expected, (rw c.requires at c.in_ok-push_str.ensures.bytes, refl), rw (c.open.ensures) refl)

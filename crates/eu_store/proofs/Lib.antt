@@ -1,0 +1,3 @@
+pub mod SortedLemmas
+pub mod MapLemmas
+pub mod ListedLemmas

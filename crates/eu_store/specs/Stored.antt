@@ -1,0 +1,50 @@
+-- The leases as their users see them: a finite map, and how many more can be put without taking memory
+use Rattle.std.specs.Prelude.{ℕ, ◌+◌, ◌==◌, if◌then◌else◌, List, map, filter, refl}
+use Rattle.std.specs.FinMap.{FinMap, get, insert, entries}
+use Rattle.std.specs.Option.{option_map_or}
+use Rattle.std.specs.Coded.{Coded, code_by, coded×, coded_ℕ}
+use Rattle.eu_base.specs.declared.names.Key.{Key}
+use Rattle.eu_base.specs.declared.statuses.Status.{Status}
+use Rattle.eu_base.specs.declared.instances.Instance.{Instance}
+use Rattle.eu_base.specs.Key.{key_cmp}
+use Rattle.eu_model.specs.declared.views.Listed.{Listed}
+use Rattle.eu_model.specs.Record.{duration}
+use Rattle.eu_model.specs.Kept.{kept_expired}
+use Rattle.eu_model.specs.PlainCode.{coded_leases}
+use Rattle.eu_lease.specs.Term.{Term, listed_with}
+
+pub record Stored : Type 0 where
+  pub held : FinMap key_cmp Listed
+  pub room : ℕ
+
+abbrev pub coded_stored : Coded Stored
+coded_stored = code_by (FinMap key_cmp Listed × ℕ) (coded× coded_leases coded_ℕ) (λ s. (s.held, s.room)) (λ p. record { held = p.0; room = p.1 }) (λ _. refl)
+
+-- the map with what is held at a key changed, if anything is
+abbrev pub changed : (Listed → Listed) → FinMap key_cmp Listed → Key → FinMap key_cmp Listed
+changed f m k = option_map_or (λ l. insert m k (f l)) (get m k) m
+
+-- the moments and the duration of a listed lease
+abbrev pub term_of : Listed → Term
+term_of l = record { registered = l.times.registered; up = l.times.up; updated = l.times.updated; secs = l.instance.secs }
+
+-- the lease renewed: its last update is one duration from now
+abbrev pub renewed_at : ℕ → Listed → Listed
+renewed_at t l = record l { times = record l.times { updated = t + duration l.instance } }
+
+-- its instance up now
+abbrev pub upped_at : ℕ → Listed → Listed
+upped_at t l = record l { times = record l.times { up = if l.times.up == 0 then t else l.times.up } }
+
+-- its instance given a status
+abbrev pub given_status : Status → Listed → Listed
+given_status status l = record l { instance = record l.instance { status = status } }
+
+-- the instance kept, but for the statuses and a newcomer's duration, and its lease begun anew
+abbrev pub rejoined : Instance → Status → Status → Term → Listed → Listed
+rejoined n status overridden term l =
+    listed_with (record l.instance { status = status; overridden = overridden; secs = n.secs; secs_bound = n.secs_bound }) term
+
+-- the keys of the leases that have expired, in key order
+abbrev pub expired_keys : FinMap key_cmp Listed → ℕ → ℕ → List Key
+expired_keys m t extra = map (λ e. e.0) (filter (λ e. kept_expired e.1 t extra) (entries m))

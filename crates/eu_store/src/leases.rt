@@ -1,0 +1,214 @@
+//! The leases that are held, by their keys.
+ghost use Rattle.std.specs.Prelude.{◌≡◌, ◌↔◌, ◌<◌, ◌≤◌, ◌+◌, ◌⊎◌, None, if◌then◌else◌, is_some, IsSome, IfOk, IfErr, OnOk};
+ghost use Rattle.std.specs.Option.{option_copied};
+ghost use Rattle.std.specs.FinMap as map;
+ghost use Rattle.eu_store.specs.Stored.{changed, renewed_at, given_status, upped_at, rejoined, expired_keys};
+
+use crate::Held;
+use eu_base::{Fault, Instance, Key, Moment, Status};
+use eu_lease::Lease;
+use indexmap::IndexMap;
+use std::alloc::{AllocError, Global};
+use std::marker::Model;
+use std::mem;
+
+/// The most leases that are held.
+pub const MOST_LEASES: usize = 65_536;
+
+/// The leases that are held. Contracts see a finite map from keys to what is listed, and how many more can be put without
+/// taking memory.
+#[derive(Debug, Drop)]
+pub struct Leases {
+    table: IndexMap<Key, Held>,
+}
+
+impl Model for Leases {
+    ghost use Rattle.std.specs.Prelude.{length, ◌≤◌, ◌-◌, min};
+    ghost use Rattle.std.specs.FinMap as map;
+    ghost use Rattle.indexmap.specs.IndexMap.{spare};
+    ghost use Rattle.eu_store.specs.Stored.{Stored, coded_stored};
+
+    ghost Value = { Stored };
+
+    ghost coded = { coded_stored };
+
+    ghost view = { λ a. record { held = map.from_entries a.table.entries; room = min (spare a.table) (65536 - length a.table.entries) } };
+
+    ghost invariant = { λ a. length a.table.entries ≤ 65536 };
+}
+
+impl Leases {
+    /// No lease. Takes no memory.
+    pub fn new(alloc: Global) -> Leases
+        ensures { result.held ≡ map.empty }
+    {
+        Leases {
+            table: IndexMap::new(alloc),
+        }
+    }
+
+    /// What is held under that key.
+    pub fn get(&self, key: &Key) -> Option<&Held>
+        ensures { option_copied result ≡ map.get self.now.held key.now }
+    {
+        self.table.get(key)
+    }
+
+    /// How many leases are held: at most 65,536.
+    pub fn len(&self) -> usize
+        ensures value { result ≡ map.len self.now.held }
+        ensures bound { result ≤ 65536 }
+    {
+        self.table.len()
+    }
+
+    /// Makes room for a lease of that key, so that it can be put without taking memory.
+    ///
+    /// `Full` exactly where 65,536 leases are held and none of that key; else `OutOfMemory`. Neither changes what is held.
+    pub fn prepare_put(&mut self, key: &Key) -> Result<(), Fault>
+        ensures held { self.new.held ≡ self.old.held }
+        ensures room { self.old.room ≤ self.new.room }
+        ensures ready { OnOk result (IsSome (map.get self.old.held key.now) ⊎ (0 < self.new.room)) }
+        ensures full { (result ≡ Err Fault.Full) ↔ ((map.len self.old.held ≡ 65536) × (map.get self.old.held key.now ≡ None)) }
+        ensures no_other { IfErr result (λ f. (f ≡ Fault.Full) ⊎ (f ≡ Fault.OutOfMemory)) }
+    {
+        if self.table.contains_key(key) {
+            return Ok(());
+        }
+        if self.table.len() >= MOST_LEASES {
+            return Err(Fault::Full);
+        }
+        match self.table.reserve(1) {
+            Ok(()) => Ok(()),
+            Err(_) => Err(Fault::OutOfMemory),
+        }
+    }
+
+    /// Puts a lease under that key, in place of the one that is held or into the room that was made, and hands back the one
+    /// that was held. Takes no memory.
+    pub fn put_prepared(&mut self, key: Key, held: Held) -> Option<Held>
+        requires { IsSome (map.get self.old.held key) ⊎ (0 < self.old.room) }
+        ensures before { result ≡ map.get self.old.held key }
+        ensures held { self.new.held ≡ map.insert self.old.held key held }
+        ensures room { self.old.room ≤ self.new.room + (if is_some result then 0 else 1) }
+    {
+        match self.table.get_mut(&key) {
+            Some(place) => Some(mem::replace(place, held)),
+            None => {
+                self.table.insert(key, held).unwrap();
+                None
+            }
+        }
+    }
+
+    /// Puts a lease in place of the one that is held under its instance's key, and hands back that one; where none is held,
+    /// nothing changes. Takes no memory.
+    pub fn replace(&mut self, held: Held) -> Option<Held>
+        ensures before { result ≡ map.get self.old.held held.instance.key }
+        ensures held { self.new.held ≡ changed (λ _. held) self.old.held held.instance.key }
+        ensures room { self.new.room ≡ self.old.room }
+    {
+        match self.table.get_mut(&held.instance().key) {
+            Some(place) => Some(mem::replace(place, held)),
+            None => None,
+        }
+    }
+
+    /// Takes out what is held under that key. Takes no memory.
+    pub fn take(&mut self, key: &Key) -> Option<Held>
+        ensures before { result ≡ map.get self.old.held key.now }
+        ensures held { self.new.held ≡ map.remove self.old.held key.now }
+        ensures room { self.old.room ≤ self.new.room }
+    {
+        self.table.swap_remove(key)
+    }
+
+    /// Renews the lease of that key, and tells whether one is held. Takes no memory.
+    pub fn renew(&mut self, key: &Key, moment: Moment) -> bool
+        ensures found { result ≡ is_some (map.get self.old.held key.now) }
+        ensures held { self.new.held ≡ changed (renewed_at moment) self.old.held key.now }
+        ensures room { self.new.room ≡ self.old.room }
+    {
+        match self.table.get_mut(key) {
+            Some(held) => {
+                held.renew(moment);
+                true
+            }
+            None => false,
+        }
+    }
+
+    /// Renews the lease of that key, gives its instance a status, and tells whether one is held. Takes no memory.
+    pub fn renew_as(&mut self, key: &Key, status: Status, moment: Moment) -> bool
+        ensures found { result ≡ is_some (map.get self.old.held key.now) }
+        ensures held { self.new.held ≡ changed (λ l. given_status status (renewed_at moment l)) self.old.held key.now }
+        ensures room { self.new.room ≡ self.old.room }
+    {
+        match self.table.get_mut(key) {
+            Some(held) => {
+                held.renew(moment);
+                held.set_status(status);
+                true
+            }
+            None => false,
+        }
+    }
+
+    /// The instance of that key is up now: the moment is kept, where it is the first. Tells whether a lease is held. Takes no
+    /// memory.
+    pub fn mark_up(&mut self, key: &Key, moment: Moment) -> bool
+        ensures found { result ≡ is_some (map.get self.old.held key.now) }
+        ensures held { self.new.held ≡ changed (upped_at moment) self.old.held key.now }
+        ensures room { self.new.room ≡ self.old.room }
+    {
+        match self.table.get_mut(key) {
+            Some(held) => {
+                held.mark_up(moment);
+                true
+            }
+            None => false,
+        }
+    }
+
+    /// Begins the held lease of a newcomer's key anew: it keeps its instance, but for these statuses and the newcomer's
+    /// duration. Tells whether one is held. Takes no memory.
+    pub fn rejoin(
+        &mut self,
+        newcomer: &Instance,
+        status: Status,
+        overridden: Status,
+        lease: Lease,
+    ) -> bool
+        requires { lease.secs ≡ newcomer.now.secs }
+        ensures found { result ≡ is_some (map.get self.old.held newcomer.now.key) }
+        ensures held { self.new.held ≡ changed (rejoined newcomer.now status overridden lease) self.old.held newcomer.now.key }
+        ensures room { self.new.room ≡ self.old.room }
+    {
+        match self.table.get_mut(&newcomer.key) {
+            Some(held) => {
+                held.rejoin(newcomer, status, overridden, lease);
+                true
+            }
+            None => false,
+        }
+    }
+
+    /// The keys of the leases that have expired, if each is granted some extra milliseconds, in key order. `OutOfMemory`.
+    pub fn expired_keys(
+        &self,
+        alloc: Global,
+        moment: Moment,
+        extra: u64,
+    ) -> Result<Vec<Key>, AllocError>
+        ensures { IfOk result (λ keys. keys.items ≡ expired_keys self.now.held moment extra) }
+    {
+        let mut keys = Vec::new(alloc);
+        for (key, held) in self.table.iter() {
+            if held.expired(moment, extra) {
+                keys.push(key.copy(alloc)?)?;
+            }
+        }
+        keys.sort()?;
+        Ok(keys)
+    }
+}

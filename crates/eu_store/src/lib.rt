@@ -1,0 +1,11 @@
+//! The leases that are held, by their keys.
+#![tactic(auto)]
+
+mod held;
+mod leases;
+
+pub use held::Held;
+pub use leases::{Leases, MOST_LEASES};
+
+#[cfg(test)]
+mod tests;

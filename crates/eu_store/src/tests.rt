@@ -1,0 +1,121 @@
+//! Leases, with what they answer worked out by hand.
+use crate::{Held, Leases};
+use eu_base::{App, Fault, Id, Instance, Key, Moment, Status};
+use eu_lease::Lease;
+use std::alloc::Global;
+use std::test::Fail;
+
+fn at(ms: u64) -> Result<Moment, Fault> {
+    Moment::new(ms).ok_or(Fault::BadStamp)
+}
+
+fn key(alloc: Global, id: &str) -> Result<Key, Fault> {
+    Ok(Key {
+        app: App::read(alloc, "A")?,
+        id: Id::read(alloc, id)?,
+    })
+}
+
+/// A lease of 10 s that is made at 0, of an instance that is UP.
+fn held(alloc: Global, id: &str) -> Result<Held, Fault> {
+    let instance = Instance {
+        key: key(alloc, id)?,
+        status: Status::Up,
+        overridden: Status::Unknown,
+        dirty: 7,
+        secs: 10,
+    };
+    Ok(Held::new(instance, Lease::fresh(at(0)?, 10)))
+}
+
+/// Leases under these ids.
+fn leases(alloc: Global, ids: &[&str]) -> Result<Leases, Fault> {
+    let mut leases = Leases::new(alloc);
+    for id in ids {
+        let key = key(alloc, id)?;
+        leases.prepare_put(&key)?;
+        leases.put_prepared(key, held(alloc, id)?);
+    }
+    Ok(leases)
+}
+
+/// The last update of a lease.
+fn updated(leases: &Leases, key: &Key) -> Option<u64> {
+    match leases.get(key) {
+        Some(held) => Some(held.times().updated),
+        None => None,
+    }
+}
+
+/// The stamp and the duration of a held instance.
+fn stamp(leases: &Leases, key: &Key) -> Option<(u64, u32)> {
+    match leases.get(key) {
+        Some(held) => Some((held.instance().dirty, held.instance().secs)),
+        None => None,
+    }
+}
+
+#[test]
+fn a_lease_is_put_and_taken(rt: HostRuntime) -> Result<(), Fail> {
+    let mut leases = leases(rt.alloc(), ["i1", "i2"].as_slice())?;
+    let first = key(rt.alloc(), "i1")?;
+    assert_eq!(rt; leases.len(), 2);
+    assert!(rt; leases.take(&first).is_some());
+    assert!(rt; leases.take(&first).is_none());
+    assert_eq!(rt; leases.len(), 1);
+    Ok(())
+}
+
+#[test]
+fn a_lease_is_put_again(rt: HostRuntime) -> Result<(), Fail> {
+    let mut leases = leases(rt.alloc(), ["i1"].as_slice())?;
+    let again = held(rt.alloc(), "i1")?;
+    assert!(rt; leases.replace(again).is_some());
+    assert_eq!(rt; leases.len(), 1);
+    Ok(())
+}
+
+#[test]
+fn a_lease_is_renewed(rt: HostRuntime) -> Result<(), Fail> {
+    let mut leases = leases(rt.alloc(), ["i1"].as_slice())?;
+    let first = key(rt.alloc(), "i1")?;
+    let now = at(5)?;
+    assert!(rt; leases.renew(&first, now));
+    assert!(rt; leases.mark_up(&first, now));
+    assert!(rt; updated(&leases, &first) == Some(10_005));
+    assert!(rt; leases.renew_as(&first, Status::Down, now));
+    Ok(())
+}
+
+#[test]
+fn a_held_lease_begins_anew(rt: HostRuntime) -> Result<(), Fail> {
+    let mut leases = leases(rt.alloc(), ["i1"].as_slice())?;
+    let newcomer = Instance {
+        key: key(rt.alloc(), "i1")?,
+        status: Status::Up,
+        overridden: Status::Unknown,
+        dirty: 3,
+        secs: 30,
+    };
+    let lease = Lease::fresh(at(4)?, 30);
+    assert!(rt; leases.rejoin(&newcomer, Status::OutOfService, Status::Down, lease));
+    assert!(rt; stamp(&leases, &newcomer.key) == Some((7, 30)));
+    Ok(())
+}
+
+#[test]
+fn expired_keys_come_in_order(rt: HostRuntime) -> Result<(), Fail> {
+    let leases = leases(rt.alloc(), ["i3", "i1", "i2"].as_slice())?;
+    let keys = leases.expired_keys(rt.alloc(), at(10_001)?, 0)?;
+    assert_eq!(rt; keys.len(), 3);
+    assert!(rt; keys[0].id.as_str() == "i1" && keys[2].id.as_str() == "i3");
+    Ok(())
+}
+
+#[test]
+fn none_has_expired_at_its_deadline(rt: HostRuntime) -> Result<(), Fail> {
+    let leases = leases(rt.alloc(), ["i1"].as_slice())?;
+    let keys = leases.expired_keys(rt.alloc(), at(10_000)?, 0)?;
+    assert!(rt; keys.is_empty());
+    Ok(())
+}

@@ -1,0 +1,18 @@
+-- Where an option has no number, no settings hold what the options give
+use Rattle.std.proofs.Common.{rules, arith}
+use Rattle.eureka.proofs.options.config_of.Goals as goal
+
+pub returns-in_err-percent-clause-none : goal.returns-in_err-percent-clause-none
+returns-in_err-percent-clause-none c = λ d _ h.
+    let found = c.number.ensures.none d.percent (omega (arith, d.percent_bound)) h.1 in
+    search (rules, found)
+
+pub returns-in_err-interval-clause-none : goal.returns-in_err-interval-clause-none
+returns-in_err-interval-clause-none c = λ d _ h.
+    let found = c.number-2.ensures.none d.interval (omega (arith, d.interval_bound.1)) h.2 in
+    search (rules, found)
+
+pub returns-in_err-evict_ms-clause-none : goal.returns-in_err-evict_ms-clause-none
+returns-in_err-evict_ms-clause-none c = λ d small h.
+    let found = c.number-3.ensures.none d.evict_ms small h.3 in
+    search (rules, found)

@@ -1,0 +1,61 @@
+-- What the command line takes, and what its options say
+use Rattle.std.specs.Prelude.{ℕ, Bool, List, [], ◌∷◌, Some, ◌≡◌, true, codes, map, option_map, pos}
+use Rattle.std.specs.Str.{bytes_eq}
+use Rattle.std.specs.Str.Parse.{IsNumeral, digits_value, without_leading_plus}
+use Rattle.clap.specs.Words.{found_of, first_value, one_text, Rule, App, Text, new_rule, new_app, with_rule, with_subcommand}
+use Rattle.clap.specs.declared.parser.matches.ArgMatches.{ArgMatches}
+use Rattle.clap.specs.declared.builder.value_parser.ValueParser.{ValueParser}
+use Rattle.clap.specs.declared.builder.value_parser.ValueParser.TheVariants.{Names, Signed, Unsigned}
+use Rattle.eu_base.specs.declared.settings.Config.{Config}
+
+-- ---- the command line
+
+-- the option `--NAME VALUE`, with the value that it has where it isn't given
+abbrev pub option_rule : Text → ValueParser → Text → Rule
+option_rule name parser given =
+    record (new_rule name) { long = Some name; value_names = 1; parser = Some parser; defaults = given ∷ [] }
+
+-- the words "on" and "off", and no others
+abbrev pub IsSwitchParser : ValueParser → Type 0
+IsSwitchParser (Names words) = map (λ s. s.now) words.now ≡ codes "on" ∷ codes "off" ∷ []
+IsSwitchParser _ = ⊥
+
+-- the option `--seed N`, which may be left out
+abbrev pub seed_rule : Rule
+seed_rule = record (new_rule (codes "seed")) { long = Some (codes "seed"); value_names = 1; parser = Some (Unsigned 0 18446744073709551615) }
+
+-- a command with the five options more
+abbrev pub with_options : App → ValueParser → App
+with_options app switch =
+    with_rule (with_rule (with_rule (with_rule (with_rule app
+    (option_rule (codes "preservation") switch (codes "on")))
+    (option_rule (codes "percent") (Signed (pos 0) (pos 100)) (codes "85")))
+    (option_rule (codes "interval") (Signed (pos 1) (pos 3600)) (codes "30")))
+    (option_rule (codes "evict-ms") (Signed (pos 0) (pos 4294967295)) (codes "60000")))
+    seed_rule
+
+abbrev required : App → App
+required app = record app { top = record app.top { subcommand_required = true } }
+
+-- `eureka script` with the options: the subcommand has to be there
+abbrev pub program_app : ValueParser → App
+program_app switch =
+    with_subcommand (required (new_app (codes "eureka"))) (with_options (new_app (codes "script")) switch).top
+
+-- ---- what was given
+
+-- the text of the option of that name is decimal digits, and spells n
+abbrev pub IsNumber : ArgMatches → Text → ℕ → Type 0
+IsNumber m name n =
+    (t : Text) × (one_text (found_of m) name ≡ Some t) × IsNumeral 10 (without_leading_plus t)
+    × (digits_value 10 (without_leading_plus t) ≡ n)
+
+-- the option of that name has a word, and b says whether it is "on"
+abbrev pub IsSwitch : ArgMatches → Text → Bool → Type 0
+IsSwitch m name b = option_map (λ t. bytes_eq t (codes "on")) (first_value (found_of m) name) ≡ Some b
+
+-- each setting is the value of the option that names it
+abbrev pub IsConfig : ArgMatches → Config → Type 0
+IsConfig m c =
+    IsSwitch m (codes "preservation") c.preservation × IsNumber m (codes "percent") c.percent
+    × IsNumber m (codes "interval") c.interval × IsNumber m (codes "evict-ms") c.evict_ms

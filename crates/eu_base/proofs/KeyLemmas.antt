@@ -1,9 +1,9 @@
 -- The order of keys is total and tells keys apart, and equality is a tie
-use Rattle.std.proofs.Common.{◌≡◌, ℕ, List, ◌&&◌, refl, ap, sym, ◌∙◌}
+use Rattle.std.proofs.Common.{◌≡◌, ℕ, List, Bool, ◌&&◌, refl, ap, sym, ◌∙◌}
 use Rattle.std.specs.declared.cmp.Ordering.{Ordering}
 use Rattle.std.specs.declared.cmp.Ordering.TheVariants.{Less, Equal, Greater}
 use Rattle.std.specs.Ordering.{ordering_then, eq_by_cmp, is_eq}
-use Rattle.std.specs.Cmp.{IsTotalOrder}
+use Rattle.std.specs.Cmp.{IsTotalOrder, eq_by_cmp_equiv}
 use Rattle.std.specs.FinMap.{IsAntisymmetric}
 use Rattle.std.specs.Cmp.Lexicographic.{texts_ties}
 use Rattle.std.proofs.lemmas.Cmp.{on_total, then_total, nat_list_cmp_total}
@@ -33,3 +33,10 @@ is_eq-then Greater s = refl
 
 pub key_eq-ties : (a b : Key) → key_eq a b ≡ eq_by_cmp key_cmp a b
 key_eq-ties a b = (λ i. texts_ties a.app b.app i && texts_ties a.id b.id i) ∙ sym (is_eq-then (name_cmp a.app b.app) (name_cmp a.id b.id))
+
+-- as one equation of the two tests
+pub key_eq-tie : key_eq ≡ eq_by_cmp key_cmp
+key_eq-tie i a b = key_eq-ties a b i
+
+pub key_eq-flips : (a b : Key) → key_eq a b ≡ key_eq b a
+key_eq-flips a b = key_eq-ties a b ∙ (eq_by_cmp_equiv keys_total).symm a b ∙ sym (key_eq-ties b a)

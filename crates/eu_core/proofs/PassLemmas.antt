@@ -1,6 +1,5 @@
 -- What a pass takes out is what the machine's victims may be
-use Rattle.std.proofs.Common.{◌≡◌, ℕ, Bool, true, false, List, [], ◌∷◌, length, refl, sym, ap, ◌∙◌, subst, All, Contains, arith, min, take}
-use Rattle.std.specs.Prelude.{cond}
+use Rattle.std.proofs.Common.{◌≡◌, ℕ, Bool, true, false, List, [], ◌∷◌, length, refl, sym, ap, ◌∙◌, subst, All, Contains, arith, min}
 use Rattle.std.specs.List.{IsDistinct}
 use Rattle.std.specs.FinMap.{FinMap, len}
 use Rattle.eu_base.specs.declared.names.Key.{Key}
@@ -8,11 +7,10 @@ use Rattle.eu_base.specs.declared.settings.Config.{Config}
 use Rattle.eu_base.specs.Key.{key_cmp, key_eq}
 use Rattle.eu_model.specs.declared.views.Listed.{Listed}
 use Rattle.eu_model.specs.Meter.{share, is_permitted}
-use Rattle.eu_model.specs.Machine.{Machine}
-use Rattle.eu_model.specs.Evict.{victims_of, extra_time}
+use Rattle.eu_model.specs.Evict.{number_of_victims, extra_time}
 use Rattle.eu_model.specs.Evict as model
-use Rattle.eu_model.specs.Plain.{Plain, plain}
-use Rattle.eu_model.specs.Kept.{kept_due, kept_evicted_at, AreKeptVictims}
+use Rattle.eu_model.specs.Plain.{Plain}
+use Rattle.eu_model.specs.Kept.{kept_due, kept_number_evicted, AreKeptVictims}
 use Rattle.eu_model.proofs.EvictLemmas.{due-kept, number-kept}
 use Rattle.eu_choice.specs.Front.{Asks, front, state_after}
 use Rattle.eu_store.specs.Stored.{expired_keys}
@@ -28,7 +26,7 @@ least : (n : ℕ) → min 0 n ≡ 0
 least n = omega arith
 
 module _ (c : Config) (L : FinMap key_cmp Listed) (t extra : ℕ) where
-  pub number_is : (b : Bool) → number_of c L (due b L t extra) ≡ victims_of c b (length (expired_keys L t extra)) (len L)
+  pub number_is : (b : Bool) → number_of c L (due b L t extra) ≡ number_of_victims c b (length (expired_keys L t extra)) (len L)
   number_is true = refl
   number_is false = least (share c (len L))
 
@@ -37,18 +35,18 @@ module _ (c : Config) (L : FinMap key_cmp Listed) (t extra : ℕ) where
   expired_is false vs n h = All-none (expired_keys L t extra) vs (n ∙ least (share c (len L)))
 
   module _ {S : Type 0} (asks : Asks S) (x : S) where
-    drawn_is : (b : Bool) → drawn asks c L (due b L t extra) x ≡ front asks (victims_of c b (length (expired_keys L t extra)) (len L)) (expired_keys L t extra) x
+    drawn_is : (b : Bool) → drawn asks c L (due b L t extra) x ≡ front asks (number_of_victims c b (length (expired_keys L t extra)) (len L)) (expired_keys L t extra) x
     drawn_is true = refl
     drawn_is false = ap (λ n. front asks n (let none : List Key = [] in none) x) (least (share c (len L)))
 
     state_is : (b : Bool) → state_after asks (number_of c L (due b L t extra)) (length (due b L t extra)) x
-        ≡ state_after asks (victims_of c b (length (expired_keys L t extra)) (len L)) (length (expired_keys L t extra)) x
+        ≡ state_after asks (number_of_victims c b (length (expired_keys L t extra)) (len L)) (length (expired_keys L t extra)) x
     state_is true = refl
     state_is false = ap (λ n. state_after asks n 0 x) (least (share c (len L)))
 
 module _ (p : Plain) (t extra : ℕ) (permitted : Bool) (e : extra ≡ extra_time p.config p.previous t) (h : permitted ≡ is_permitted p.config p.expected p.last) where
-  number_at : number_of p.config p.leases (due permitted p.leases t extra) ≡ kept_evicted_at p t
-  number_at = number_is p.config p.leases t extra permitted ∙ (λ i. victims_of p.config (h i) (length (expired_keys p.leases t (e i))) (len p.leases))
+  number_at : number_of p.config p.leases (due permitted p.leases t extra) ≡ kept_number_evicted p t
+  number_at = number_is p.config p.leases t extra permitted ∙ (λ i. number_of_victims p.config (h i) (length (expired_keys p.leases t (e i))) (len p.leases))
 
   -- the keys that the pass took are victims
   pub are_victims : (vs : List Key) → All (Contains (due permitted p.leases t extra)) vs → IsDistinct key_eq vs → length vs ≡ number_of p.config p.leases (due permitted p.leases t extra)
@@ -66,11 +64,11 @@ module _ (p : Plain) (t extra : ℕ) (permitted : Bool) (e : extra ≡ extra_tim
         → Draws asks p t x vs x'
     draws is after s same =
         let keys : model.due s t ≡ kept_due p t = due-kept s t ∙ ap (λ q. kept_due q t) same in
-        let number : model.evicted_at s t ≡ kept_evicted_at p t = number-kept s t ∙ ap (λ q. kept_evicted_at q t) same in (
+        let number : model.number_evicted s t ≡ kept_number_evicted p t = number-kept s t ∙ ap (λ q. kept_number_evicted q t) same in (
           is ∙ drawn_is p.config p.leases t extra asks x permitted
-              ∙ (λ i. front asks (victims_of p.config (h i) (length (expired_keys p.leases t (e i))) (len p.leases)) (expired_keys p.leases t (e i)) x)
+              ∙ (λ i. front asks (number_of_victims p.config (h i) (length (expired_keys p.leases t (e i))) (len p.leases)) (expired_keys p.leases t (e i)) x)
               ∙ (λ i. front asks (sym number i) (sym keys i) x),
           after ∙ state_is p.config p.leases t extra asks x permitted
-              ∙ (λ i. state_after asks (victims_of p.config (h i) (length (expired_keys p.leases t (e i))) (len p.leases)) (length (expired_keys p.leases t (e i))) x)
+              ∙ (λ i. state_after asks (number_of_victims p.config (h i) (length (expired_keys p.leases t (e i))) (len p.leases)) (length (expired_keys p.leases t (e i))) x)
               ∙ (λ i. state_after asks (sym number i) (length (sym keys i)) x),
         )

@@ -1,8 +1,6 @@
 pub mod Entries
 pub mod Store
 pub mod Joins
-pub mod Meter
-pub mod Threshold
 pub mod Registry
 pub mod Shown
 pub mod Pass

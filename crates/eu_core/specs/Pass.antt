@@ -1,7 +1,6 @@
 -- What an eviction pass takes out
-use Rattle.std.specs.Prelude.{ℕ, Bool, true, false, List, [], ◌∷◌, length, min}
-use Rattle.std.specs.declared.cmp.Ordering.{Ordering}
-use Rattle.std.specs.FinMap.{FinMap, len, remove}
+use Rattle.std.specs.Prelude.{ℕ, Bool, true, false, List, [], length, min}
+use Rattle.std.specs.FinMap.{FinMap, len}
 use Rattle.eu_base.specs.declared.names.Key.{Key}
 use Rattle.eu_base.specs.declared.settings.Config.{Config}
 use Rattle.eu_base.specs.Key.{key_cmp}

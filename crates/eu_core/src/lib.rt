@@ -5,10 +5,8 @@ mod entries;
 mod joins;
 mod overrides;
 mod pass;
-mod rate;
 mod registry;
 mod rule;
-mod threshold;
 
 pub use registry::Registry;
 

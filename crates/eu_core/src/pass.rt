@@ -7,10 +7,10 @@ ghost use Rattle.eu_core.specs.Pass.{due, number_of, drawn};
 ghost use Rattle.eu_model.specs.Maps.{without};
 
 use crate::overrides::Overrides;
-use crate::threshold::evict_limit;
 use eu_base::{Config, Key, Moment};
 use eu_choice::choose;
 use eu_clock::Chooser;
+use eu_meter::evict_limit;
 use eu_store::Leases;
 use std::alloc::{AllocError, Global};
 

@@ -1,6 +1,5 @@
 //! Values from the rules of Eureka's registry, worked out by hand.
 use crate::Registry;
-use crate::threshold::evict_limit;
 use eu_base::{App, Config, Fault, Id, Instance, Key, Moment, Status};
 use eu_clock::{Chooser, FirstChooser, ListChooser};
 use eu_model::Reply;
@@ -320,13 +319,6 @@ fn an_expired_lease_is_hidden_where_it_may_be_evicted(rt: HostRuntime) -> Result
     Ok(())
 }
 
-#[test]
-fn a_pass_may_evict_all_but_the_percentage(rt: HostRuntime) {
-    assert_eq!(rt; evict_limit(4, 0), 4);
-    assert_eq!(rt; evict_limit(4, 100), 0);
-    assert_eq!(rt; evict_limit(10, 85), 2);
-}
-
 const FOUR: [(u64, Call); 5] = [
     (0, Call::Join("i0", Status::Up, 0, 90)),
     (0, Call::Join("i1", Status::Up, 0, 90)),
@@ -355,5 +347,38 @@ fn nobody_is_evicted_while_preservation_forbids_it(rt: HostRuntime) -> Result<()
         &mut FirstChooser,
     )?;
     assert_eq!(rt; told.as_str(), "new new new new evicted ");
+    Ok(())
+}
+
+/// Registers i0, i1 and so on at 0, so many.
+fn fill(alloc: Global, registry: &mut Registry, leases: u32) -> Result<(), Fault> {
+    let now = Moment::new(0).ok_or(Fault::BadValue)?;
+    for number in 0..leases {
+        let mut id = String::new(alloc);
+        write!(id, "i{number}")?;
+        join(
+            alloc,
+            registry,
+            id.as_str(),
+            (Status::Up, Status::Unknown),
+            0,
+            90,
+            now,
+        )?;
+    }
+    Ok(())
+}
+
+#[test]
+fn a_full_registry_takes_back_who_is_held(rt: HostRuntime) -> Result<(), Fail> {
+    let mut registry = opened(rt.alloc(), true, 85, 1)?;
+    fill(rt.alloc(), &mut registry, 65_536)?;
+    let now = Moment::new(7).ok_or(Fault::BadValue)?;
+    let up = (Status::Up, Status::Unknown);
+    let stranger = join(rt.alloc(), &mut registry, "stranger", up, 0, 90, now);
+    assert!(rt; matches!(stranger, Err(Fault::Full)));
+    assert!(rt; counts(&registry) == (65_536, 65_537, 111_412, 0, false));
+    let held = join(rt.alloc(), &mut registry, "i65535", up, 0, 90, now)?;
+    assert!(rt; matches!(held, Reply::Registered { fresh: false }));
     Ok(())
 }

@@ -15,11 +15,11 @@ use Rattle.eu_model.specs.declared.commands.Reply.TheVariants.{Evicted}
 use Rattle.eu_model.specs.Record.{Record, is_expired}
 use Rattle.eu_model.specs.Maps.{map_values, without}
 use Rattle.eu_model.specs.Machine.{Machine, permits}
-use Rattle.eu_model.specs.Evict.{extra_time, due, victims_of, evicted_at, AreVictims, evicted}
+use Rattle.eu_model.specs.Evict.{extra_time, due, number_of_victims, number_evicted, AreVictims, evicted}
 use Rattle.eu_model.specs.Step.{Step}
 use Rattle.eu_model.specs.Plain.{Plain, listed, plain}
 use Rattle.eu_model.specs.Answers.{Answers, IsAnswer}
-use Rattle.eu_model.specs.Kept.{kept_expired, kept_due, kept_evicted_at, AreKeptVictims, kept_evicted}
+use Rattle.eu_model.specs.Kept.{kept_expired, kept_due, kept_number_evicted, AreKeptVictims, kept_evicted}
 use Rattle.eu_model.proofs.MapLemmas.{entries-map_values, len-map_values, map_values-remove}
 use Rattle.eu_model.proofs.SeenLemmas.{expired-kept}
 use Rattle.eu_model.proofs.AnswerLemmas.{refused}
@@ -43,10 +43,10 @@ due-kept s t =
     keys_due t extra (entries s.leases)
     ∙ ap (λ (es : List (Key × Listed)). map (λ (e : Key × Listed). e.0) (filter (λ (e : Key × Listed). kept_expired e.1 t extra) es)) (sym (entries-map_values key_cmp listed s.leases))
 
-pub number-kept : (s : Machine) (t : ℕ) → evicted_at s t ≡ kept_evicted_at (plain s) t
+pub number-kept : (s : Machine) (t : ℕ) → number_evicted s t ≡ kept_number_evicted (plain s) t
 number-kept s t =
-    ap (λ ks. victims_of s.config (permits s) (length ks) (len s.leases)) (due-kept s t)
-    ∙ ap (victims_of s.config (permits s) (length (kept_due (plain s) t))) (sym (len-map_values key_cmp listed s.leases))
+    ap (λ ks. number_of_victims s.config (permits s) (length ks) (len s.leases)) (due-kept s t)
+    ∙ ap (number_of_victims s.config (permits s) (length (kept_due (plain s) t))) (sym (len-map_values key_cmp listed s.leases))
 
 victims-kept : (s : Machine) (t : ℕ) (victims : List Key) → AreVictims s t victims → AreKeptVictims (plain s) t victims
 victims-kept s t victims v = record {

@@ -21,17 +21,17 @@ due s t = map (λ e. e.0) (filter (λ e. is_expired e.1 t (extra_time s.config s
 
 -- how many leases go, of so many that are due and so many that are held: all, but at most the share, and nobody where eviction
 -- isn't permitted
-abbrev pub victims_of : Config → Bool → ℕ → ℕ → ℕ
-victims_of c permitted expired held = if permitted then min expired (share c held) else 0
+abbrev pub number_of_victims : Config → Bool → ℕ → ℕ → ℕ
+number_of_victims c permitted expired held = if permitted then min expired (share c held) else 0
 
-abbrev pub evicted_at : Machine → ℕ → ℕ
-evicted_at s t = victims_of s.config (permits s) (length (due s t)) (len s.leases)
+abbrev pub number_evicted : Machine → ℕ → ℕ
+number_evicted s t = number_of_victims s.config (permits s) (length (due s t)) (len s.leases)
 
 -- the victims of a pass: any of the keys that are due, each once, and exactly so many
 pub record AreVictims (s : Machine) (t : ℕ) (victims : List Key) : Type 0 where
   pub expired : All (Contains (due s t)) victims
   pub once : IsDistinct key_eq victims
-  pub number : length victims ≡ evicted_at s t
+  pub number : length victims ≡ number_evicted s t
 
 -- the machine after a pass: the victims' leases and their ids' rows are gone, and it is the previous pass. The number expected stays
 abbrev pub evicted : Machine → ℕ → List Key → Machine

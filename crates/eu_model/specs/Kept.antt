@@ -16,7 +16,7 @@ use Rattle.eu_model.specs.Record.{Record, duration}
 use Rattle.eu_model.specs.Record.Kind.{Fresh}
 use Rattle.eu_model.specs.Meter.{is_permitted, expected_after}
 use Rattle.eu_model.specs.Maps.{with_value, without}
-use Rattle.eu_model.specs.Evict.{extra_time, victims_of}
+use Rattle.eu_model.specs.Evict.{extra_time, number_of_victims}
 use Rattle.eu_model.specs.Change.{Change, register, renew, cancel}
 use Rattle.eu_model.specs.Plain.{Plain, listed}
 
@@ -81,14 +81,14 @@ kept_updated p = expected_after p.config p.expected (len p.leases)
 abbrev pub kept_due : Plain → ℕ → List Key
 kept_due p t = map (λ e. e.0) (filter (λ e. kept_expired e.1 t (extra_time p.config p.previous t)) (entries p.leases))
 
-abbrev pub kept_evicted_at : Plain → ℕ → ℕ
-kept_evicted_at p t = victims_of p.config (is_permitted p.config p.expected p.last) (length (kept_due p t)) (len p.leases)
+abbrev pub kept_number_evicted : Plain → ℕ → ℕ
+kept_number_evicted p t = number_of_victims p.config (is_permitted p.config p.expected p.last) (length (kept_due p t)) (len p.leases)
 
 -- the victims of a pass
 pub record AreKeptVictims (p : Plain) (t : ℕ) (victims : List Key) : Type 0 where
   pub expired : All (Contains (kept_due p t)) victims
   pub once : IsDistinct key_eq victims
-  pub number : length victims ≡ kept_evicted_at p t
+  pub number : length victims ≡ kept_number_evicted p t
 
 abbrev pub kept_evicted : Plain → ℕ → List Key → Plain
 kept_evicted p t victims = record p {

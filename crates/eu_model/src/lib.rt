@@ -12,3 +12,6 @@ pub use commands::{Command, Entry, Reply};
 pub use keys::Keys;
 pub use law::plain_form_decides;
 pub use views::{Counts, Listed, Query, Times, View};
+
+#[cfg(test)]
+mod tests;

@@ -15,7 +15,7 @@ use Rattle.eu_model.specs.Kept.{kept_expired}
 use Rattle.eu_store.specs.Stored.{expired_keys}
 use Rattle.eu_store.proofs.SortedLemmas.{passing, gathered}
 use Rattle.eu_base.specs.Key.{key_cmp, key_eq}
-use Rattle.eu_base.proofs.KeyLemmas.{keys_total, keys_exact, key_eq-ties}
+use Rattle.eu_base.proofs.KeyLemmas.{keys_total, keys_exact, key_eq-ties, key_eq-tie}
 
 flipped : (k q : Key) → key_eq k q ≡ eq_by_cmp key_cmp q k
 flipped k q = key_eq-ties k q ∙ (eq_by_cmp_equiv keys_total).symm k q
@@ -106,10 +106,7 @@ one_at_most false = omega arith
 abbrev pub expired_among : ℕ → ℕ → List (Key × Listed) → List Key
 expired_among moment extra es = passing (λ (l : Listed). kept_expired l moment extra) es
 
-same_eq : key_eq ≡ eq_by_cmp key_cmp
-same_eq i a b = key_eq-ties a b i
-
 -- gathered in any order and sorted, they are those of the map
 pub sorted_expired : (moment extra : ℕ) (es : List (Key × Listed)) (ks : List Key) → IsDistinct key_eq (keys_of es) → IsPermutation (expired_among moment extra es) ks → IsSorted key_cmp ks → ks ≡ expired_keys (held_of es) moment extra
 sorted_expired moment extra es ks apart moved up =
-    gathered (λ (l : Listed). kept_expired l moment extra) keys_total keys_exact (record { app = []; id = [] }) es ks (subst (λ (e : Key → Key → Bool). IsDistinct e (keys_of es)) same_eq apart) moved up
+    gathered (λ (l : Listed). kept_expired l moment extra) keys_total keys_exact (record { app = []; id = [] }) es ks (subst (λ (e : Key → Key → Bool). IsDistinct e (keys_of es)) key_eq-tie apart) moved up

@@ -5,8 +5,9 @@ use Rattle.std.proofs.lemmas.List.Sorted.{All-permutation}
 use Rattle.std.specs.List.{IsDistinct}
 use Rattle.eu_base.specs.declared.names.Key.{Key}
 use Rattle.eu_base.specs.Key.{key_eq}
+use Rattle.eu_base.proofs.KeyLemmas.{key_eq-flips}
 use Rattle.eu_core.specs.Pass.{due}
-use Rattle.eu_core.proofs.OnceLemmas.{IsDistinct-due, IsDistinct-take, flips}
+use Rattle.eu_core.proofs.OnceLemmas.{IsDistinct-due, IsDistinct-take}
 use Rattle.eu_core.proofs.pass.run_pass.Goals as goal
 
 -- the front of a list that is written over a part of another
@@ -26,6 +27,6 @@ pub returns-clause-once : goal.returns-clause-once
 returns-clause-once g c =
     let shuffled = c.choose.new.items in
     let apart = subst (λ (l : List Key). IsDistinct key_eq l) (sym (c.deref_mut.ensures.value ∙ c.in_ok-keys.ensures)) (IsDistinct-due c.args.permitted c.args.leases.now.held c.args.moment c.args.extra) in
-    let moved = c.choose.ensures.distinct key_eq flips apart in
+    let moved = c.choose.ensures.distinct key_eq key_eq-flips apart in
     let kept = front_of _ c.in_ok-keys.keys.len c.truncate.new.self.items shuffled (drop (length shuffled) c.in_ok-keys.keys.items) c.truncate.ensures.items (omega arith) in
     subst (λ (l : List Key). IsDistinct key_eq l) (sym kept) (IsDistinct-take _ shuffled moved)

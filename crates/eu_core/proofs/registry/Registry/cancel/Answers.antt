@@ -1,4 +1,4 @@
-use Rattle.std.proofs.Common.{◌≡◌, ◌-◌, subst, sym, refl, arith}
+use Rattle.std.proofs.Common.{◌≡◌, ◌-◌, subst, sym, refl}
 use Rattle.std.specs.Prelude.{Ok}
 use Rattle.eu_model.specs.declared.commands.Command.TheVariants.{Cancel}
 use Rattle.eu_model.specs.declared.commands.Reply.TheVariants.{Done}

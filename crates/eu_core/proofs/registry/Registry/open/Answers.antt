@@ -1,8 +1,5 @@
-use Rattle.std.proofs.Common.{◌≡◌, ap, sym, ◌∙◌, arith}
+use Rattle.std.proofs.Common.{sym, ◌∙◌}
 use Rattle.std.specs.Prelude.{None}
-use Rattle.std.specs.FinMap.{len, len-empty}
-use Rattle.eu_base.specs.Key.{key_cmp}
-use Rattle.eu_model.specs.declared.views.Listed.{Listed}
 use Rattle.eu_model.specs.Plain.{Plain}
 use Rattle.eu_model.proofs.OpeningLemmas.{plain-opening}
 use Rattle.eu_core.proofs.registry.Registry.open.Goals as goal

@@ -1,6 +1,5 @@
-use Rattle.std.proofs.Common.{◌≡◌, ◌<◌, ap, sym, ◌∙◌, refl, subst, arith}
+use Rattle.std.proofs.Common.{◌≡◌, ap, sym, ◌∙◌, refl, subst}
 use Rattle.std.specs.Prelude.{None, Some, Ok, Err, true}
-use Rattle.std.specs.FinMap.{len}
 use Rattle.eu_base.specs.declared.faults.Fault.TheVariants.{Full, Exhausted}
 use Rattle.eu_model.specs.declared.commands.Command.TheVariants.{Register}
 use Rattle.eu_model.specs.declared.commands.Reply.TheVariants.{Registered}

@@ -1,4 +1,4 @@
-use Rattle.std.proofs.Common.{◌≡◌, ◌+◌, ◌*◌, ap, sym, ◌∙◌, subst, arith}
+use Rattle.std.proofs.Common.{◌≡◌, ◌+◌, ap, sym, ◌∙◌, subst}
 use Rattle.std.specs.Prelude.{None, Ok, Err, Some}
 use Rattle.eu_base.specs.declared.statuses.Status.TheVariants.{Unknown}
 use Rattle.eu_model.specs.declared.commands.Command.TheVariants.{Renew}

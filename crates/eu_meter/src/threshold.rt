@@ -18,7 +18,7 @@ pub struct Threshold {
 }
 
 impl Model for Threshold {
-    ghost use Rattle.eu_core.specs.Meter.{Expectation, coded_expectation};
+    ghost use Rattle.eu_meter.specs.Meter.{Expectation, coded_expectation};
 
     ghost Value = { Expectation };
 
@@ -26,7 +26,7 @@ impl Model for Threshold {
 
     ghost use Rattle.std.specs.Prelude.{◌≡◌, ◌≤◌, ◌^◌};
     ghost use Rattle.eu_model.specs.Meter.{threshold as threshold_at};
-    ghost use Rattle.eu_core.specs.Threshold.{IsUpToDate};
+    ghost use Rattle.eu_meter.specs.Threshold.{IsUpToDate};
 
     ghost view = { λ t. record { config = t.config; expected = t.expected } };
 
@@ -34,7 +34,7 @@ impl Model for Threshold {
 
     ghost inverse = { λ e. record { config = e.config; expected = e.expected; value = threshold_at e.config e.expected } };
 
-    ghost use Rattle.eu_core.specs.Threshold.{given_back};
+    ghost use Rattle.eu_meter.specs.Threshold.{given_back};
 
     ghost inverse_ok = { given_back };
 }

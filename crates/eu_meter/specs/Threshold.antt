@@ -1,7 +1,7 @@
 -- What is true of a stored threshold
 use Rattle.std.specs.Prelude.{◌≡◌, ◌≤◌, ◌^◌}
 use Rattle.eu_model.specs.Meter.{threshold}
-use Rattle.eu_core.specs.declared.threshold.Threshold.TheInside.{Inside}
+use Rattle.eu_meter.specs.declared.threshold.Threshold.TheInside.{Inside}
 use Rattle.std.proofs.Common.{sym}
 
 -- the stored value is the threshold of the number expected, which is within its limit

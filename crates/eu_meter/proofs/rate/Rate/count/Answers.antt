@@ -1,7 +1,7 @@
 use Rattle.std.proofs.Common.{ap, sym, ◌∙◌, ◌+◌}
 use Rattle.eu_model.proofs.MarkLemmas.{last_renewal, since_renewal}
-use Rattle.eu_core.specs.Meter.{Counted}
-use Rattle.eu_core.proofs.rate.Rate.count.Goals as goal
+use Rattle.eu_meter.specs.Meter.{Counted}
+use Rattle.eu_meter.proofs.rate.Rate.count.Goals as goal
 
 pub returns-clause-marks : goal.returns-clause-marks
 returns-clause-marks c = λ marks counts. record {

@@ -2,7 +2,7 @@
 ghost use Rattle.std.specs.Prelude.{◌≡◌, ◌+◌, ◌^◌, ◌↔◌, ◌++◌, ◌∷◌, [], List, IfErr, OnOk, OnErr};
 ghost use Rattle.eu_model.specs.Marks.{Mark};
 ghost use Rattle.eu_model.specs.Marks.Mark.{Renewal, Minute};
-ghost use Rattle.eu_core.specs.Meter.{CountsMarks};
+ghost use Rattle.eu_meter.specs.Meter.{CountsMarks};
 
 use eu_base::Fault;
 use std::marker::Model;
@@ -19,7 +19,7 @@ pub struct Rate {
 
 impl Model for Rate {
     ghost use Rattle.std.specs.Prelude.{◌≤◌, ◌^◌};
-    ghost use Rattle.eu_core.specs.Meter.{Counted, coded_counted};
+    ghost use Rattle.eu_meter.specs.Meter.{Counted, coded_counted};
 
     ghost Value = { Counted };
 

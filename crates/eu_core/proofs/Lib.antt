@@ -1,7 +1,9 @@
-pub mod EntryLemmas
+pub mod RowLemmas
 pub mod JoinLemmas
 pub mod RegisterLemmas
+pub mod AdoptLemmas
 pub mod RenewLemmas
+pub mod StatusLemmas
 pub mod CancelLemmas
 pub mod LookLemmas
 pub mod PassLemmas

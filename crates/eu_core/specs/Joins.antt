@@ -1,13 +1,17 @@
 -- What a registration reads and writes
-use Rattle.std.specs.Prelude.{◌≡◌, ℕ, Bool, List, Option, Some, None}
-use Rattle.std.specs.FinMap.{FinMap, get, insert}
+use Rattle.std.specs.Prelude.{◌≡◌, ℕ, Bool, Option, Some, None, IsSomeAnd}
+use Rattle.std.specs.Option.{option_map}
+use Rattle.std.specs.FinMap.{FinMap, get}
 use Rattle.eu_base.specs.declared.statuses.Status.{Status}
 use Rattle.eu_base.specs.declared.instances.Instance.{Instance}
 use Rattle.eu_base.specs.Key.{name_cmp, key_cmp}
 use Rattle.eu_model.specs.declared.views.Listed.{Listed}
+use Rattle.eu_model.specs.Change.{Change}
 use Rattle.eu_model.specs.Maps.{with_value}
+use Rattle.eu_model.specs.Plain.{Plain}
 use Rattle.eu_model.specs.Kept.{kept_register}
 use Rattle.eu_store.specs.Stored.{term_of}
+use Rattle.eu_core.specs.Rows.{with_row}
 use Rattle.eu_core.specs.declared.joins.HeldPart.{HeldPart}
 
 -- what is read of a held lease
@@ -17,17 +21,30 @@ pub record IsPart (part : HeldPart) (l : Listed) : Type 0 where
   pub dirty : part.dirty ≡ l.instance.dirty
   pub lease : part.lease ≡ term_of l
 
--- the row that is to be put where the id has none
-abbrev pub row_to_put : List ℕ → Option Status → Option Status → Option (List ℕ × Status)
-row_to_put id None (Some row) = Some (id, row)
-row_to_put id None None = None
-row_to_put id (Some old) row = None
+-- a held lease with the overridden status of a part: an adoption puts another there than was read
+abbrev pub read_as : HeldPart → Listed → Listed
+read_as part l = record l { instance = record l.instance { overridden = part.overridden } }
 
-abbrev pub with_put : FinMap name_cmp Status → Option (List ℕ × Status) → FinMap name_cmp Status
-with_put rows None = rows
-with_put rows (Some put) = insert rows put.0 put.1
+abbrev pub read : Option HeldPart → Option Listed → Option Listed
+read None held = None
+read (Some part) held = option_map (read_as part) held
 
--- the lease and the row that a registration leaves. Neither depends on the number expected
-pub record Joins (leases leases' : FinMap key_cmp Listed) (rows rows' : FinMap name_cmp Status) (n : Instance) (replicated : Bool) (t : ℕ) : Type 0 where
-  pub lease : leases' ≡ with_value leases n.key (kept_register (get leases n.key) (get rows n.key.id) 0 n replicated t).lease
-  pub row : rows' ≡ with_value rows n.key.id (kept_register (get leases n.key) (get rows n.key.id) 0 n replicated t).row
+-- a part is that of the lease which is held, its overridden status aside, and none where none is held
+abbrev pub IsRead : Option HeldPart → Option Listed → Type 0
+IsRead None held = held ≡ None
+IsRead (Some part) held = IsSomeAnd held (λ l. IsPart part (read_as part l))
+
+-- a part with the overridden status that is told, if one is
+abbrev pub told_part : Option HeldPart → Option Status → Option HeldPart
+told_part None told = None
+told_part (Some part) None = Some part
+told_part (Some part) (Some overridden) = Some (record part { overridden = overridden })
+
+-- the lease and the row that a registration leaves, from a held lease and a row. Neither depends on the number expected
+pub record Joins (leases leases' : FinMap key_cmp Listed) (rows rows' : FinMap name_cmp Status) (n : Instance) (held : Option Listed) (held_row : Option Status) (replicated : Bool) (t : ℕ) : Type 0 where
+  pub lease : leases' ≡ with_value leases n.key (kept_register held held_row 0 n replicated t).lease
+  pub row : rows' ≡ with_row rows n.key.id (kept_register held held_row 0 n replicated t).row
+
+-- what a registration changes, where this is read of the held lease and the id has this row
+abbrev pub joined_by : Plain → Option HeldPart → Option Status → Instance → Bool → ℕ → Change Listed
+joined_by p part row n replicated t = kept_register (read part (get p.leases n.key)) row p.expected n replicated t

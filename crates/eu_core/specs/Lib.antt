@@ -1,5 +1,4 @@
-pub mod Entries
-pub mod Store
+pub mod Rows
 pub mod Joins
 pub mod Registry
 pub mod Shown

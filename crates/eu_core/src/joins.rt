@@ -1,12 +1,12 @@
 //! What a registration writes into leases and rows.
-ghost use Rattle.std.specs.Prelude.{◌≡◌, ◌<◌, ◌≤◌, IsSome, IsSomeAnd, IfSome, IfNone, IfOk, IfErr, OnOk, OnErr, None};
+ghost use Rattle.std.specs.Prelude.{◌≡◌, ◌<◌, ◌≤◌, IsSomeAnd, IfErr, OnOk, OnErr, None, Some};
 ghost use Rattle.std.specs.FinMap as map;
 ghost use Rattle.eu_model.specs.Change.{up_after};
-ghost use Rattle.eu_core.specs.Joins.{IsPart, row_to_put, with_put, Joins};
+ghost use Rattle.eu_core.specs.Joins.{IsPart, IsRead, read, read_as, told_part, Joins};
 
 use crate::overrides::Overrides;
-use crate::rule::settle;
-use eu_base::{Fault, Id, Instance, Key, Moment, Status};
+use crate::statuses::settle;
+use eu_base::{Fault, Instance, Key, Moment, Status};
 use eu_lease::Lease;
 use eu_store::{Held, Leases};
 use std::alloc::{AllocError, Global};
@@ -22,8 +22,8 @@ pub struct HeldPart {
 
 /// What is read of the lease of that key, if it is held.
 pub fn held_part(leases: &Leases, key: &Key) -> Option<HeldPart>
-    ensures none { IfNone result (map.get leases.now.held key.now ≡ None) }
-    ensures some { IfSome result (λ part. IsSomeAnd (map.get leases.now.held key.now) (IsPart part)) }
+    ensures read { IsRead result (map.get leases.now.held key.now) }
+    ensures whole { read result (map.get leases.now.held key.now) ≡ map.get leases.now.held key.now }
 {
     match leases.get(key) {
         Some(held) => Some(HeldPart {
@@ -33,6 +33,16 @@ pub fn held_part(leases: &Leases, key: &Key) -> Option<HeldPart>
             lease: held.lease(),
         }),
         None => None,
+    }
+}
+
+/// What was read of a lease, with the overridden status that is told, if one is.
+pub fn told_part(held: Option<HeldPart>, told: Option<Status>) -> Option<HeldPart>
+    ensures { result ≡ told_part held told }
+{
+    match (held, told) {
+        (Some(held), Some(overridden)) => Some(HeldPart { overridden, ..held }),
+        _ => held,
     }
 }
 
@@ -47,41 +57,7 @@ fn begun(mut lease: Lease, status: Status, moment: Moment) -> Lease
     lease
 }
 
-/// Makes room for the row of an id, where it is to be put, and gives the row.
-fn prepare_row(
-    rows: &mut Overrides,
-    alloc: Global,
-    id: &Id,
-    row: Option<Status>,
-    new_row: Option<Status>,
-) -> Result<Option<(Id, Status)>, AllocError>
-    ensures rows { rows.new.rows ≡ rows.old.rows }
-    ensures put { IfOk result (λ put. put ≡ row_to_put id.now row new_row) }
-    ensures room { IfOk result (λ put. IsSome put → 0 < rows.new.room) }
-{
-    match (row, new_row) {
-        (None, Some(status)) => {
-            rows.reserve()?;
-            let id = id.copy(alloc)?;
-            Ok(Some((id, status)))
-        }
-        _ => Ok(None),
-    }
-}
-
-/// Puts the row for which room was made, if there is one.
-fn put_row(rows: &mut Overrides, put: Option<(Id, Status)>)
-    requires absent { IfSome put (λ p. map.get rows.old.rows p.0 ≡ None) }
-    requires room { IsSome put → 0 < rows.old.room }
-    ensures { rows.new.rows ≡ with_put rows.old.rows put }
-{
-    match put {
-        Some((id, status)) => rows.put_new(id, status),
-        None => {}
-    }
-}
-
-/// Registers an instance whose key isn't held.
+/// Registers an instance whose key isn't held, where the id has this row.
 ///
 /// A refusal, for want of memory, leaves leases and rows as they were.
 pub fn join_new(
@@ -89,19 +65,19 @@ pub fn join_new(
     rows: &mut Overrides,
     alloc: Global,
     mut instance: Instance,
+    row: Option<Status>,
     replicated: bool,
     moment: Moment,
 ) -> Result<(), Fault>
     requires absent { map.get leases.old.held instance.key ≡ None }
     requires roomy { map.len leases.old.held < 65536 }
-    ensures ok { OnOk result (Joins leases.old.held leases.new.held rows.old.rows rows.new.rows instance replicated moment) }
+    ensures ok { OnOk result (Joins leases.old.held leases.new.held rows.old.rows rows.new.rows instance None row replicated moment) }
     ensures err_leases { OnErr result (leases.new.held ≡ leases.old.held) }
     ensures err_rows { OnErr result (rows.new.rows ≡ rows.old.rows) }
     ensures no_other { IfErr result (λ f. f ≡ Fault.OutOfMemory) }
 {
-    let row = rows.get(&instance.key.id);
     let settled = settle(instance.status, instance.overridden, row, None, replicated);
-    let put = prepare_row(rows, alloc, &instance.key.id, row, settled.row)?;
+    let put = rows.prepare(alloc, &instance.key.id, settled.row)?;
     let key = instance.key.copy(alloc)?;
     leases.prepare_put(&key)?;
     let fresh = Lease::fresh(moment, instance.secs);
@@ -109,7 +85,7 @@ pub fn join_new(
     instance.status = settled.status;
     instance.overridden = settled.overridden;
     leases.put_prepared(key, Held::new(instance, lease));
-    put_row(rows, put);
+    rows.put(put);
     Ok(())
 }
 
@@ -122,16 +98,16 @@ fn join_over(
     alloc: Global,
     mut instance: Instance,
     held: HeldPart,
+    row: Option<Status>,
     replicated: bool,
     moment: Moment,
 ) -> Result<(), AllocError>
-    requires held { IsSomeAnd (map.get leases.old.held instance.key) (IsPart held) }
+    requires held { IsSomeAnd (map.get leases.old.held instance.key) (λ l. IsPart held (read_as held l)) }
     requires newer { held.dirty ≤ instance.dirty }
-    ensures ok { OnOk result (Joins leases.old.held leases.new.held rows.old.rows rows.new.rows instance replicated moment) }
+    ensures ok { OnOk result (Joins leases.old.held leases.new.held rows.old.rows rows.new.rows instance (read (Some held) (map.get leases.old.held instance.key)) row replicated moment) }
     ensures err_leases { OnErr result (leases.new.held ≡ leases.old.held) }
     ensures err_rows { OnErr result (rows.new.rows ≡ rows.old.rows) }
 {
-    let row = rows.get(&instance.key.id);
     let settled = settle(
         instance.status,
         instance.overridden,
@@ -139,13 +115,13 @@ fn join_over(
         Some(held.status),
         replicated,
     );
-    let put = prepare_row(rows, alloc, &instance.key.id, row, settled.row)?;
+    let put = rows.prepare(alloc, &instance.key.id, settled.row)?;
     let anew = held.lease.anew(moment, instance.secs);
     let lease = begun(anew, settled.status, moment);
     instance.status = settled.status;
     instance.overridden = settled.overridden;
     leases.replace(Held::new(instance, lease));
-    put_row(rows, put);
+    rows.put(put);
     Ok(())
 }
 
@@ -158,16 +134,16 @@ fn join_under(
     alloc: Global,
     instance: &Instance,
     held: HeldPart,
+    row: Option<Status>,
     replicated: bool,
     moment: Moment,
 ) -> Result<(), AllocError>
-    requires held { IsSomeAnd (map.get leases.old.held instance.now.key) (IsPart held) }
+    requires held { IsSomeAnd (map.get leases.old.held instance.now.key) (λ l. IsPart held (read_as held l)) }
     requires older { instance.now.dirty < held.dirty }
-    ensures ok { OnOk result (Joins leases.old.held leases.new.held rows.old.rows rows.new.rows instance.now replicated moment) }
+    ensures ok { OnOk result (Joins leases.old.held leases.new.held rows.old.rows rows.new.rows instance.now (read (Some held) (map.get leases.old.held instance.now.key)) row replicated moment) }
     ensures err_leases { OnErr result (leases.new.held ≡ leases.old.held) }
     ensures err_rows { OnErr result (rows.new.rows ≡ rows.old.rows) }
 {
-    let row = rows.get(&instance.key.id);
     let settled = settle(
         held.status,
         held.overridden,
@@ -175,15 +151,15 @@ fn join_under(
         Some(held.status),
         replicated,
     );
-    let put = prepare_row(rows, alloc, &instance.key.id, row, settled.row)?;
+    let put = rows.prepare(alloc, &instance.key.id, settled.row)?;
     let anew = held.lease.anew(moment, instance.secs);
     let lease = begun(anew, settled.status, moment);
     leases.rejoin(instance, settled.status, settled.overridden, lease);
-    put_row(rows, put);
+    rows.put(put);
     Ok(())
 }
 
-/// Registers an instance whose key is held.
+/// Registers an instance whose key is held, where this is read of its lease and the id has this row.
 ///
 /// A refusal, for want of memory, leaves leases and rows as they were.
 pub fn join_held(
@@ -192,17 +168,20 @@ pub fn join_held(
     alloc: Global,
     instance: Instance,
     held: HeldPart,
+    row: Option<Status>,
     replicated: bool,
     moment: Moment,
 ) -> Result<(), AllocError>
-    requires held { IsSomeAnd (map.get leases.old.held instance.key) (IsPart held) }
-    ensures ok { OnOk result (Joins leases.old.held leases.new.held rows.old.rows rows.new.rows instance replicated moment) }
+    requires held { IsSomeAnd (map.get leases.old.held instance.key) (λ l. IsPart held (read_as held l)) }
+    ensures ok { OnOk result (Joins leases.old.held leases.new.held rows.old.rows rows.new.rows instance (read (Some held) (map.get leases.old.held instance.key)) row replicated moment) }
     ensures err_leases { OnErr result (leases.new.held ≡ leases.old.held) }
     ensures err_rows { OnErr result (rows.new.rows ≡ rows.old.rows) }
 {
     if instance.dirty < held.dirty {
-        join_under(leases, rows, alloc, &instance, held, replicated, moment)
+        join_under(
+            leases, rows, alloc, &instance, held, row, replicated, moment,
+        )
     } else {
-        join_over(leases, rows, alloc, instance, held, replicated, moment)
+        join_over(leases, rows, alloc, instance, held, row, replicated, moment)
     }
 }

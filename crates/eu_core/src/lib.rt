@@ -1,12 +1,11 @@
 //! The lease registry, on one thread: each call is a step of the lease machine.
 #![tactic(auto)]
 
-mod entries;
 mod joins;
 mod overrides;
 mod pass;
 mod registry;
-mod rule;
+mod statuses;
 
 pub use registry::Registry;
 

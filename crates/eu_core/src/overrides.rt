@@ -1,31 +1,30 @@
 //! The override rows, by the ids of instances.
-ghost use Rattle.std.specs.Prelude.{◌≡◌, ◌<◌, OnOk, None};
+ghost use Rattle.std.specs.Prelude.{◌≡◌, ◌<◌, IsSome, IsOk, IfOk, None};
 ghost use Rattle.std.specs.FinMap as map;
+ghost use Rattle.eu_core.specs.Rows.{with_put, with_row};
 
-use crate::entries::place;
+use crate::statuses::is_status;
 use eu_base::{Id, Status};
+use indexmap::IndexMap;
 use std::alloc::{AllocError, Global};
 use std::marker::Model;
 
-/// The override rows. Contracts see a finite map and some room.
+/// The override rows (`overriddenInstanceStatusMap` in Eureka). Contracts see a finite map and some room.
 #[derive(Debug, Drop)]
 pub struct Overrides {
-    entries: Vec<(Id, Status)>,
+    table: IndexMap<Id, Status>,
 }
 
 impl Model for Overrides {
-    ghost use Rattle.std.specs.Prelude.{◌-◌, vec_len, vec_capacity};
-    ghost use Rattle.eu_base.specs.Key.{name_cmp};
-    ghost use Rattle.eu_core.specs.Entries.{AreApart, map_of};
-    ghost use Rattle.eu_core.specs.Store.{Rows, coded_table};
+    ghost use Rattle.std.specs.FinMap as map;
+    ghost use Rattle.indexmap.specs.IndexMap.{spare};
+    ghost use Rattle.eu_core.specs.Rows.{Rows, coded_table};
 
     ghost Value = { Rows };
 
     ghost coded = { coded_table };
 
-    ghost view = { λ a. record { rows = map_of a.entries.items; room = vec_capacity a.entries - vec_len a.entries } };
-
-    ghost invariant = { λ a. AreApart name_cmp a.entries.items };
+    ghost view = { λ a. record { rows = map.from_entries a.table.entries; room = spare a.table } };
 }
 
 impl Overrides {
@@ -34,7 +33,7 @@ impl Overrides {
         ensures { result.rows ≡ map.empty }
     {
         Overrides {
-            entries: Vec::new(alloc),
+            table: IndexMap::new(alloc),
         }
     }
 
@@ -42,38 +41,49 @@ impl Overrides {
     pub fn get(&self, id: &Id) -> Option<Status>
         ensures { result ≡ map.get self.now.rows id.now }
     {
-        match place(&self.entries, id) {
-            Some(at) => Some(self.entries[at].1),
-            None => None,
-        }
+        self.table.get(id).copied()
     }
 
-    /// Makes room for one row more.
-    pub fn reserve(&mut self) -> Result<(), AllocError>
+    /// Takes all memory that the row of an id wants, and gives what is to be put: nothing, where there is no row, or where the id
+    /// has it already. Where there is no row, that takes no memory.
+    pub fn prepare(
+        &mut self,
+        alloc: Global,
+        id: &Id,
+        row: Option<Status>,
+    ) -> Result<Option<(Id, Status)>, AllocError>
         ensures rows { self.new.rows ≡ self.old.rows }
-        ensures room { OnOk result (0 < self.new.room) }
+        ensures put { IfOk result (λ put. with_put self.old.rows put ≡ with_row self.old.rows id.now row) }
+        ensures room { IfOk result (λ put. IsSome put → 0 < self.new.room) }
+        ensures memory { row ≡ None → IsOk result }
     {
-        self.entries.reserve(1)
-    }
-
-    /// Puts the row of an id that has none, into the room that was made.
-    pub fn put_new(&mut self, id: Id, status: Status)
-        requires absent { map.get self.old.rows id ≡ None }
-        requires room { 0 < self.old.room }
-        ensures { self.new.rows ≡ map.insert self.old.rows id status }
-    {
-        self.entries.push_reserved((id, status));
-    }
-
-    /// Removes the row of that id, if there is one.
-    pub fn remove(&mut self, id: &Id)
-        ensures { self.new.rows ≡ map.remove self.old.rows id.now }
-    {
-        match place(&self.entries, id) {
-            Some(at) => {
-                let _row = self.entries.remove(at);
+        let Some(status) = row else {
+            return Ok(None);
+        };
+        match self.get(id) {
+            Some(held) if is_status(held, status) => Ok(None),
+            _ => {
+                self.table.reserve(1)?;
+                Ok(Some((id.copy(alloc)?, status)))
             }
-            None => {}
         }
+    }
+
+    /// Puts the row that was prepared, if there is one. Takes no memory.
+    pub fn put(&mut self, put: Option<(Id, Status)>)
+        requires { IsSome put → 0 < self.old.room }
+        ensures { self.new.rows ≡ with_put self.old.rows put }
+    {
+        if let Some((id, status)) = put {
+            self.table.insert(id, status).unwrap();
+        }
+    }
+
+    /// Takes out the row of that id. Takes no memory.
+    pub fn take(&mut self, id: &Id) -> Option<Status>
+        ensures before { result ≡ map.get self.old.rows id.now }
+        ensures rows { self.new.rows ≡ map.remove self.old.rows id.now }
+    {
+        self.table.swap_remove(id)
     }
 }

@@ -76,6 +76,6 @@ fn remove_all(leases: &mut Leases, rows: &mut Overrides, keys: &[Key])
 {
     for key in keys {
         leases.take(key);
-        rows.remove(&key.id);
+        rows.take(&key.id);
     }
 }

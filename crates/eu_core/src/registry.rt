@@ -1,24 +1,29 @@
 //! The registry.
-ghost use Rattle.std.specs.Prelude.{◌≡◌, ◌≢◌, ℕ, Bool, OnErr, None, Ok, ◌&&◌, List, IfOk};
+ghost use Rattle.std.specs.Prelude.{◌≡◌, ◌≢◌, ℕ, Bool, OnOk, OnErr, None, Ok, List, IfOk, IfErr, IsOk};
+ghost use Rattle.std.specs.Option.{option_copied};
+ghost use Rattle.std.specs.FinMap as map;
+ghost use Rattle.eu_model.specs.Change.{renew_reply};
 ghost use Rattle.eu_model.specs.Machine.{opening};
 ghost use Rattle.eu_model.specs.Plain.{plain};
-ghost use Rattle.eu_model.specs.Answers.{Answers, Shows};
+ghost use Rattle.eu_model.specs.Answers.{Answers, IsRefusal, Shows};
 ghost use Rattle.eu_model.specs.View.{counts, one};
-ghost use Rattle.eu_model.specs.Kept.{kept_expired};
+ghost use Rattle.eu_model.specs.Kept.{after, kept_join_fault, kept_one};
 ghost use Rattle.eu_model.specs.Evict.{extra_time};
 ghost use Rattle.eu_core.specs.Evicts.{Draws};
+ghost use Rattle.eu_core.specs.Joins.{IsRead, joined_by};
 ghost use Rattle.eu_core.specs.Shown.{shown};
 
-use crate::joins::{held_part, join_held, join_new};
+use crate::joins::{HeldPart, held_part, join_held, join_new, told_part};
 use crate::overrides::Overrides;
 use crate::pass::run_pass;
-use crate::rule::{is_unknown, override_rule};
-use eu_base::{Config, Fault, Instance, Key, Moment};
+use crate::statuses::{brought, is_status, told};
+use eu_base::{Config, Fault, Instance, Key, Moment, Stamp, Status};
 use eu_clock::Chooser;
+use eu_lease::override_rule;
 use eu_meter::{Rate, Threshold};
 use eu_model::{Command, Counts, Keys, Reply, Times};
 use eu_store::{Held, Leases, MOST_LEASES};
-use std::alloc::Global;
+use std::alloc::{AllocError, Global};
 use std::marker::Model;
 
 /// A lease registry (`AbstractInstanceRegistry` in Eureka). Contracts see its plain form.
@@ -98,7 +103,49 @@ impl Registry {
         ensures answers { Answers self.old (Command.Register instance replicated) moment result self.new }
         ensures err { OnErr result (self.new ≡ self.old) }
     {
-        match held_part(&self.leases, &instance.key) {
+        let held = held_part(&self.leases, &instance.key);
+        let row = self.rows.get(&instance.key.id);
+        self.join(alloc, instance, held, row, replicated, moment)
+    }
+
+    /// Adopts an instance of which a peer told (`PeerEurekaNode.syncInstancesIfTimestampDiffers` in Eureka).
+    ///
+    /// An overridden status other than UNKNOWN becomes the row of the id and the held instance's overridden status. Then the
+    /// instance is registered, as by a peer: replies, refusals and what stays are those of `register`.
+    pub fn adopt(
+        &mut self,
+        alloc: Global,
+        instance: Instance,
+        moment: Moment,
+    ) -> Result<Reply, Fault>
+        ensures answers { Answers self.old (Command.Adopt instance) moment result self.new }
+        ensures err { OnErr result (self.new ≡ self.old) }
+    {
+        let told = told(instance.overridden);
+        let held = told_part(held_part(&self.leases, &instance.key), told);
+        let row = told.or(self.rows.get(&instance.key.id));
+        self.join(alloc, instance, held, row, true, moment)
+    }
+
+    /// Registers an instance, where this is read of its lease and this is to be the row of its id.
+    fn join(
+        &mut self,
+        alloc: Global,
+        instance: Instance,
+        held: Option<HeldPart>,
+        row: Option<Status>,
+        replicated: bool,
+        moment: Moment,
+    ) -> Result<Reply, Fault>
+        requires held { IsRead held (map.get self.old.leases instance.key) }
+        requires row { row ≡ None → map.get self.old.rows instance.key.id ≡ None }
+        ensures fault { OnOk result (kept_join_fault self.old instance.key ≡ None) }
+        ensures reply { IfOk result (λ reply. reply ≡ (joined_by self.old held row instance replicated moment).reply) }
+        ensures after { OnOk result (self.new ≡ after self.old instance.key (joined_by self.old held row instance replicated moment)) }
+        ensures refused { IfErr result (λ f. IsRefusal (kept_join_fault self.old instance.key) f) }
+        ensures err { OnErr result (self.new ≡ self.old) }
+    {
+        match held {
             Some(held) => {
                 join_held(
                     &mut self.leases,
@@ -106,6 +153,7 @@ impl Registry {
                     alloc,
                     instance,
                     held,
+                    row,
                     replicated,
                     moment,
                 )?;
@@ -122,6 +170,7 @@ impl Registry {
                     &mut self.rows,
                     alloc,
                     instance,
+                    row,
                     replicated,
                     moment,
                 )?;
@@ -131,30 +180,116 @@ impl Registry {
         }
     }
 
-    /// Renews a lease at the moment, also one that has expired: a heartbeat without a stamp
-    /// (`AbstractInstanceRegistry.renew` in Eureka).
+    /// Renews a lease at the moment, also one that has expired: a heartbeat (`AbstractInstanceRegistry.renew` and
+    /// `InstanceResource.renewLease` in Eureka).
     ///
-    /// The lease has the status that the override rule gives, and one renewal is counted. Rows and the number expected stay.
-    /// The reply is `Done`, or `NotFound` where no lease is held or the override rule gives UNKNOWN; then nothing changes.
-    /// Refused with `Exhausted` where 2^62 renewals were counted in this minute; that changes nothing. Takes no memory.
-    pub fn renew(&mut self, key: &Key, replicated: bool, moment: Moment) -> Result<Reply, Fault>
-        ensures answers { Answers self.old (Command.Renew key.now None None replicated) moment result self.new }
+    /// The lease has the status that the override rule gives, and one renewal is counted. The reply is `NotFound` where no
+    /// lease is held or the override rule gives UNKNOWN; then nothing changes. It is `Stale` where a stamp is given that is
+    /// greater than the held one, `Conflict` with the instance as it is now where it is smaller and a peer sends it, and else
+    /// `Done`. At a peer's stale renewal an overridden status that is neither UNKNOWN nor the row already becomes the row and
+    /// the instance's overridden status. The number expected stays.
+    ///
+    /// Refused with `Exhausted` where 2^62 renewals were counted in this minute, or with `OutOfMemory`; that changes nothing.
+    /// Without a stamp it takes no memory.
+    pub fn renew(
+        &mut self,
+        alloc: Global,
+        key: &Key,
+        dirty: Option<Stamp>,
+        overridden: Option<Status>,
+        replicated: bool,
+        moment: Moment,
+    ) -> Result<Reply, Fault>
+        ensures answers { Answers self.old (Command.Renew key.now dirty overridden replicated) moment result self.new }
         ensures err { OnErr result (self.new ≡ self.old) }
-        ensures memory { result ≢ Err Fault.OutOfMemory }
+        ensures memory { dirty ≡ None → result ≢ Err Fault.OutOfMemory }
     {
         let row = self.rows.get(&key.id);
-        match held_part(&self.leases, key) {
-            Some(held) => {
-                let status = override_rule(held.status, row, Some(held.status), replicated);
-                if is_unknown(status) {
-                    return Ok(Reply::NotFound);
-                }
-                self.rate.count()?;
-                self.leases.renew_as(key, status, moment);
-                Ok(Reply::Done)
-            }
-            None => Ok(Reply::NotFound),
+        let Some(held) = self.leases.get(key) else {
+            return Ok(Reply::NotFound);
+        };
+        let own = held.instance().status;
+        let status = override_rule(own, row, Some(own), replicated);
+        if is_status(status, Status::Unknown) {
+            return Ok(Reply::NotFound);
         }
+        let mut rate = self.rate;
+        rate.count()?;
+        let reply = renew_reply(alloc, held.instance(), status, dirty, replicated)?;
+        let brought = brought(&reply, overridden, row, replicated);
+        let overridden = brought.unwrap_or(held.instance().overridden);
+        let put = self.rows.prepare(alloc, &key.id, brought)?;
+        self.leases.renew_as(key, moment, status, overridden, None);
+        self.rows.put(put);
+        self.rate = rate;
+        Ok(reply)
+    }
+
+    /// Overrides the status of an instance whose lease is visible (`AbstractInstanceRegistry.statusUpdate` in Eureka).
+    ///
+    /// The lease is renewed, and not counted. Where the status is another than the instance's, it becomes the instance's status
+    /// and overridden status and the row of its id, and a greater stamp replaces the held one; at UP the moment is the first at
+    /// which the instance was up, where there was none. The reply is `Done`, or `NotFound` where no lease is visible; then
+    /// nothing changes. The number expected and the counted renewals stay.
+    ///
+    /// Refused with `OutOfMemory` alone; that changes nothing.
+    pub fn set_status(
+        &mut self,
+        alloc: Global,
+        key: &Key,
+        status: Status,
+        dirty: Option<Stamp>,
+        moment: Moment,
+    ) -> Result<Reply, Fault>
+        ensures answers { (replicated : Bool) → Answers self.old (Command.SetStatus key.now status dirty replicated) moment result self.new }
+        ensures err { OnErr result (self.new ≡ self.old) }
+    {
+        let Some(held) = self.visible(key, moment) else {
+            return Ok(Reply::NotFound);
+        };
+        if is_status(held.instance().status, status) {
+            self.leases.renew(key, moment);
+            return Ok(Reply::Done);
+        }
+        let put = self.rows.prepare(alloc, &key.id, Some(status))?;
+        self.leases.renew_as(key, moment, status, status, dirty);
+        if is_status(status, Status::Up) {
+            self.leases.mark_up(key, moment);
+        }
+        self.rows.put(put);
+        Ok(Reply::Done)
+    }
+
+    /// Takes an override back from an instance whose lease is visible (`AbstractInstanceRegistry.deleteStatusOverride` in
+    /// Eureka).
+    ///
+    /// The lease is renewed, and not counted. Where the id has a row, it goes, the instance's overridden status becomes UNKNOWN
+    /// and its status the one that is given, or UNKNOWN, and a greater stamp replaces the held one. The reply is `Done`, or
+    /// `NotFound` where no lease is visible; then nothing changes. The number expected and the counted renewals stay. Takes no
+    /// memory.
+    pub fn unset_status(
+        &mut self,
+        key: &Key,
+        status: Option<Status>,
+        dirty: Option<Stamp>,
+        moment: Moment,
+    ) -> Reply
+        ensures { (replicated : Bool) → Answers self.old (Command.UnsetStatus key.now status dirty replicated) moment (Ok result) self.new }
+    {
+        let Some(_held) = self.visible(key, moment) else {
+            return Reply::NotFound;
+        };
+        match self.rows.take(&key.id) {
+            Some(_row) => {
+                let status = status.unwrap_or(Status::Unknown);
+                self.leases
+                    .renew_as(key, moment, status, Status::Unknown, dirty);
+            }
+            None => {
+                self.leases.renew(key, moment);
+            }
+        }
+        Reply::Done
     }
 
     /// Ends a lease, and removes the override row of its id, also where no lease is held
@@ -165,7 +300,7 @@ impl Registry {
     pub fn cancel(&mut self, key: &Key) -> Reply
         ensures { (replicated : Bool) (t : ℕ) → Answers self.old (Command.Cancel key.now replicated) t (Ok result) self.new }
     {
-        self.rows.remove(&key.id);
+        self.rows.take(&key.id);
         match self.leases.take(key) {
             Some(_lease) => {
                 self.threshold.left();
@@ -240,25 +375,22 @@ impl Registry {
     pub fn look(&self, key: &Key, moment: Moment) -> Option<(&Instance, Times)>
         ensures { Shows self.now (λ s. one s key.now moment) (shown result) }
     {
-        let permitted = self.threshold.permitted(self.rate.last());
-        match self.leases.get(key) {
-            Some(held) => {
-                if is_hidden(permitted, held, moment) {
-                    None
-                } else {
-                    Some((held.instance(), held.times()))
-                }
-            }
+        match self.visible(key, moment) {
+            Some(held) => Some((held.instance(), held.times())),
             None => None,
         }
     }
-}
 
-/// Whether a held lease isn't visible at a moment: eviction is permitted and it has expired.
-fn is_hidden(permitted: bool, held: &Held, moment: Moment) -> bool
-    ensures { result ≡ (permitted && kept_expired held.now moment 0) }
-{
-    permitted && held.expired(moment, 0)
+    /// What is held under that key, where it is visible at the moment.
+    fn visible(&self, key: &Key, moment: Moment) -> Option<&Held>
+        ensures { option_copied result ≡ kept_one self.now key.now moment }
+    {
+        let permitted = self.threshold.permitted(self.rate.last());
+        match self.leases.get(key) {
+            Some(held) if permitted && held.expired(moment, 0) => None,
+            held => held,
+        }
+    }
 }
 
 /// What a pass comes later than one interval after the pass before it, in milliseconds; 0 at the first pass.
@@ -272,4 +404,30 @@ fn extra_time(config: &Config, previous: Option<Moment>, moment: Moment) -> u64
         }
         None => 0,
     }
+}
+
+/// The reply to a renewal that gives this instance this status, by the stamp that its sender knows. Takes memory for a
+/// `Conflict` alone, whose instance is a copy.
+fn renew_reply(
+    alloc: Global,
+    instance: &Instance,
+    status: Status,
+    dirty: Option<Stamp>,
+    replicated: bool,
+) -> Result<Reply, AllocError>
+    ensures reply { IfOk result (λ reply. reply ≡ renew_reply dirty (record instance.now { status = status }) replicated) }
+    ensures memory { dirty ≡ None → IsOk result }
+{
+    let Some(stamp) = dirty else {
+        return Ok(Reply::Done);
+    };
+    if stamp.value > instance.dirty {
+        return Ok(Reply::Stale);
+    }
+    if stamp.value < instance.dirty && replicated {
+        let mut now = instance.copy(alloc)?;
+        now.status = status;
+        return Ok(Reply::Conflict(now));
+    }
+    Ok(Reply::Done)
 }

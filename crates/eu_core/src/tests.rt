@@ -1,6 +1,6 @@
 //! Values from the rules of Eureka's registry, worked out by hand.
 use crate::Registry;
-use eu_base::{App, Config, Fault, Id, Instance, Key, Moment, Status};
+use eu_base::{App, Config, Fault, Id, Instance, Key, Moment, Stamp, Status};
 use eu_clock::{Chooser, FirstChooser, ListChooser};
 use eu_model::Reply;
 use std::alloc::{AllocError, Global};
@@ -14,6 +14,14 @@ enum Call {
     /// A client registers with an overridden status.
     Override(&'static str, Status),
     Renew(&'static str),
+    /// A renewal with a stamp, and whether a peer sends it.
+    Stamped(&'static str, u64, bool),
+    /// A peer's renewal with a stamp and an overridden status.
+    Brings(&'static str, u64, Status),
+    Set(&'static str, Status),
+    Unset(&'static str, Option<Status>),
+    /// A peer told of an instance that is UP, with that overridden status, stamp and duration.
+    Adopt(&'static str, Status, u64, u32),
     Cancel(&'static str),
     /// The same id leaves under another application.
     CancelOther(&'static str),
@@ -29,6 +37,25 @@ fn key(alloc: Global, app: &str, id: &str) -> Result<Key, Fault> {
     })
 }
 
+fn instance(
+    alloc: Global,
+    id: &str,
+    statuses: (Status, Status),
+    dirty: u64,
+    secs: u32,
+) -> Result<Instance, Fault> {
+    if dirty > 1_000 || secs == 0 || secs > 1_000 {
+        return Err(Fault::BadValue);
+    }
+    Ok(Instance {
+        key: key(alloc, "A", id)?,
+        status: statuses.0,
+        overridden: statuses.1,
+        dirty,
+        secs,
+    })
+}
+
 fn join(
     alloc: Global,
     registry: &mut Registry,
@@ -38,16 +65,7 @@ fn join(
     secs: u32,
     now: Moment,
 ) -> Result<Reply, Fault> {
-    if dirty > 1_000 || secs == 0 || secs > 1_000 {
-        return Err(Fault::BadValue);
-    }
-    let instance = Instance {
-        key: key(alloc, "A", id)?,
-        status: statuses.0,
-        overridden: statuses.1,
-        dirty,
-        secs,
-    };
+    let instance = instance(alloc, id, statuses, dirty, secs)?;
     registry.register(alloc, instance, false, now)
 }
 
@@ -71,7 +89,25 @@ fn answer<C: Chooser>(
             )
         }
         Call::Override(id, over) => join(alloc, registry, id, (Status::Up, over), 0, 90, now),
-        Call::Renew(id) => registry.renew(&key(alloc, "A", id)?, false, now),
+        Call::Renew(id) => registry.renew(alloc, &key(alloc, "A", id)?, None, None, false, now),
+        Call::Stamped(id, stamp, replicated) => {
+            let key = key(alloc, "A", id)?;
+            registry.renew(alloc, &key, Stamp::new(stamp), None, replicated, now)
+        }
+        Call::Brings(id, stamp, over) => {
+            let key = key(alloc, "A", id)?;
+            registry.renew(alloc, &key, Stamp::new(stamp), Some(over), true, now)
+        }
+        Call::Set(id, status) => {
+            registry.set_status(alloc, &key(alloc, "A", id)?, status, None, now)
+        }
+        Call::Unset(id, status) => {
+            Ok(registry.unset_status(&key(alloc, "A", id)?, status, None, now))
+        }
+        Call::Adopt(id, over, dirty, secs) => {
+            let instance = instance(alloc, id, (Status::Up, over), dirty, secs)?;
+            registry.adopt(alloc, instance, now)
+        }
         Call::Cancel(id) => Ok(registry.cancel(&key(alloc, "A", id)?)),
         Call::CancelOther(id) => Ok(registry.cancel(&key(alloc, "B", id)?)),
         Call::Roll => Ok(registry.roll()),
@@ -87,10 +123,14 @@ fn tell(out: &mut String, reply: &Reply) -> Result<(), AllocError> {
         Reply::Registered { fresh: false } => out.push_str("again "),
         Reply::Done => out.push_str("done "),
         Reply::NotFound => out.push_str("none "),
+        Reply::Stale => out.push_str("stale "),
+        Reply::Conflict(held) => {
+            let dirty = held.dirty;
+            write!(out, "conflict={dirty} ")
+        }
         Reply::Last(renewals) => write!(out, "last={renewals} "),
         Reply::Expected(clients) => write!(out, "expected={clients} "),
         Reply::Evicted(victims) => tell_ids(out, victims.as_slice()),
-        _ => out.push_str("other "),
     }
 }
 
@@ -380,5 +420,97 @@ fn a_full_registry_takes_back_who_is_held(rt: HostRuntime) -> Result<(), Fail> {
     assert!(rt; counts(&registry) == (65_536, 65_537, 111_412, 0, false));
     let held = join(rt.alloc(), &mut registry, "i65535", up, 0, 90, now)?;
     assert!(rt; matches!(held, Reply::Registered { fresh: false }));
+    Ok(())
+}
+
+#[test]
+fn stamps_settle_a_quarrel(rt: HostRuntime) -> Result<(), Fail> {
+    let mut registry = opened(rt.alloc(), true, 85, 0)?;
+    let calls = [
+        (0u64, Call::Join("i1", Status::Up, 10, 90)),
+        (1, Call::Stamped("i1", 9, false)),
+        (1, Call::Stamped("i1", 10, false)),
+        (1, Call::Stamped("i1", 11, false)),
+        (1, Call::Stamped("i1", 9, true)),
+        (1, Call::Stamped("i1", 10, true)),
+        (1, Call::Stamped("i1", 11, true)),
+        (1, Call::Roll),
+    ];
+    let told = play(
+        rt.alloc(),
+        &mut registry,
+        calls.as_slice(),
+        &mut FirstChooser,
+    )?;
+    assert_eq!(rt;
+        told.as_str(),
+        "new done done stale conflict=10 done stale last=6 "
+    );
+    Ok(())
+}
+
+#[test]
+fn a_status_is_set_and_unset(rt: HostRuntime) -> Result<(), Fail> {
+    let mut registry = opened(rt.alloc(), true, 85, 0)?;
+    let set = [
+        (0u64, UP),
+        (1, Call::Set("i1", Status::OutOfService)),
+        (2, Call::Renew("i1")),
+    ];
+    play(rt.alloc(), &mut registry, set.as_slice(), &mut FirstChooser)?;
+    let out = seen(rt.alloc(), &registry, "i1", 2)?;
+    assert!(rt; out == Some((Status::OutOfService, 0, 90, 90_002)));
+    let unset = [
+        (3u64, Call::Unset("i1", None)),
+        (4, Call::Renew("i1")),
+        (5, Call::Set("i2", Status::Up)),
+        (6, Call::Roll),
+    ];
+    let told = play(
+        rt.alloc(),
+        &mut registry,
+        unset.as_slice(),
+        &mut FirstChooser,
+    )?;
+    assert_eq!(rt; told.as_str(), "done none none last=1 ");
+    Ok(())
+}
+
+#[test]
+fn an_instance_is_adopted(rt: HostRuntime) -> Result<(), Fail> {
+    let mut registry = opened(rt.alloc(), true, 85, 0)?;
+    let calls = [
+        (0u64, Call::Join("i1", Status::Up, 3, 90)),
+        (1, Call::Adopt("i1", Status::OutOfService, 7, 30)),
+    ];
+    let told = play(
+        rt.alloc(),
+        &mut registry,
+        calls.as_slice(),
+        &mut FirstChooser,
+    )?;
+    assert_eq!(rt; told.as_str(), "new again ");
+    let adopted = seen(rt.alloc(), &registry, "i1", 1)?;
+    assert!(rt; adopted == Some((Status::OutOfService, 7, 30, 1)));
+    Ok(())
+}
+
+#[test]
+fn a_peer_brings_a_row(rt: HostRuntime) -> Result<(), Fail> {
+    let mut registry = opened(rt.alloc(), true, 85, 0)?;
+    let calls = [
+        (0u64, UP),
+        (1, Call::Brings("i1", 5, Status::OutOfService)),
+        (2, Call::Renew("i1")),
+    ];
+    let told = play(
+        rt.alloc(),
+        &mut registry,
+        calls.as_slice(),
+        &mut FirstChooser,
+    )?;
+    assert_eq!(rt; told.as_str(), "new stale done ");
+    let out = seen(rt.alloc(), &registry, "i1", 2)?;
+    assert!(rt; out == Some((Status::OutOfService, 0, 90, 90_002)));
     Ok(())
 }

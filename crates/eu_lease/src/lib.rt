@@ -1,9 +1,11 @@
-//! Leases: how long each lasts.
+//! Leases: how long each lasts, and which status its instance is given.
 #![tactic(auto)]
 
 mod lease;
+mod rule;
 
 pub use lease::Lease;
+pub use rule::override_rule;
 
 #[cfg(test)]
 mod tests;

@@ -1,6 +1,6 @@
-//! Leases, with moments worked out by hand.
-use crate::Lease;
-use eu_base::{Fault, Moment};
+//! Leases, with moments and statuses worked out by hand.
+use crate::{Lease, override_rule};
+use eu_base::{Fault, Moment, Status};
 use std::test::Fail;
 
 fn at(ms: u64) -> Result<Moment, Fault> {
@@ -42,5 +42,17 @@ fn the_first_moment_up_is_kept(rt: HostRuntime) -> Result<(), Fail> {
     assert_eq!(rt; again.times().registered, 11);
     assert_eq!(rt; again.times().updated, 11);
     assert_eq!(rt; again.deadline(), 30_011);
+    Ok(())
+}
+
+#[test]
+fn the_first_rule_decides(rt: HostRuntime) -> Result<(), Fail> {
+    let up = Status::Up;
+    let out = Status::OutOfService;
+    assert!(rt; override_rule(Status::Starting, Some(out), Some(up), false) == Status::Starting);
+    assert!(rt; override_rule(up, Some(out), Some(up), false) == out);
+    assert!(rt; override_rule(up, None, Some(out), false) == out);
+    assert!(rt; override_rule(up, None, Some(out), true) == up);
+    assert!(rt; override_rule(up, None, Some(Status::Down), false) == up);
     Ok(())
 }

@@ -11,7 +11,7 @@ use std::marker::Model;
 const MOST_RENEWALS: u64 = 1 << 62;
 
 /// Renewals, counted by the minute (`MeasuredRate` in Eureka). Contracts see the two counts.
-#[derive(Debug, Drop)]
+#[derive(Clone, Copy, Debug)]
 pub struct Rate {
     last: u64,
     since: u64,
@@ -28,6 +28,8 @@ impl Model for Rate {
     ghost view = { λ r. record { last = r.last; since = r.since } };
 
     ghost invariant = { λ r. r.since ≤ 2 ^ 62 };
+
+    ghost inverse = { λ c. record { last = c.last; since = c.since } };
 }
 
 impl Rate {

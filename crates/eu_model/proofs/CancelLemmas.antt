@@ -13,7 +13,7 @@ use Rattle.eu_model.specs.Step.{changed}
 use Rattle.eu_model.specs.Plain.{Plain, listed, plain}
 use Rattle.eu_model.specs.Answers.{Answers}
 use Rattle.eu_model.specs.Kept.{kept, kept_cancel, after}
-use Rattle.eu_model.proofs.ChangedLemmas.{held_of, plain-changed}
+use Rattle.eu_model.proofs.ChangedLemmas.{held_of, change_is_kept}
 use Rattle.eu_model.proofs.AnswerLemmas.{IsKept, answered}
 
 cancel-kept : (held : Option Record) (expected : ℕ) → kept (cancel held expected) ≡ kept_cancel (option_map listed held) expected
@@ -32,10 +32,7 @@ module _ (k : Key) where
   cancel_change-kept s = cancel-kept (get s.leases k) s.expected ∙ ap (λ held. kept_cancel held s.expected) (held_of s k)
 
   pub cancel_is_kept : IsKept (λ s. changed s k (cancel_change s)) (λ s. (cancel_change s).reply) (λ p. after p k (cancels p)) (λ p. (cancels p).reply)
-  cancel_is_kept = record {
-    nexts = λ s. plain-changed s k (cancel_change s) ∙ ap (after (plain s) k) (cancel_change-kept s);
-    replies = λ s. ap (λ (c : Change Listed). c.reply) (cancel_change-kept s);
-  }
+  cancel_is_kept = change_is_kept k cancel_change cancels cancel_change-kept
 
   pub cancel_answers : (replicated : Bool) (t : ℕ) (p : Plain) → Answers p (Cancel k replicated) t (Ok (cancels p).reply) (after p k (cancels p))
   cancel_answers replicated t p = answered (Cancel k replicated) t _ _ _ _ (λ q. None) cancel_is_kept (λ s. (refl, refl)) (λ s. refl) p refl

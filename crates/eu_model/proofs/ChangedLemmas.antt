@@ -1,5 +1,5 @@
 -- A change of one lease, in plain form
-use Rattle.std.proofs.Common.{◌≡◌, ℕ, ◌+◌, Bool, true, false, refl, sym, ap, ◌∙◌}
+use Rattle.std.proofs.Common.{◌≡◌, ◌+◌, Bool, true, false, refl, sym, ap, ◌∙◌}
 use Rattle.std.specs.Prelude.{cond, Option, Some, None, ◌==◌, ◌^◌, is_some}
 use Rattle.std.specs.Option.{option_map}
 use Rattle.std.specs.FinMap.{FinMap, get, len, contains_key}
@@ -10,7 +10,7 @@ use Rattle.eu_base.proofs.KeyLemmas.{keys_total, keys_exact}
 use Rattle.eu_model.specs.declared.views.Listed.{Listed}
 use Rattle.eu_model.specs.Record.{Record}
 use Rattle.eu_model.specs.Marks.{since, last}
-use Rattle.eu_model.specs.Maps.{map_values, with_value}
+use Rattle.eu_model.specs.Maps.{map_values}
 use Rattle.eu_model.specs.Machine.{Machine}
 use Rattle.eu_model.specs.Change.{Change}
 use Rattle.eu_model.specs.Step.{changed, marked}
@@ -19,6 +19,7 @@ use Rattle.eu_model.specs.Plain.{Plain, listed, plain}
 use Rattle.eu_model.specs.Kept.{kept, after, kept_join_fault}
 use Rattle.eu_model.proofs.MarkLemmas.{since_renewal, last_renewal}
 use Rattle.eu_model.proofs.MapLemmas.{get-map_values, len-map_values, map_values-with_value}
+use Rattle.eu_model.proofs.AnswerLemmas.{IsKept}
 
 last-marked : (counted : Bool) (s : Machine) → last (marked counted s.marks) ≡ last s.marks
 last-marked true s = last_renewal s.marks
@@ -29,12 +30,20 @@ since-marked true s = since_renewal s.marks
 since-marked false s = refl
 
 -- what is kept of a changed machine is changed alike
-pub plain-changed : (s : Machine) (k : Key) (change : Change Record) → plain (changed s k change) ≡ after (plain s) k (kept change)
+plain-changed : (s : Machine) (k : Key) (change : Change Record) → plain (changed s k change) ≡ after (plain s) k (kept change)
 plain-changed s k change =
     let leases = map_values-with_value keys_total keys_exact listed s.leases k change.lease in
     let lasts = last-marked change.counted s in
     let sinces = since-marked change.counted s in
     λ i. record (after (plain s) k (kept change)) { leases = leases i; last = lasts i; since = sinces i }
+
+-- so a step on the lease at a key is kept, if its change is
+pub change_is_kept : (k : Key) (change : Machine → Change Record) (kept_change : Plain → Change Listed) → ((s : Machine) → kept (change s) ≡ kept_change (plain s))
+    → IsKept (λ s. changed s k (change s)) (λ s. (change s).reply) (λ p. after p k (kept_change p)) (λ p. (kept_change p).reply)
+change_is_kept k change kept_change e = record {
+  nexts = λ s. plain-changed s k (change s) ∙ ap (after (plain s) k) (e s);
+  replies = λ s. ap (λ (c : Change Listed). c.reply) (e s);
+}
 
 is_some-map : {X Y : Type 0} (f : X → Y) (o : Option X) → is_some (option_map f o) ≡ is_some o
 is_some-map f None = refl

@@ -1,24 +1,29 @@
 -- Nothing but the plain form decides what may happen next
-use Rattle.std.proofs.Common.{◌≡◌, refl, sym, ap, ◌∙◌}
+use Rattle.std.proofs.Common.{refl, sym, ap, ◌∙◌}
 use Rattle.eu_model.specs.declared.views.Query.TheVariants as asked
 use Rattle.eu_model.specs.declared.views.View.TheVariants as seen
-use Rattle.eu_model.specs.declared.commands.Command.TheVariants.{Register, Renew, Cancel, Roll, Update, Evict}
-use Rattle.eu_model.specs.Kept.{kept_join_fault, kept_renew_fault}
+use Rattle.eu_model.specs.declared.commands.Command.TheVariants.{Register, Renew, Cancel, SetStatus, UnsetStatus, Adopt, Roll, Update, Evict}
+use Rattle.eu_model.specs.Kept.{kept_join_fault, kept_renew_fault, kept_one}
 use Rattle.eu_model.specs.Law.{StepsAlike, FaultsAlike, ViewsAlike}
 use Rattle.eu_model.proofs.AnswerLemmas.{alike}
 use Rattle.eu_model.proofs.ChangedLemmas.{join_fault-kept}
 use Rattle.eu_model.proofs.RegisterLemmas.{register_is_kept}
 use Rattle.eu_model.proofs.RenewLemmas.{renews, renew_is_kept, renew_fault-kept}
 use Rattle.eu_model.proofs.CancelLemmas.{cancel_is_kept}
+use Rattle.eu_model.proofs.StatusLemmas.{set_is_kept, unset_is_kept}
+use Rattle.eu_model.proofs.AdoptLemmas.{adopt_is_kept}
 use Rattle.eu_model.proofs.MinuteLemmas.{roll_is_kept, update_is_kept}
 use Rattle.eu_model.proofs.EvictLemmas.{evict_alike}
 use Rattle.eu_model.proofs.OpeningLemmas.{kept_counts, counts-kept}
-use Rattle.eu_model.proofs.SeenLemmas.{kept_one, one-kept}
+use Rattle.eu_model.proofs.SeenLemmas.{one-kept}
 
 pub steps_alike : StepsAlike
 steps_alike s s' (Register n replicated) t reply new e step = alike _ _ _ _ (register_is_kept n replicated t) s s' reply new e step
 steps_alike s s' (Renew k dirty overridden replicated) t reply new e step = alike _ _ _ _ (renew_is_kept k dirty overridden replicated t) s s' reply new e step
 steps_alike s s' (Cancel k replicated) t reply new e step = alike _ _ _ _ (cancel_is_kept k) s s' reply new e step
+steps_alike s s' (SetStatus k status dirty replicated) t reply new e step = alike _ _ _ _ (set_is_kept k status dirty t) s s' reply new e step
+steps_alike s s' (UnsetStatus k suggested dirty replicated) t reply new e step = alike _ _ _ _ (unset_is_kept k suggested dirty t) s s' reply new e step
+steps_alike s s' (Adopt n) t reply new e step = alike _ _ _ _ (adopt_is_kept n t) s s' reply new e step
 steps_alike s s' Roll t reply new e step = alike _ _ _ _ roll_is_kept s s' reply new e step
 steps_alike s s' Update t reply new e step = alike _ _ _ _ update_is_kept s s' reply new e step
 steps_alike s s' Evict t reply new e step = evict_alike s s' t reply new e step
@@ -31,6 +36,9 @@ faults_alike s s' (Renew k dirty overridden replicated) t e =
     ∙ ap (λ p. kept_renew_fault p (renews k dirty overridden replicated t p).counted) e
     ∙ sym (renew_fault-kept k dirty overridden replicated t s')
 faults_alike s s' (Cancel k replicated) t e = refl
+faults_alike s s' (SetStatus k status dirty replicated) t e = refl
+faults_alike s s' (UnsetStatus k suggested dirty replicated) t e = refl
+faults_alike s s' (Adopt n) t e = join_fault-kept s n.key ∙ ap (λ p. kept_join_fault p n.key) e ∙ sym (join_fault-kept s' n.key)
 faults_alike s s' Roll t e = refl
 faults_alike s s' Update t e = refl
 faults_alike s s' Evict t e = refl

@@ -1,12 +1,12 @@
 -- What a map answers after each value is changed
-use Rattle.std.proofs.Common.{◌≡◌, ℕ, Bool, true, false, List, [], ◌∷◌, refl, sym, ap, ◌∙◌, T, subst, length, map}
-use Rattle.std.specs.Prelude.{cond, Option, Some, None, ◌&&◌, is_some}
+use Rattle.std.proofs.Common.{◌≡◌, Bool, true, false, List, [], ◌∷◌, refl, sym, ap, ◌∙◌, T, subst, length, map}
+use Rattle.std.specs.Prelude.{cond, Option, Some, None, ◌&&◌}
 use Rattle.std.specs.Option.{option_map}
 use Rattle.std.specs.declared.cmp.Ordering.{Ordering}
 use Rattle.std.specs.Ordering.{eq_by_cmp, is_lt}
 use Rattle.std.specs.Cmp.{IsTotalOrder}
 use Rattle.std.proofs.lemmas.List.{length-map}
-use Rattle.std.specs.FinMap.{FinMap, IsAntisymmetric, find, is_sorted, empty, entries, entries_sorted, from_sorted, get, insert, remove, len, contains_key, get-empty, get-from_sorted, entries-from_sorted, get-entries, len-entries, get-insert, get-remove, same_map}
+use Rattle.std.specs.FinMap.{FinMap, IsAntisymmetric, find, is_sorted, empty, entries, entries_sorted, get, insert, remove, len, get-empty, entries-from_sorted, get-entries, len-entries, get-insert, get-remove, same_map}
 use Rattle.std.specs.FinMap.Entries.{below_all}
 use Rattle.eu_model.specs.Maps.{map_values, with_value}
 

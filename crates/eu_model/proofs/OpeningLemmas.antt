@@ -6,9 +6,8 @@ use Rattle.eu_base.specs.declared.settings.Config.{Config}
 use Rattle.eu_base.specs.Key.{key_cmp}
 use Rattle.eu_base.proofs.KeyLemmas.{keys_total, keys_exact}
 use Rattle.eu_model.specs.declared.views.Counts.{Counts}
-use Rattle.eu_model.specs.Marks.{last}
 use Rattle.eu_model.specs.Meter.{threshold, is_permitted}
-use Rattle.eu_model.specs.Machine.{Machine, opening, permits}
+use Rattle.eu_model.specs.Machine.{Machine, opening}
 use Rattle.eu_model.specs.View.{counts}
 use Rattle.eu_model.specs.Plain.{Plain, plain, listed}
 use Rattle.eu_model.specs.Answers.{Shows}

@@ -1,9 +1,8 @@
 -- Each plain form is that of some machine
-use Rattle.std.proofs.Common.{◌≡◌, ℕ, zero, suc, ◌+◌, List, [], ◌∷◌, ◌++◌, refl, sym, ap, ◌∙◌, arith}
+use Rattle.std.proofs.Common.{◌≡◌, ℕ, zero, suc, ◌+◌, List, [], ◌∷◌, ◌++◌, refl, ap, ◌∙◌, arith}
 use Rattle.std.specs.Prelude.{Option, Some, None}
 use Rattle.std.specs.Option.{option_map}
 use Rattle.std.specs.FinMap.{FinMap, get, same_map}
-use Rattle.eu_base.specs.declared.names.Key.{Key}
 use Rattle.eu_base.specs.Key.{key_cmp}
 use Rattle.eu_base.proofs.KeyLemmas.{keys_total, keys_exact}
 use Rattle.eu_model.specs.declared.views.Listed.{Listed}

@@ -15,7 +15,7 @@ use Rattle.eu_model.specs.Step.{changed}
 use Rattle.eu_model.specs.Plain.{Plain, listed, plain}
 use Rattle.eu_model.specs.Answers.{IsRefusal, Answers}
 use Rattle.eu_model.specs.Kept.{kept, kept_register, after, kept_join_fault}
-use Rattle.eu_model.proofs.ChangedLemmas.{held_of, plain-changed, join_fault-kept}
+use Rattle.eu_model.proofs.ChangedLemmas.{held_of, change_is_kept, join_fault-kept}
 use Rattle.eu_model.proofs.AnswerLemmas.{IsKept, answered, refused}
 
 register-kept : (held : Option Record) (row : Option Status) (expected : ℕ) (n : Instance) (replicated : Bool) (t : ℕ) →
@@ -37,10 +37,7 @@ module _ (n : Instance) (replicated : Bool) (t : ℕ) where
       ∙ ap (λ held. kept_register held (get s.rows n.key.id) s.expected n replicated t) (held_of s n.key)
 
   pub register_is_kept : IsKept (λ s. changed s n.key (register_change s)) (λ s. (register_change s).reply) (λ p. after p n.key (registers p)) (λ p. (registers p).reply)
-  register_is_kept = record {
-    nexts = λ s. plain-changed s n.key (register_change s) ∙ ap (after (plain s) n.key) (register_change-kept s);
-    replies = λ s. ap (λ (c : Change Listed). c.reply) (register_change-kept s);
-  }
+  register_is_kept = change_is_kept n.key register_change registers register_change-kept
 
   pub register_answers : (p : Plain) → kept_join_fault p n.key ≡ None → Answers p (Register n replicated) t (Ok (registers p).reply) (after p n.key (registers p))
   register_answers = answered (Register n replicated) t _ _ _ _ (λ p. kept_join_fault p n.key) register_is_kept (λ s. (refl, refl)) (λ s. join_fault-kept s n.key)

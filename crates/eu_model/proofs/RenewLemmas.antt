@@ -1,5 +1,5 @@
 -- A renewal depends on what is kept alone
-use Rattle.std.proofs.Common.{◌≡◌, ℕ, Bool, true, false, refl, sym, ap, ◌∙◌}
+use Rattle.std.proofs.Common.{◌≡◌, ℕ, Bool, true, false, refl, ap, ◌∙◌}
 use Rattle.std.specs.Prelude.{cond, Option, Some, None, ◌&&◌, ◌==◌, ◌^◌, Ok, Err}
 use Rattle.std.specs.Option.{option_map}
 use Rattle.std.specs.FinMap.{get}
@@ -23,8 +23,8 @@ use Rattle.eu_model.specs.Step.{changed}
 use Rattle.eu_model.specs.Plain.{Plain, listed, plain}
 use Rattle.eu_model.specs.Answers.{IsRefusal, Answers}
 use Rattle.eu_model.specs.Kept.{raised, kept, kept_renew, after, kept_renew_fault}
-use Rattle.eu_model.proofs.RecordLemmas.{listed_renewed}
-use Rattle.eu_model.proofs.ChangedLemmas.{held_of, plain-changed}
+use Rattle.eu_model.proofs.RecordLemmas.{renewed_alike}
+use Rattle.eu_model.proofs.ChangedLemmas.{held_of, change_is_kept}
 use Rattle.eu_model.proofs.AnswerLemmas.{IsKept, answered, refused}
 
 module _ (row : Option Status) (expected : ℕ) (dirty : Option Stamp) (overridden : Option Status) (replicated : Bool) (t : ℕ) where
@@ -33,7 +33,7 @@ module _ (row : Option Status) (expected : ℕ) (dirty : Option Stamp) (overridd
   renew_as-kept r status =
       let i : Instance = record r.instance { status = status } in
       let j = under_row (brought (renew_reply dirty i replicated) replicated overridden row) i in
-      let lease = ap Some (listed_renewed r t j r.up ∙ sym (listed_renewed (raised (listed r)) t j r.up)) in
+      let lease = ap Some (renewed_alike r t j r.up) in
       λ x. record (kept (renew_as r row expected dirty overridden replicated t status)) { lease = lease x }
 
   renew-kept : (held : Option Record) → kept (renew held row expected dirty overridden replicated t) ≡ kept_renew (option_map listed held) row expected dirty overridden replicated t
@@ -64,10 +64,7 @@ module _ (k : Key) (dirty : Option Stamp) (overridden : Option Status) (replicat
   renew_fault-kept s = ap (λ (c : Change Listed). cond (c.counted && (since s.marks == 2 ^ 62)) (Some Exhausted) None) (renew_change-kept s)
 
   pub renew_is_kept : IsKept (λ s. changed s k (renew_change s)) (λ s. (renew_change s).reply) (λ p. after p k (renews p)) (λ p. (renews p).reply)
-  renew_is_kept = record {
-    nexts = λ s. plain-changed s k (renew_change s) ∙ ap (after (plain s) k) (renew_change-kept s);
-    replies = λ s. ap (λ (c : Change Listed). c.reply) (renew_change-kept s);
-  }
+  renew_is_kept = change_is_kept k renew_change renews renew_change-kept
 
   pub renew_answers : (p : Plain) → kept_renew_fault p (renews p).counted ≡ None → Answers p (Renew k dirty overridden replicated) t (Ok (renews p).reply) (after p k (renews p))
   renew_answers =

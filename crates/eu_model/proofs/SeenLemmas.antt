@@ -1,17 +1,15 @@
 -- What is seen of one lease depends on what is kept alone
-use Rattle.std.proofs.Common.{◌≡◌, ℕ, ◌+◌, ◌*◌, Bool, true, false, refl, sym, ap, ◌∙◌, arith}
+use Rattle.std.proofs.Common.{◌≡◌, ℕ, ◌+◌, ◌*◌, Bool, true, false, refl, ap, ◌∙◌, arith}
 use Rattle.std.specs.Prelude.{cond, Option, Some, None, nat_lt, ◌&&◌}
 use Rattle.std.specs.Option.{option_map}
 use Rattle.std.specs.FinMap.{get}
 use Rattle.eu_base.specs.declared.names.Key.{Key}
-use Rattle.eu_model.specs.declared.views.Listed.{Listed}
 use Rattle.eu_model.specs.Record.{Record, Kind, newest, duration, durations, is_expired}
 use Rattle.eu_model.specs.Record.Kind.{Fresh, Renewed}
-use Rattle.eu_model.specs.Meter.{is_permitted}
 use Rattle.eu_model.specs.Machine.{Machine, permits, seen}
-use Rattle.eu_model.specs.Plain.{Plain, plain, listed, last_update}
+use Rattle.eu_model.specs.Plain.{plain, listed, last_update}
 use Rattle.eu_model.specs.View.{one}
-use Rattle.eu_model.specs.Kept.{kept_expired, kept_seen}
+use Rattle.eu_model.specs.Kept.{kept_expired, kept_seen, kept_one}
 use Rattle.eu_model.proofs.ChangedLemmas.{held_of}
 
 deadline_of : (kind : Kind) (at d : ℕ) → at + durations kind * d ≡ last_update kind at d + d
@@ -26,10 +24,6 @@ seen-kept permitted t None = refl
 seen-kept permitted t (Some r) =
     elim (permitted && is_expired r t 0) as (λ b. option_map listed (cond b None (Some r)) ≡ cond b None (Some (listed r))) [ true ↦ refl | false ↦ refl ]
     ∙ ap (λ b. cond (permitted && b) None (Some (listed r))) (expired-kept r t 0)
-
--- the lease that is seen of what is kept
-abbrev pub kept_one : Plain → Key → ℕ → Option Listed
-kept_one p k t = kept_seen (is_permitted p.config p.expected p.last) t (get p.leases k)
 
 pub one-kept : (s : Machine) (k : Key) (t : ℕ) → one s k t ≡ kept_one (plain s) k t
 one-kept s k t = seen-kept (permits s) t (get s.leases k) ∙ ap (kept_seen (permits s) t) (held_of s k)

@@ -1,5 +1,5 @@
 -- What a step on one lease leaves at its key and its id: a definition for each command
-use Rattle.std.specs.Prelude.{ℕ, ◌+◌, ◌-◌, ◌==◌, Bool, true, false, not, ◌&&◌, ◌||◌, nat_lt, if◌then◌else◌, Option, Some, None, is_some}
+use Rattle.std.specs.Prelude.{ℕ, ◌+◌, ◌-◌, ◌==◌, Bool, true, false, not, ◌&&◌, ◌||◌, nat_lt, if◌then◌else◌, Option, Some, None, is_some, unwrap_or}
 use Rattle.std.specs.Option.{option_map, option_map_or, option_or}
 use Rattle.eu_base.specs.declared.statuses.Status.{Status}
 use Rattle.eu_base.specs.declared.statuses.Status.TheVariants.{Up, Unknown}
@@ -29,10 +29,14 @@ abbrev pub newer : Option Instance → Instance → Instance
 newer None n = n
 newer (Some h) n = if nat_lt n.dirty h.dirty then record h { secs = n.secs; secs_bound = n.secs_bound } else n
 
--- an overridden status other than UNKNOWN becomes the row, where the id has none
+-- the row that an overridden status tells: none, where it is UNKNOWN
+abbrev pub told : Status → Option Status
+told overridden = if is_status overridden Unknown then None else Some overridden
+
+-- where the id has no row, it is the one that is told
 abbrev pub row_after : Option Status → Status → Option Status
 row_after (Some row) overridden = Some row
-row_after None overridden = if is_status overridden Unknown then None else Some overridden
+row_after None overridden = told overridden
 
 -- where there is a row, it is the overridden status
 abbrev pub under_row : Option Status → Instance → Instance
@@ -103,6 +107,49 @@ renew (Some r) row expected dirty overridden replicated t =
     let status = rule r.instance.status row (Some r.instance.status) replicated in
     if is_status status Unknown then uncounted (Some r) row expected NotFound
     else renew_as r row expected dirty overridden replicated t status
+
+-- ---- a status that is set, or that is unset: the lease is renewed, and not counted. One that isn't visible is not found, and stays
+
+-- a greater stamp replaces the one that is held
+abbrev pub stamped : Option Stamp → Instance → Instance
+stamped None i = i
+stamped (Some d) i = if nat_lt i.dirty d.value then record i { dirty = d.value; dirty_bound = d.bound } else i
+
+-- a lease that is renewed now with its instance in a status that is set
+abbrev pub in_status : Record → Status → Option Stamp → ℕ → Record
+in_status r status dirty t = record (renewed r t) {
+  instance = stamped dirty (record r.instance { status = status; overridden = status });
+  up = up_after r.up status t;
+}
+
+-- a lease that is renewed now with nothing that overrides: its instance is in the suggested status, or UNKNOWN
+abbrev pub out_of_override : Record → Option Status → Option Stamp → ℕ → Record
+out_of_override r suggested dirty t = record (renewed r t) {
+  instance = stamped dirty (record r.instance { status = unwrap_or suggested Unknown; overridden = Unknown });
+}
+
+-- another status than the instance has becomes its own and its overridden one, and the row of its id
+abbrev pub set_status : Option Record → Option Record → Option Status → ℕ → Status → Option Stamp → ℕ → Change Record
+set_status None held row expected status dirty t = uncounted held row expected NotFound
+set_status (Some r) held row expected status dirty t =
+    if is_status r.instance.status status then uncounted (Some (renewed r t)) row expected Done
+    else uncounted (Some (in_status r status dirty t)) (Some status) expected Done
+
+-- the row of the id goes, if there is one, and then nothing overrides
+abbrev pub unset_status : Option Record → Option Record → Option Status → ℕ → Option Status → Option Stamp → ℕ → Change Record
+unset_status None held row expected suggested dirty t = uncounted held row expected NotFound
+unset_status (Some r) held None expected suggested dirty t = uncounted (Some (renewed r t)) None expected Done
+unset_status (Some r) held (Some row) expected suggested dirty t = uncounted (Some (out_of_override r suggested dirty t)) None expected Done
+
+-- ---- an adoption: the row that the overridden status tells replaces the id's, and the held instance is under it. Then the
+-- instance is registered as by a peer
+
+abbrev pub overridden_by : Option Status → Record → Record
+overridden_by row r = record r { instance = under_row row r.instance }
+
+abbrev pub adopt : Option Record → Option Status → ℕ → Instance → ℕ → Change Record
+adopt held row expected n t =
+    register (option_map (overridden_by (told n.overridden)) held) (option_or (told n.overridden) row) expected n true t
 
 -- ---- a cancel: the row of the id goes, also where no lease is held; a client that leaves is one less expected
 

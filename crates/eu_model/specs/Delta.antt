@@ -1,7 +1,7 @@
 -- What an answered command adds to the accounts
-use Rattle.std.specs.Prelude.{ℕ, true, false, length}
+use Rattle.std.specs.Prelude.{ℕ, true, length}
 use Rattle.eu_model.specs.declared.commands.Command.{Command}
-use Rattle.eu_model.specs.declared.commands.Command.TheVariants.{Register, Renew, Cancel, Evict}
+use Rattle.eu_model.specs.declared.commands.Command.TheVariants.{Register, Renew, Cancel, Adopt, Evict}
 use Rattle.eu_model.specs.declared.commands.Reply.{Reply}
 use Rattle.eu_model.specs.declared.commands.Reply.TheVariants.{Registered, Done, Stale, Conflict, Evicted}
 
@@ -20,6 +20,7 @@ counted_by _ _ = 0
 
 abbrev pub added_by : Command → Reply → ℕ
 added_by (Register n replicated) (Registered true) = 1
+added_by (Adopt n) (Registered true) = 1
 added_by _ _ = 0
 
 abbrev pub removed_by : Command → Reply → ℕ

@@ -11,13 +11,12 @@ use Rattle.eu_base.specs.declared.instances.Instance.{Instance}
 use Rattle.eu_base.specs.declared.names.Key.{Key}
 use Rattle.eu_base.specs.Key.{key_eq}
 use Rattle.eu_model.specs.declared.views.Listed.{Listed}
-use Rattle.eu_model.specs.declared.commands.Reply.{Reply}
 use Rattle.eu_model.specs.Record.{Record, duration}
 use Rattle.eu_model.specs.Record.Kind.{Fresh}
 use Rattle.eu_model.specs.Meter.{is_permitted, expected_after}
 use Rattle.eu_model.specs.Maps.{with_value, without}
 use Rattle.eu_model.specs.Evict.{extra_time, number_of_victims}
-use Rattle.eu_model.specs.Change.{Change, register, renew, cancel}
+use Rattle.eu_model.specs.Change.{Change, register, renew, cancel, set_status, unset_status, adopt}
 use Rattle.eu_model.specs.Plain.{Plain, listed}
 
 -- some record that is listed so
@@ -42,6 +41,17 @@ kept_renew held row expected dirty overridden replicated t =
 
 abbrev pub kept_cancel : Option Listed → ℕ → Change Listed
 kept_cancel held expected = kept (cancel (option_map raised held) expected)
+
+abbrev pub kept_set_status : Option Listed → Option Listed → Option Status → ℕ → Status → Option Stamp → ℕ → Change Listed
+kept_set_status seen held row expected status dirty t =
+    kept (set_status (option_map raised seen) (option_map raised held) row expected status dirty t)
+
+abbrev pub kept_unset_status : Option Listed → Option Listed → Option Status → ℕ → Option Status → Option Stamp → ℕ → Change Listed
+kept_unset_status seen held row expected suggested dirty t =
+    kept (unset_status (option_map raised seen) (option_map raised held) row expected suggested dirty t)
+
+abbrev pub kept_adopt : Option Listed → Option Status → ℕ → Instance → ℕ → Change Listed
+kept_adopt held row expected n t = kept (adopt (option_map raised held) row expected n t)
 
 -- the plain form after a change
 abbrev pub after : Plain → Key → Change Listed → Plain
@@ -70,6 +80,10 @@ kept_expired l t extra = nat_lt (l.times.updated + duration l.instance + extra) 
 abbrev pub kept_seen : Bool → ℕ → Option Listed → Option Listed
 kept_seen permitted t None = None
 kept_seen permitted t (Some l) = if permitted && kept_expired l t 0 then None else Some l
+
+-- the lease that is seen at a key, at a moment
+abbrev pub kept_one : Plain → Key → ℕ → Option Listed
+kept_one p k t = kept_seen (is_permitted p.config p.expected p.last) t (get p.leases k)
 
 abbrev pub kept_rolled : Plain → Plain
 kept_rolled p = record p { last = p.since; since = 0 }

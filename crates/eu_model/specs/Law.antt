@@ -1,9 +1,17 @@
--- Nothing but the plain form decides what may happen next
-use Rattle.std.specs.Prelude.{◌≡◌, ℕ}
+-- Nothing but the plain form decides what may happen next, and what is so of every eviction pass
+use Rattle.std.specs.Prelude.{◌≡◌, ℕ, ◌≤◌, true, Some, List, [], length, Contains}
+use Rattle.std.specs.FinMap.{get, len}
+use Rattle.eu_base.specs.declared.names.Key.{Key}
 use Rattle.eu_model.specs.declared.commands.Command.{Command}
+use Rattle.eu_model.specs.declared.commands.Command.TheVariants.{Evict}
 use Rattle.eu_model.specs.declared.commands.Reply.{Reply}
+use Rattle.eu_model.specs.declared.commands.Reply.TheVariants.{Evicted}
 use Rattle.eu_model.specs.declared.views.Query.{Query}
+use Rattle.eu_model.specs.Record.{Record, is_expired}
+use Rattle.eu_model.specs.Marks.{last}
+use Rattle.eu_model.specs.Meter.{threshold, share}
 use Rattle.eu_model.specs.Machine.{Machine}
+use Rattle.eu_model.specs.Evict.{extra_time}
 use Rattle.eu_model.specs.Step.{Step}
 use Rattle.eu_model.specs.Run.{fault}
 use Rattle.eu_model.specs.View.{view}
@@ -26,3 +34,22 @@ ViewsAlike = (s s' : Machine) (q : Query) (t : ℕ) → plain s ≡ plain s' →
 -- each plain form is that of some machine
 abbrev pub EachIsHeld : Type 0
 EachIsHeld = (p : Plain) → (s : Machine) × (plain s ≡ p)
+
+-- ---- passes
+
+-- whoever a pass evicts held a lease that had expired, with the extra time that the pass grants
+abbrev pub VictimsHaveExpired : Type 0
+VictimsHaveExpired =
+    (s : Machine) (t : ℕ) (victims : List Key) (new : Machine) → Step s Evict t (Evicted victims) new → (k : Key) → Contains victims k
+    → (r : Record) × (get s.leases k ≡ Some r) × (is_expired r t (extra_time s.config s.previous t) ≡ true)
+
+-- no pass evicts more than the share of the leases that are held
+abbrev pub PassesKeepTheShare : Type 0
+PassesKeepTheShare =
+    (s : Machine) (t : ℕ) (victims : List Key) (new : Machine) → Step s Evict t (Evicted victims) new → length victims ≤ share s.config (len s.leases)
+
+-- while self-preservation is on and the last minute's renewals are at most the threshold, nobody is evicted
+abbrev pub PreservationForbids : Type 0
+PreservationForbids =
+    (s : Machine) (t : ℕ) (victims : List Key) (new : Machine) → Step s Evict t (Evicted victims) new
+    → s.config.preservation ≡ true → last s.marks ≤ threshold s.config s.expected → victims ≡ []

@@ -5,7 +5,7 @@ use Rattle.eu_base.specs.declared.faults.Fault.{Fault}
 use Rattle.eu_base.specs.declared.faults.Fault.TheVariants.{Full, Exhausted}
 use Rattle.eu_base.specs.declared.names.Key.{Key}
 use Rattle.eu_model.specs.declared.commands.Command.{Command}
-use Rattle.eu_model.specs.declared.commands.Command.TheVariants.{Register, Renew, Cancel, Roll, Update, Evict}
+use Rattle.eu_model.specs.declared.commands.Command.TheVariants.{Register, Renew, Cancel, SetStatus, UnsetStatus, Adopt, Roll, Update, Evict}
 use Rattle.eu_model.specs.declared.commands.Entry.{Entry}
 use Rattle.eu_model.specs.Marks.{since}
 use Rattle.eu_model.specs.Machine.{Machine}
@@ -27,6 +27,9 @@ fault s (Renew k dirty overridden replicated) t =
     if (renew (get s.leases k) (get s.rows k.id) s.expected dirty overridden replicated t).counted && (since s.marks == 2 ^ 62)
     then Some Exhausted else None
 fault s (Cancel k replicated) t = None
+fault s (SetStatus k status dirty replicated) t = None
+fault s (UnsetStatus k suggested dirty replicated) t = None
+fault s (Adopt n) t = join_fault s n.key
 fault s Roll t = None
 fault s Update t = None
 fault s Evict t = None

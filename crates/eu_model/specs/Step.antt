@@ -3,7 +3,7 @@ use Rattle.std.specs.Prelude.{◌≡◌, ℕ, Bool, if◌then◌else◌, List, [
 use Rattle.std.specs.FinMap.{get, len}
 use Rattle.eu_base.specs.declared.names.Key.{Key}
 use Rattle.eu_model.specs.declared.commands.Command.{Command}
-use Rattle.eu_model.specs.declared.commands.Command.TheVariants.{Register, Renew, Cancel, Roll, Update, Evict}
+use Rattle.eu_model.specs.declared.commands.Command.TheVariants.{Register, Renew, Cancel, SetStatus, UnsetStatus, Adopt, Roll, Update, Evict}
 use Rattle.eu_model.specs.declared.commands.Reply.{Reply}
 use Rattle.eu_model.specs.declared.commands.Reply.TheVariants.{Last, Expected, Evicted}
 use Rattle.eu_model.specs.Record.{Record}
@@ -11,8 +11,8 @@ use Rattle.eu_model.specs.Marks.{Mark, last}
 use Rattle.eu_model.specs.Marks.Mark.{Renewal, Minute}
 use Rattle.eu_model.specs.Meter.{expected_after}
 use Rattle.eu_model.specs.Maps.{with_value}
-use Rattle.eu_model.specs.Machine.{Machine}
-use Rattle.eu_model.specs.Change.{Change, register, renew, cancel}
+use Rattle.eu_model.specs.Machine.{Machine, visible}
+use Rattle.eu_model.specs.Change.{Change, register, renew, cancel, set_status, unset_status, adopt}
 use Rattle.eu_model.specs.Evict.{AreVictims, evicted}
 
 -- a renewal that is counted leaves a mark
@@ -47,6 +47,11 @@ Step old (Register n replicated) t reply new =
 Step old (Renew k dirty overridden replicated) t reply new =
     Changes old k (renew (get old.leases k) (get old.rows k.id) old.expected dirty overridden replicated t) reply new
 Step old (Cancel k replicated) t reply new = Changes old k (cancel (get old.leases k) old.expected) reply new
+Step old (SetStatus k status dirty replicated) t reply new =
+    Changes old k (set_status (visible old k t) (get old.leases k) (get old.rows k.id) old.expected status dirty t) reply new
+Step old (UnsetStatus k suggested dirty replicated) t reply new =
+    Changes old k (unset_status (visible old k t) (get old.leases k) (get old.rows k.id) old.expected suggested dirty t) reply new
+Step old (Adopt n) t reply new = Changes old n.key (adopt (get old.leases n.key) (get old.rows n.key.id) old.expected n t) reply new
 Step old Roll t reply new = (reply ≡ Last (last (rolled old).marks)) × (new ≡ rolled old)
 Step old Update t reply new = (reply ≡ Expected (updated old)) × (new ≡ record old { expected = updated old })
 -- a pass may take any victims of the right number

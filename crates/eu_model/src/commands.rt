@@ -31,6 +31,33 @@ pub enum Command {
         /// Whether a peer sends it.
         replicated: bool,
     },
+    /// An operator overrides the status of an instance (`AbstractInstanceRegistry.statusUpdate`).
+    SetStatus {
+        /// The lease.
+        key: Key,
+        /// The status.
+        status: Status,
+        /// The stamp of the change.
+        dirty: Option<Stamp>,
+        /// Whether a peer sends it.
+        replicated: bool,
+    },
+    /// An operator takes an override back (`AbstractInstanceRegistry.deleteStatusOverride`).
+    UnsetStatus {
+        /// The lease.
+        key: Key,
+        /// The status that the instance may have now; `Unknown` where none is given.
+        status: Option<Status>,
+        /// The stamp of the change.
+        dirty: Option<Stamp>,
+        /// Whether a peer sends it.
+        replicated: bool,
+    },
+    /// A peer told of a newer instance than the one that is held here (`PeerEurekaNode.syncInstancesIfTimestampDiffers`).
+    Adopt {
+        /// The instance.
+        instance: Instance,
+    },
     /// A minute ends (`MeasuredRate`'s timer).
     Roll,
     /// The number of clients is counted anew (`PeerAwareInstanceRegistryImpl.updateRenewalThreshold`).

@@ -1,5 +1,5 @@
-//! What the plain form of a registry decides.
-ghost use Rattle.eu_model.specs.Law.{StepsAlike, FaultsAlike, ViewsAlike, EachIsHeld};
+//! Laws of the lease machine, without code.
+ghost use Rattle.eu_model.specs.Law.{StepsAlike, FaultsAlike, ViewsAlike, EachIsHeld, VictimsHaveExpired, PassesKeepTheShare, PreservationForbids};
 
 /// A law without code: what a registry may do next, and what is seen of it, depends on its plain form alone; and each
 /// plain form is that of some machine.
@@ -8,4 +8,13 @@ pub fn plain_form_decides()
     ensures faults { FaultsAlike }
     ensures views { ViewsAlike }
     ensures each { EachIsHeld }
+{}
+
+/// A law without code, over every step of the machine that is an eviction pass: each victim's lease had expired, there are
+/// no more victims than the share, and there is none while self-preservation is on and the last minute's renewals are at
+/// most the threshold.
+pub fn passes_are_safe()
+    ensures expired { VictimsHaveExpired }
+    ensures share { PassesKeepTheShare }
+    ensures preservation { PreservationForbids }
 {}

@@ -10,7 +10,7 @@ mod views;
 
 pub use commands::{Command, Entry, Reply};
 pub use keys::Keys;
-pub use law::plain_form_decides;
+pub use law::{passes_are_safe, plain_form_decides};
 pub use views::{Counts, Listed, Query, Times, View};
 
 #[cfg(test)]

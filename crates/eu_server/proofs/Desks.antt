@@ -22,10 +22,10 @@ use Rattle.eu_model.specs.Step.{Step}
 use Rattle.eu_model.specs.View.{view}
 use Rattle.eu_model.proofs.RunLemmas.{run_push}
 use Rattle.eu_server.specs.declared.desk.Desk.{Desk}
-use Rattle.eu_server.specs.Desk.{kept_of, DeskAnswers, ClosedAnswers, OpenedAnswers}
-use Rattle.eu_server.specs.Lines.{Said, line_of}
-use Rattle.eu_server.specs.Script.{Ran, opened_with, Does, Sees, Says, SaysOpened, SaysClosed}
-use Rattle.eu_server.specs.Texts.{answer_text, reply_text, view_text}
+use Rattle.eu_server.specs.Desk.{kept_of, DeskAnswers, ClosedAnswers, OpenedAnswers, UnaskedAnswers}
+use Rattle.eu_words.specs.Lines.{Said, line_of}
+use Rattle.eu_server.specs.Script.{Ran, opened_with, Does, Sees, Says, SaysUnasked, SaysOpened}
+use Rattle.eu_server.specs.Texts.{answer_text, view_text}
 
 -- a refusal that isn't want of memory is the machine's fault
 abbrev IsTold : Result Reply Fault → Type 0
@@ -61,15 +61,42 @@ does old new c t (Err f) out answers known text r e =
     let a = answers r.machine e in
     (r, inr (f, refused _ f a.0 known, text, refl), sym a.1)
 
+-- the same as what a line says that asks no word
+pub unasked : (old new : Plain) (said : Said) (c : Command) (t : ℕ) (answer : Result Reply Fault) (r : Result (Unit {0}) LineError) (out : List ℕ)
+    → ((y next : Ran) → Does y c t out next → SaysUnasked said y out next)
+    → model.Answers old c t answer new → OnOk r (answer ≢ Err OutOfMemory) → OnOk r (out ≡ answer_text answer)
+    → OnOk r (UnaskedAnswers old said out new)
+unasked old new said c t answer (Err e) out says answers known text = tt
+unasked old new said c t answer (Ok u) out says answers known text =
+    λ y e. let d = does old new c t answer out answers known text y e in (d.0, says y d.0 d.1, d.2)
+
 module _ {C : Type 0} (asks : C → ℕ → ℕ × C) (x : C) where
-  -- the same as what a line says
+  -- where no word is asked, the chooser stays
+  says : (said : Said) (y next : Ran) (out : List ℕ) → SaysUnasked said y out next → SaysOpened asks said y x out next x
+  says (Said.Open n) y next out s = (s, refl)
+  says (Said.Register t n replicated) y next out s = (s, refl)
+  says (Said.Renew t k dirty overridden replicated) y next out s = (s, refl)
+  says (Said.Cancel t k replicated) y next out s = (s, refl)
+  says (Said.SetStatus t k status dirty replicated) y next out s = (s, refl)
+  says (Said.UnsetStatus t k status dirty replicated) y next out s = (s, refl)
+  says (Said.Adopt t n) y next out s = (s, refl)
+  says (Said.Roll t) y next out s = (s, refl)
+  says (Said.Update t) y next out s = (s, refl)
+  says (Said.Evict t) y next out s = absurd s
+  says (Said.Look t k) y next out s = (s, refl)
+  says (Said.Counts t) y next out s = (s, refl)
+
+  pub stays : (p q : Plain) (said : Said) (r : Result (Unit {0}) LineError) (out : List ℕ)
+      → OnOk r (UnaskedAnswers p said out q) → OnOk r (OpenedAnswers asks p x said out q x)
+  stays p q said (Err e) out answers = tt
+  stays p q said (Ok u) out answers = λ y e. let d = answers y e in (d.0, says said y d.0 out d.1, d.2)
+
+  -- so a command is what a line says
   pub told : (old new : Plain) (said : Said) (c : Command) (t : ℕ) (answer : Result Reply Fault) (r : Result (Unit {0}) LineError) (out : List ℕ)
-      → ((y next : Ran) → Does y c t out next → SaysOpened asks said y x out next x)
+      → ((y next : Ran) → Does y c t out next → SaysUnasked said y out next)
       → model.Answers old c t answer new → OnOk r (answer ≢ Err OutOfMemory) → OnOk r (out ≡ answer_text answer)
       → OnOk r (OpenedAnswers asks old x said out new x)
-  told old new said c t answer (Err e) out says answers known text = tt
-  told old new said c t answer (Ok u) out says answers known text =
-      λ y e. let d = does old new c t answer out answers known text y e in (d.0, says y d.0 d.1, d.2)
+  told old new said c t answer r out tells answers known text = stays old new said r out (unasked old new said c t answer r out tells answers known text)
 
   -- a view that is printed is what is seen of each run of that plain form
   pub sees : (p : Plain) (q : Query) (t : ℕ) (out : List ℕ) (value : View) → Shows p (λ s. view s q t) value → out ≡ view_text value

@@ -1,4 +1,3 @@
-pub mod Texts
 pub mod Desks
 pub mod Alike
 pub mod Scripts

@@ -1,5 +1,3 @@
-pub mod Words
-pub mod Lines
 pub mod Texts
 pub mod Script
 pub mod Desk

@@ -3,6 +3,7 @@ use Rattle.std.specs.Prelude.{◌≡◌, ◌⊎◌, ℕ, Bool, true, false, not,
 use Rattle.eu_base.specs.declared.faults.Fault.{Fault}
 use Rattle.eu_base.specs.declared.instances.Instance.{Instance}
 use Rattle.eu_base.specs.declared.settings.Config.{Config}
+use Rattle.eu_base.specs.declared.times.Stamp.{Stamp}
 use Rattle.eu_lines.specs.declared.faults.ScriptFault.{ScriptFault}
 use Rattle.eu_lines.specs.Script.{Outcome}
 use Rattle.eu_model.specs.declared.commands.Command.{Command}
@@ -16,8 +17,9 @@ use Rattle.eu_model.specs.Run.{Run, fault}
 use Rattle.eu_model.specs.Step.{Step}
 use Rattle.eu_model.specs.View.{view}
 use Rattle.eu_core.specs.Evicts.{drawn_victims, drawn_state}
-use Rattle.eu_server.specs.Lines.{Said, newcomer_of, line_of}
-use Rattle.eu_server.specs.Lines.Said.{Open, Register, Renew, Cancel, Roll, Update, Evict, Look, Counts}
+use Rattle.eu_words.specs.Lines.{Said, newcomer_of, line_of}
+use Rattle.eu_words.specs.Lines.Said.{Open, Register, Renew, Cancel, SetStatus, UnsetStatus, Adopt, Roll, Update, Evict, Look, Counts}
+use Rattle.eu_words.specs.Words.{number_of}
 use Rattle.eu_server.specs.Texts.{reply_text, refused_text, view_text}
 
 -- A run of the lease machine: its settings, the number of clients with which it was opened, its entries so far, and the
@@ -53,8 +55,14 @@ Sees r q t out next = (out ≡ view_text (view r.machine q t)) × (next ≡ r)
 -- a line that says this prints out once the registry is open, asks no word, and takes its run from r to next
 abbrev pub SaysUnasked : Said → Ran → List ℕ → Ran → Type 0
 SaysUnasked (Register t n replicated) r out next = (i : Instance) × (newcomer_of i ≡ n) × Does r (command.Register i replicated) t out next
-SaysUnasked (Renew t k replicated) r out next = Does r (command.Renew k None None replicated) t out next
+SaysUnasked (Renew t k dirty overridden replicated) r out next =
+    (stamp : Option Stamp) × (number_of stamp ≡ dirty) × Does r (command.Renew k stamp overridden replicated) t out next
 SaysUnasked (Cancel t k replicated) r out next = Does r (command.Cancel k replicated) t out next
+SaysUnasked (SetStatus t k status dirty replicated) r out next =
+    (stamp : Option Stamp) × (number_of stamp ≡ dirty) × Does r (command.SetStatus k status stamp replicated) t out next
+SaysUnasked (UnsetStatus t k status dirty replicated) r out next =
+    (stamp : Option Stamp) × (number_of stamp ≡ dirty) × Does r (command.UnsetStatus k status stamp replicated) t out next
+SaysUnasked (Adopt t n) r out next = (i : Instance) × (newcomer_of i ≡ n) × Does r (command.Adopt i) t out next
 SaysUnasked (Roll t) r out next = Does r command.Roll t out next
 SaysUnasked (Update t) r out next = Does r command.Update t out next
 SaysUnasked (Look t k) r out next = Sees r (asked.One k) t out next

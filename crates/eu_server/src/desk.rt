@@ -1,17 +1,17 @@
 //! A registry that answers the lines of a script.
 ghost use Rattle.std.specs.Prelude.{◌≡◌, ◌≢◌, ◌++◌, [], None, OnOk, IfErr, Err, IsTrue, not, string_bytes};
 ghost use Rattle.eu_server.specs.Texts.{answer_text};
-ghost use Rattle.eu_server.specs.Lines.{said_of};
+ghost use Rattle.eu_words.specs.Lines.{said_of};
 ghost use Rattle.eu_server.specs.Script.{opens};
-ghost use Rattle.eu_server.specs.Desk.{DeskAnswers, DeskRefuses, ClosedAnswers, OpenedAnswers};
+ghost use Rattle.eu_server.specs.Desk.{DeskAnswers, DeskRefuses, ClosedAnswers, OpenedAnswers, UnaskedAnswers, is_stamped};
 
-use crate::lines::{Line, read_line};
 use crate::printing::{print_counts, print_look, print_refusal, print_reply};
 use eu_base::{Config, Fault};
 use eu_clock::Chooser;
 use eu_core::Registry;
 use eu_lines::{Answerer, LineError};
 use eu_model::Reply;
+use eu_words::{Line, read_line};
 use std::alloc::Global;
 
 /// Answers the lines of a script, by a registry once a line has opened it.
@@ -88,17 +88,57 @@ fn answer_opened<C: Chooser>(
             instance,
             replicated,
         } => print_answer(out, registry.register(alloc, instance, replicated, moment)),
-        Line::Renew {
-            moment,
-            key,
-            replicated,
-        } => print_answer(out, registry.renew(&key, replicated, moment)),
+        Line::Adopt { moment, instance } => {
+            print_answer(out, registry.adopt(alloc, instance, moment))
+        }
         Line::Cancel { key, .. } => print_answer(out, Ok(registry.cancel(&key))),
         Line::Roll { .. } => print_answer(out, Ok(registry.roll())),
         Line::Update { .. } => print_answer(out, Ok(registry.update())),
         Line::Evict { moment } => print_answer(out, registry.evict(alloc, moment, chooser)),
         Line::Look { moment, key } => Ok(print_look(out, registry.look(&key, moment))?),
         Line::Counts { .. } => Ok(print_counts(out, &registry.counts())?),
+        line => answer_stamped(alloc, registry, line, out),
+    }
+}
+
+/// Answers a line whose stamp may be absent: it renews a lease, or sets or unsets a status. `Bad` where it does none of
+/// these; `OutOfMemory`.
+fn answer_stamped(
+    alloc: Global,
+    registry: &mut Registry,
+    line: Line,
+    out: &mut String,
+) -> Result<(), LineError>
+    requires { string_bytes out.old ≡ [] }
+    ensures ok { OnOk result (UnaskedAnswers registry.old (said_of line) (string_bytes out.new) registry.new) }
+    ensures bad { result ≡ Err LineError.Bad → IsTrue (not (is_stamped (said_of line))) }
+{
+    match line {
+        Line::Renew {
+            moment,
+            key,
+            dirty,
+            overridden,
+            replicated,
+        } => print_answer(
+            out,
+            registry.renew(alloc, &key, dirty, overridden, replicated, moment),
+        ),
+        Line::SetStatus {
+            moment,
+            key,
+            status,
+            dirty,
+            ..
+        } => print_answer(out, registry.set_status(alloc, &key, status, dirty, moment)),
+        Line::UnsetStatus {
+            moment,
+            key,
+            status,
+            dirty,
+            ..
+        } => print_answer(out, Ok(registry.unset_status(&key, status, dirty, moment))),
+        _ => Err(LineError::Bad),
     }
 }
 

@@ -2,13 +2,13 @@
 #![tactic(auto)]
 
 mod desk;
-mod lines;
 mod printing;
 mod script;
-mod words;
 
 pub use eu_lines::ScriptFault;
 pub use script::{answer_script, run_script};
 
+#[cfg(test)]
+mod examples;
 #[cfg(test)]
 mod tests;

@@ -18,10 +18,19 @@ use std::io::{Read, Write};
 /// between single spaces:
 ///
 /// - `open N` opens the registry, which expects N clients, and prints `opened`. It stands once, before the others.
-/// - `register T APP ID SECS STATUS UNKNOWN DIRTY SRC` registers an instance with a lease of SECS seconds (0 stands for
-///   90) and the stamp DIRTY (`-` stands for T), and prints `204`.
-/// - `renew T APP ID - - SRC` renews a lease, and prints `200`, or `404` where none is held or it isn't to be renewed.
+/// - `register T APP ID SECS STATUS OVR DIRTY SRC` registers an instance of this status and overridden status with a lease
+///   of SECS seconds (0 stands for 90) and the stamp DIRTY (`-` stands for T), and prints `204`.
+/// - `renew T APP ID DIRTY OVR SRC` renews a lease, and prints `200`, or `404` where none is held or it isn't to be renewed.
+///   Where DIRTY is greater than the held stamp, the lease is renewed but `404` is printed, and a peer's OVR other than
+///   UNKNOWN becomes the overridden status. Where it is smaller and a peer sends it, the lease is renewed and
+///   `409 STATUS OVERRIDDEN D` printed: the statuses and the stamp that are held. DIRTY and OVR may be `-`, for none.
 /// - `cancel T APP ID SRC` ends a lease, and prints `200`, or `404` where none is held.
+/// - `set T APP ID STATUS DIRTY SRC` renews a lease and has STATUS override the instance's own, and prints `200`, or `404`
+///   where no lease is visible. A greater DIRTY replaces the held stamp; it may be `-`, for none.
+/// - `unset T APP ID STATUS DIRTY SRC` renews a lease and takes back the status that overrides the instance's own, which is
+///   STATUS from now on (`-` stands for UNKNOWN). What it prints and what DIRTY does are as for `set`.
+/// - `adopt T APP ID SECS STATUS OVR DIRTY` takes over an instance that a peer holds: an OVR other than UNKNOWN becomes the
+///   overridden status here, and then the instance is registered as by a peer. It prints `204`.
 /// - `roll T` ends a minute, and prints `last N`: the renewals that were counted in it.
 /// - `update T` counts the clients anew, and prints `expected N`: how many are expected from now on.
 /// - `evict T` makes a pass, and prints `evicted K` and the application and the id of each of the K victims, in the order in
@@ -31,9 +40,10 @@ use std::io::{Read, Write};
 /// - `counts T` prints `held H expected E threshold V last L permitted yes`, or `no`.
 ///
 /// T is a moment in milliseconds, up to 2^62. APP and ID have 1 to 255 bytes of UTF-8; APP's ASCII letters are put in
-/// capitals. SECS is at most 2,147,483, and DIRTY at most 2^63 - 1. SRC is `c` for a client, and `r` for a peer that
-/// replicates. A number has 1 to 20 digits. Where the registry refuses a command, the line prints `refused` and the
-/// fault's number, nothing changes, and the script goes on.
+/// capitals. SECS is at most 2,147,483, and DIRTY at most 2^63 - 1. STATUS and OVR are `UP`, `DOWN`, `STARTING`,
+/// `OUT_OF_SERVICE` or `UNKNOWN`. SRC is `c` for a client, and `r` for a peer that replicates. A number has 1 to 20
+/// digits. Where the registry refuses a command, the line prints `refused` and the fault's number, nothing changes, and
+/// the script goes on.
 ///
 /// `BadLine` comes where a line is none of these, or has more than 4,096 bytes; `Read` where a read failed, or the script
 /// has more than 16,777,216 bytes; `Write` where a write or a flush failed; and `OutOfMemory` where there was no memory

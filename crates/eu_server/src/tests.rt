@@ -155,6 +155,67 @@ fn an_expired_lease_is_hidden_while_eviction_is_permitted(rt: HostRuntime) -> Re
 }
 
 #[test]
+fn stamps_are_compared(rt: HostRuntime) -> Result<(), Fail> {
+    let cases = [
+        (
+            b"open 0\nregister 0 A i1 90 UP UNKNOWN 10 c\nrenew 1 A i1 9 - c\nrenew 1 A i1 10 - c\nrenew 1 A i1 11 - c\nrenew 1 A i1 9 - r\nrenew 1 A i1 10 - r\nrenew 1 A i1 11 - r\nroll 2\n".as_slice(),
+            b"opened\n204\n200\n200\n404\n409 UP UNKNOWN 10\n200\n404\nlast 6\n".as_slice(),
+        ),
+        // the status that a peer brings with a newer stamp overrides the held one
+        (
+            b"open 0\nregister 0 A i1 90 UP UNKNOWN 3 c\nadopt 1 A i1 90 UP OUT_OF_SERVICE 7\nlook 1 A i1\nadopt 2 A i1 30 STARTING UNKNOWN 5\nlook 2 A i1\n",
+            b"opened\n204\n204\nfound OUT_OF_SERVICE OUT_OF_SERVICE dirty 7 secs 90 registered 1 up 0 updated 1\n204\nfound OUT_OF_SERVICE OUT_OF_SERVICE dirty 7 secs 30 registered 2 up 0 updated 2\n",
+        ),
+    ];
+    let config = Config::new(true, 85, 30, 60_000)?;
+    for (text, printed) in cases {
+        assert!(rt; prints(rt.alloc(), config, text, printed));
+    }
+    Ok(())
+}
+
+#[test]
+fn statuses_are_set_and_unset(rt: HostRuntime) -> Result<(), Fail> {
+    let cases = [
+        // without a status of its own the instance is UNKNOWN, and isn't renewed
+        (
+            b"open 0\nregister 0 A i1 90 UP UNKNOWN - c\nset 1 A i1 OUT_OF_SERVICE - c\nrenew 2 A i1 - - c\nunset 3 A i1 - - c\nrenew 4 A i1 - - c\nroll 5\n".as_slice(),
+            b"opened\n204\n200\n200\n200\n404\nlast 1\n".as_slice(),
+        ),
+        // an override goes by the id, whichever the application
+        (
+            b"open 0\nregister 0 A x 90 UP UNKNOWN - c\nregister 0 B x 90 UP UNKNOWN - c\nset 1 A x OUT_OF_SERVICE - c\nrenew 3 B x - - c\nlook 3 B x\n",
+            b"opened\n204\n204\n200\n200\nfound OUT_OF_SERVICE UNKNOWN dirty 0 secs 90 registered 0 up 0 updated 90003\n",
+        ),
+        (
+            b"open 0\nregister 0 A x 90 UP UNKNOWN - c\nregister 0 B x 90 UP UNKNOWN - c\nset 1 A x OUT_OF_SERVICE - c\ncancel 2 C x c\nrenew 3 B x - - c\nlook 3 B x\n",
+            b"opened\n204\n204\n200\n404\n200\nfound UP UNKNOWN dirty 0 secs 90 registered 0 up 0 updated 90003\n",
+        ),
+        // a registration again stays overridden
+        (
+            b"open 0\nregister 1 A i1 90 UP OUT_OF_SERVICE 1 c\nregister 2 A i1 90 UP UNKNOWN 2 c\nlook 2 A i1\nunset 3 A i1 UP - c\nlook 3 A i1\n",
+            b"opened\n204\n204\nfound OUT_OF_SERVICE OUT_OF_SERVICE dirty 2 secs 90 registered 2 up 0 updated 2\n200\nfound UP UNKNOWN dirty 2 secs 90 registered 2 up 0 updated 90003\n",
+        ),
+    ];
+    let config = Config::new(true, 85, 30, 60_000)?;
+    for (text, printed) in cases {
+        assert!(rt; prints(rt.alloc(), config, text, printed));
+    }
+    Ok(())
+}
+
+#[test]
+fn a_status_is_set_on_a_visible_lease_alone(rt: HostRuntime) -> Result<(), Fail> {
+    let text =
+        b"open 0\nregister 0 A i1 10 UP UNKNOWN 0 c\nlook 10000 A i1\nlook 10001 A i1\nset 10001 A i1 DOWN - c\nrenew 10001 A i1 - - c\nlook 10001 A i1\n".as_slice();
+    let printed =
+        b"opened\n204\nfound UP UNKNOWN dirty 0 secs 10 registered 0 up 0 updated 0\n404\n404\n200\nfound UP UNKNOWN dirty 0 secs 10 registered 0 up 0 updated 20001\n".as_slice();
+    let evicting = Config::new(false, 85, 30, 60_000)?;
+    assert!(rt; prints(rt.alloc(), evicting, text, printed));
+    Ok(())
+}
+
+#[test]
 fn minutes_end(rt: HostRuntime) -> Result<(), Fail> {
     let config = Config::new(true, 85, 30, 60_000)?;
     let cases = [
@@ -334,7 +395,7 @@ fn bad_lines_are_told(rt: HostRuntime) -> Result<(), Fail> {
         (b"open +1\n", b"", 1),
         (b"open 4294967296\n", b"", 1),
         (b"open 000000000000000000001\n", b"", 1),
-        (b"open 1\nregister 0 A i1 90 UP UP 0 c\n", b"opened\n", 2),
+        (b"open 1\nregister 0 A i1 90 UP - 0 c\n", b"opened\n", 2),
         (
             b"open 1\nregister 0 A i1 90 up UNKNOWN 0 c\n",
             b"opened\n",
@@ -375,8 +436,13 @@ fn bad_lines_are_told(rt: HostRuntime) -> Result<(), Fail> {
             b"opened\n",
             2,
         ),
-        (b"open 1\nrenew 0 A i1 5 - c\n", b"opened\n", 2),
-        (b"open 1\nrenew 0 A i1 - UP c\n", b"opened\n", 2),
+        (b"open 1\nrenew 0 A i1 -5 - c\n", b"opened\n", 2),
+        (b"open 1\nrenew 0 A i1 - up c\n", b"opened\n", 2),
+        (b"open 1\nset 0 A i1 - - c\n", b"opened\n", 2),
+        (b"open 1\nset 0 A i1 UP - c c\n", b"opened\n", 2),
+        (b"open 1\nunset 0 A i1 - c\n", b"opened\n", 2),
+        (b"open 1\nunset 0 A i1 UP -\n", b"opened\n", 2),
+        (b"open 1\nadopt 0 A i1 90 UP UNKNOWN 0 r\n", b"opened\n", 2),
         (b"open 1\ncancel 0 A i1\n", b"opened\n", 2),
         (b"open 1\ncancel 0 A i1 c c\n", b"opened\n", 2),
         (b"open 1\nroll\n", b"opened\n", 2),
@@ -386,6 +452,9 @@ fn bad_lines_are_told(rt: HostRuntime) -> Result<(), Fail> {
         (b"open 1\nlook 0 A i1 c\n", b"opened\n", 2),
         (b"open 1\nevict 0 0\n", b"opened\n", 2),
         (b"look 0 A i1\n", b"", 1),
+        (b"set 0 A i1 UP - c\n", b"", 1),
+        (b"unset 0 A i1 UP - c\n", b"", 1),
+        (b"adopt 0 A i1 90 UP UNKNOWN 0\n", b"", 1),
         (b"roll 0\n", b"", 1),
     ];
     for (text, printed, line) in cases {

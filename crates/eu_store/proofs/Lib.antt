@@ -1,3 +1,4 @@
 pub mod SortedLemmas
+pub mod TableLemmas
 pub mod MapLemmas
 pub mod ListedLemmas

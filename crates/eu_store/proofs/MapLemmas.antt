@@ -14,68 +14,9 @@ use Rattle.eu_model.specs.declared.views.Listed.{Listed}
 use Rattle.eu_model.specs.Kept.{kept_expired}
 use Rattle.eu_store.specs.Stored.{expired_keys}
 use Rattle.eu_store.proofs.SortedLemmas.{passing, gathered}
+use Rattle.eu_store.proofs.TableLemmas.{map_of}
 use Rattle.eu_base.specs.Key.{key_cmp, key_eq}
 use Rattle.eu_base.proofs.KeyLemmas.{keys_total, keys_exact, key_eq-ties, key_eq-tie}
-
-flipped : (k q : Key) → key_eq k q ≡ eq_by_cmp key_cmp q k
-flipped k q = key_eq-ties k q ∙ (eq_by_cmp_equiv keys_total).symm k q
-
-module _ {X : Type 0} where
-  abbrev pub held_of : List (Key × X) → FinMap key_cmp X
-  held_of es = from_entries {R = key_cmp} es
-
-  find-lookup : (es : List (Key × X)) (q : Key) → find key_cmp q es ≡ lookup (key_eq q) es
-  find-lookup [] q = refl
-  find-lookup (e ∷ es) q = λ i. cond (sym (key_eq-ties q e.0) i) (Some e.1) (find-lookup es q i)
-
-  pub get_at : (es : List (Key × X)) (q : Key) → get (held_of es) q ≡ lookup (key_eq q) es
-  get_at es q = get-from_entries keys_total es q ∙ find-lookup es q
-
-  -- entries that differ at one key make maps that differ there
-  pub inserted : (es fs : List (Key × X)) (k : Key) (v : X) → ((q : Key) → lookup (key_eq q) fs ≡ cond (key_eq k q) (Some v) (lookup (key_eq q) es)) → held_of fs ≡ insert (held_of es) k v
-  inserted es fs k v h = same_map keys_total keys_exact _ _ (λ q.
-      get_at fs q ∙ h q ∙ ap (λ b. cond b (Some v) (lookup (key_eq q) es)) (flipped k q)
-      ∙ sym (get-insert keys_total (held_of es) k v q ∙ ap (cond (eq_by_cmp key_cmp q k) (Some v)) (get_at es q)))
-
-  pub removed : (es fs : List (Key × X)) (k : Key) → ((q : Key) → lookup (key_eq q) fs ≡ cond (key_eq k q) None (lookup (key_eq q) es)) → held_of fs ≡ remove (held_of es) k
-  removed es fs k h = same_map keys_total keys_exact _ _ (λ q.
-      get_at fs q ∙ h q ∙ ap (λ b. cond b None (lookup (key_eq q) es)) (flipped k q)
-      ∙ sym (get-remove keys_total (held_of es) k q ∙ ap (cond (eq_by_cmp key_cmp q k) None) (get_at es q)))
-
-  absent : (k : Key) (es : List (Key × X)) → AllByRecursion (λ y. key_eq k y ≡ false) (keys_of es) → lookup (key_eq k) es ≡ None
-  absent k [] h = refl
-  absent k (e ∷ es) h = ap (λ b. cond b (Some e.1) (lookup (key_eq k) es)) h.0 ∙ absent k es h.1
-
-  pub len_at : (es : List (Key × X)) → IsDistinct key_eq (keys_of es) → len (held_of es) ≡ length es
-  len_at [] d = len-empty key_cmp X
-  len_at (e ∷ es) d =
-      let none = ap is_some (get_at es e.0 ∙ absent e.0 es (IsDistinct-head key_eq e.0 (keys_of es) d)) in
-      let rest = len_at es (IsDistinct-tail key_eq e.0 (keys_of es) d) in
-      len-insert keys_total (held_of es) e.0 e.1 ∙ ap (λ b. cond b (len (held_of es)) (len (held_of es) + 1)) none ∙ omega (arith, rest)
-
-  pub changed-found : (f : X → X) (m : FinMap key_cmp X) (k : Key) (h : X) → get m k ≡ Some h → option_map_or (λ x. insert m k (f x)) (get m k) m ≡ insert m k (f h)
-  changed-found f m k h e = ap (λ o. option_map_or (λ x. insert m k (f x)) o m) e
-
-  pub changed-absent : (f : X → X) (m : FinMap key_cmp X) (k : Key) → get m k ≡ None → option_map_or (λ x. insert m k (f x)) (get m k) m ≡ m
-  changed-absent f m k e = ap (λ o. option_map_or (λ x. insert m k (f x)) o m) e
-
-  -- what the table finds at a key is what the map has there
-  pub get_in : (es : List (Key × X)) (m : FinMap key_cmp X) (k : Key) (o : Option X) → held_of es ≡ m → o ≡ lookup (key_eq k) es → get m k ≡ o
-  get_in es m k o is found = ap (λ n. get n k) (sym is) ∙ get_at es k ∙ sym found
-
-  -- a write through the value at a key
-  pub changed_in : (f : X → X) (es fs : List (Key × X)) (m : FinMap key_cmp X) (k : Key) (h v : X) → held_of es ≡ m → Some h ≡ lookup (key_eq k) es
-      → ((q : Key) → lookup (key_eq q) fs ≡ cond (key_eq k q) (Some v) (lookup (key_eq q) es)) → v ≡ f h
-      → held_of fs ≡ option_map_or (λ x. insert m k (f x)) (get m k) m
-  changed_in f es fs m k h v is found updates now =
-      inserted es fs k v updates ∙ (λ i. insert (is i) k (now i)) ∙ sym (changed-found f m k h (get_in es m k (Some h) is found))
-
-  pub unchanged_in : (f : X → X) (es fs : List (Key × X)) (m : FinMap key_cmp X) (k : Key) → held_of es ≡ m → None ≡ lookup (key_eq k) es → fs ≡ es
-      → held_of fs ≡ option_map_or (λ x. insert m k (f x)) (get m k) m
-  unchanged_in f es fs m k is found same = ap held_of same ∙ is ∙ sym (changed-absent f m k (get_in es m k None is found))
-
-  pub len_in : (es : List (Key × X)) (m : FinMap key_cmp X) → held_of es ≡ m → IsDistinct key_eq (keys_of es) → len m ≡ length es
-  len_in es m is d = ap len (sym is) ∙ len_at es d
 
 -- what is not there cannot be there
 pub none_is_not_some : {X : Type 0} (o : Option X) → o ≡ None → is_some o ≡ true → ⊥
@@ -107,6 +48,6 @@ abbrev pub expired_among : ℕ → ℕ → List (Key × Listed) → List Key
 expired_among moment extra es = passing (λ (l : Listed). kept_expired l moment extra) es
 
 -- gathered in any order and sorted, they are those of the map
-pub sorted_expired : (moment extra : ℕ) (es : List (Key × Listed)) (ks : List Key) → IsDistinct key_eq (keys_of es) → IsPermutation (expired_among moment extra es) ks → IsSorted key_cmp ks → ks ≡ expired_keys (held_of es) moment extra
+pub sorted_expired : (moment extra : ℕ) (es : List (Key × Listed)) (ks : List Key) → IsDistinct key_eq (keys_of es) → IsPermutation (expired_among moment extra es) ks → IsSorted key_cmp ks → ks ≡ expired_keys (map_of es) moment extra
 sorted_expired moment extra es ks apart moved up =
     gathered (λ (l : Listed). kept_expired l moment extra) keys_total keys_exact (record { app = []; id = [] }) es ks (subst (λ (e : Key → Key → Bool). IsDistinct e (keys_of es)) key_eq-tie apart) moved up

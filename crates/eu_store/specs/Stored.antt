@@ -1,14 +1,16 @@
 -- The leases as their users see them: a finite map, and how many more can be put without taking memory
-use Rattle.std.specs.Prelude.{ℕ, ◌+◌, ◌==◌, if◌then◌else◌, List, map, filter, refl}
+use Rattle.std.specs.Prelude.{ℕ, ◌+◌, ◌==◌, if◌then◌else◌, Option, List, map, filter, refl}
 use Rattle.std.specs.FinMap.{FinMap, get, insert, entries}
 use Rattle.std.specs.Option.{option_map_or}
 use Rattle.std.specs.Coded.{Coded, code_by, coded×, coded_ℕ}
 use Rattle.eu_base.specs.declared.names.Key.{Key}
 use Rattle.eu_base.specs.declared.statuses.Status.{Status}
+use Rattle.eu_base.specs.declared.times.Stamp.{Stamp}
 use Rattle.eu_base.specs.declared.instances.Instance.{Instance}
 use Rattle.eu_base.specs.Key.{key_cmp}
 use Rattle.eu_model.specs.declared.views.Listed.{Listed}
 use Rattle.eu_model.specs.Record.{duration}
+use Rattle.eu_model.specs.Change.{stamped}
 use Rattle.eu_model.specs.Kept.{kept_expired}
 use Rattle.eu_model.specs.PlainCode.{coded_leases}
 use Rattle.eu_lease.specs.Term.{Term, listed_with}
@@ -36,9 +38,10 @@ renewed_at t l = record l { times = record l.times { updated = t + duration l.in
 abbrev pub upped_at : ℕ → Listed → Listed
 upped_at t l = record l { times = record l.times { up = if l.times.up == 0 then t else l.times.up } }
 
--- its instance given a status
-abbrev pub given_status : Status → Listed → Listed
-given_status status l = record l { instance = record l.instance { status = status } }
+-- its instance in these statuses, and with a greater stamp, where one is given
+abbrev pub amended : Status → Status → Option Stamp → Listed → Listed
+amended status overridden dirty l =
+    record l { instance = stamped dirty (record l.instance { status = status; overridden = overridden }) }
 
 -- the instance kept, but for the statuses and a newcomer's duration, and its lease begun anew
 abbrev pub rejoined : Instance → Status → Status → Term → Listed → Listed

@@ -2,9 +2,9 @@
 ghost use Rattle.std.specs.Prelude.{◌≡◌};
 ghost use Rattle.eu_lease.specs.Term.{listed_with};
 ghost use Rattle.eu_model.specs.Kept.{kept_expired};
-ghost use Rattle.eu_store.specs.Stored.{term_of, renewed_at, upped_at, given_status, rejoined};
+ghost use Rattle.eu_store.specs.Stored.{term_of, renewed_at, upped_at, amended, rejoined};
 
-use eu_base::{Instance, Moment, Status};
+use eu_base::{Instance, Moment, Stamp, Status};
 use eu_lease::Lease;
 use eu_model::Times;
 use std::marker::Model;
@@ -79,12 +79,36 @@ impl Held {
         self.lease.service_up(moment);
     }
 
-    /// Gives the instance a status.
-    pub fn set_status(&mut self, status: Status)
-        ensures { self.new ≡ given_status status self.old }
+    /// Puts the instance in these statuses; a greater stamp replaces the held one.
+    pub fn amend(&mut self, status: Status, overridden: Status, dirty: Option<Stamp>)
+        ensures { self.new ≡ amended status overridden dirty self.old }
     {
         self.instance.status = status;
+        self.instance.overridden = overridden;
+        match dirty {
+            Some(stamp) => {
+                if stamp.value > self.instance.dirty {
+                    self.instance.dirty = stamp.value;
+                }
+            }
+            None => {}
+        }
     }
+
+    /// Renews its lease and amends the instance.
+    pub fn renew_as(
+        &mut self,
+        moment: Moment,
+        status: Status,
+        overridden: Status,
+        dirty: Option<Stamp>,
+    )
+        ensures { self.new ≡ amended status overridden dirty (renewed_at moment self.old) }
+    {
+        self.renew(moment);
+        self.amend(status, overridden, dirty);
+    }
+
     /// Keeps the instance, but for the statuses and a newcomer's duration, with this lease.
     pub fn rejoin(&mut self, newcomer: &Instance, status: Status, overridden: Status, lease: Lease)
         requires { lease.secs ≡ newcomer.now.secs }

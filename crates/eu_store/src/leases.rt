@@ -2,10 +2,10 @@
 ghost use Rattle.std.specs.Prelude.{◌≡◌, ◌↔◌, ◌<◌, ◌≤◌, ◌+◌, ◌⊎◌, None, if◌then◌else◌, is_some, IsSome, IfOk, IfErr, OnOk};
 ghost use Rattle.std.specs.Option.{option_copied};
 ghost use Rattle.std.specs.FinMap as map;
-ghost use Rattle.eu_store.specs.Stored.{changed, renewed_at, given_status, upped_at, rejoined, expired_keys};
+ghost use Rattle.eu_store.specs.Stored.{changed, renewed_at, amended, upped_at, rejoined, expired_keys};
 
 use crate::Held;
-use eu_base::{Fault, Instance, Key, Moment, Status};
+use eu_base::{Fault, Instance, Key, Moment, Stamp, Status};
 use eu_lease::Lease;
 use indexmap::IndexMap;
 use std::alloc::{AllocError, Global};
@@ -138,16 +138,44 @@ impl Leases {
         }
     }
 
-    /// Renews the lease of that key, gives its instance a status, and tells whether one is held. Takes no memory.
-    pub fn renew_as(&mut self, key: &Key, status: Status, moment: Moment) -> bool
+    /// Puts the instance of that key in these statuses; a greater stamp replaces the held one. Tells whether one is held. Takes
+    /// no memory.
+    pub fn amend(
+        &mut self,
+        key: &Key,
+        status: Status,
+        overridden: Status,
+        dirty: Option<Stamp>,
+    ) -> bool
         ensures found { result ≡ is_some (map.get self.old.held key.now) }
-        ensures held { self.new.held ≡ changed (λ l. given_status status (renewed_at moment l)) self.old.held key.now }
+        ensures held { self.new.held ≡ changed (amended status overridden dirty) self.old.held key.now }
         ensures room { self.new.room ≡ self.old.room }
     {
         match self.table.get_mut(key) {
             Some(held) => {
-                held.renew(moment);
-                held.set_status(status);
+                held.amend(status, overridden, dirty);
+                true
+            }
+            None => false,
+        }
+    }
+
+    /// Renews the lease of that key, and amends its instance. Tells whether one is held. Takes no memory.
+    pub fn renew_as(
+        &mut self,
+        key: &Key,
+        moment: Moment,
+        status: Status,
+        overridden: Status,
+        dirty: Option<Stamp>,
+    ) -> bool
+        ensures found { result ≡ is_some (map.get self.old.held key.now) }
+        ensures held { self.new.held ≡ changed (λ l. amended status overridden dirty (renewed_at moment l)) self.old.held key.now }
+        ensures room { self.new.room ≡ self.old.room }
+    {
+        match self.table.get_mut(key) {
+            Some(held) => {
+                held.renew_as(moment, status, overridden, dirty);
                 true
             }
             None => false,

@@ -1,6 +1,6 @@
 //! Leases, with what they answer worked out by hand.
 use crate::{Held, Leases};
-use eu_base::{App, Fault, Id, Instance, Key, Moment, Status};
+use eu_base::{App, Fault, Id, Instance, Key, Moment, Stamp, Status};
 use eu_lease::Lease;
 use std::alloc::Global;
 use std::test::Fail;
@@ -83,7 +83,18 @@ fn a_lease_is_renewed(rt: HostRuntime) -> Result<(), Fail> {
     assert!(rt; leases.renew(&first, now));
     assert!(rt; leases.mark_up(&first, now));
     assert!(rt; updated(&leases, &first) == Some(10_005));
-    assert!(rt; leases.renew_as(&first, Status::Down, now));
+    assert!(rt; leases.renew_as(&first, now, Status::Down, Status::Down, None));
+    Ok(())
+}
+
+#[test]
+fn a_greater_stamp_is_taken(rt: HostRuntime) -> Result<(), Fail> {
+    let mut leases = leases(rt.alloc(), ["i1"].as_slice())?;
+    let first = key(rt.alloc(), "i1")?;
+    assert!(rt; leases.amend(&first, Status::Down, Status::Down, Stamp::new(6)));
+    assert!(rt; stamp(&leases, &first) == Some((7, 10)));
+    assert!(rt; leases.amend(&first, Status::Down, Status::Down, Stamp::new(8)));
+    assert!(rt; stamp(&leases, &first) == Some((8, 10)));
     Ok(())
 }
 

@@ -1,4 +1,4 @@
-use Rattle.std.proofs.Common.{ap, ◌∙◌, subst, ◌≤◌}
+use Rattle.std.proofs.Common.{ap, sym, ◌∙◌, subst, ◌≤◌}
 use Rattle.std.specs.Prelude.{Some}
 use Rattle.std.specs.Option.{option_map_or}
 use Rattle.std.specs.FinMap.{insert}
@@ -8,24 +8,25 @@ use Rattle.eu_model.specs.Override.{rule}
 use Rattle.eu_model.specs.Change.{row_after, up_after}
 use Rattle.eu_lease.specs.Term.{Term, times_of, anew}
 use Rattle.eu_store.specs.Stored.{changed}
-use Rattle.eu_core.specs.Joins.{IsPart}
+use Rattle.eu_core.specs.Joins.{IsPart, read, read_as, Joins}
 use Rattle.eu_core.proofs.JoinLemmas.{joins_from, some_and, chosen_over}
 use Rattle.eu_core.proofs.joins.join_over.Goals as goal
 
 pub returns-clause-ok : goal.returns-clause-ok
 returns-clause-ok c =
-    let h = some_and (IsPart c.args.held) _ c.requires.held in
-    let l = h.0 in
+    let h = some_and (λ l. IsPart c.args.held (read_as c.args.held l)) _ c.requires.held in
+    let l = read_as c.args.held h.0 in
     let L = c.args.leases.now.held in
     let x = c.new.result in
-    joins_from _ _ _ _ _ c.args.instance c.args.instance c.args.replicated c.args.moment (Some l) x _ _ _ _ _
-    h.1 (chosen_over l c.args.instance (subst (λ d. d ≤ c.args.instance.dirty) h.2.dirty c.requires.newer)) c.get-row.ensures
+    subst (λ o. Joins L c.replace.new.self.held c.args.rows.now.rows c.put.new.self.rows c.args.instance o c.args.row c.args.replicated c.args.moment) (sym (ap (read (Some c.args.held)) h.1))
+    (joins_from _ _ _ _ _ c.args.instance c.args.instance c.args.replicated c.args.moment (Some l) x c.args.row _ _ _ _
+    (chosen_over l c.args.instance (subst (λ d. d ≤ c.args.instance.dirty) h.2.dirty c.requires.newer))
     c.settle-settled.ensures.row c.settle-settled.ensures.overridden
-    (c.settle-settled.ensures.status ∙ ap (λ s. rule c.args.instance.status (row_after c.get-row.result c.args.instance.overridden) (Some s) c.args.replicated) h.2.status)
+    (c.settle-settled.ensures.status ∙ ap (λ s. rule c.args.instance.status (row_after c.args.row c.args.instance.overridden) (Some s) c.args.replicated) h.2.status)
     (ap (λ (y : Listed). data_of y.instance) c.new.ensures)
     (ap (λ (y : Listed). y.times) c.new.ensures
     ∙ ap times_of (c.begun-lease.ensures ∙ ap (λ (a : Term). let b : Term = record a { up = up_after a.up c.settle-settled.result.status c.args.moment } in b)
     (c.anew-anew.ensures ∙ ap (λ a. anew a c.args.moment c.args.instance.secs) h.2.lease)))
     (c.replace.ensures.held ∙ ap (λ (y : Listed). changed (λ _. x) L y.instance.key) c.new.ensures
     ∙ ap (λ o. option_map_or (λ _. insert L c.args.instance.key x) o L) h.1)
-    c.prepare_row.ensures.rows c.in_ok-put.ensures.put c.put_row.ensures
+    c.in_ok-put.ensures.put c.prepare.ensures.rows c.put.ensures)

@@ -1,10 +1,10 @@
-use Rattle.std.proofs.Common.{Ok, None, ap, refl, string_bytes}
+use Rattle.std.proofs.Common.{Ok, ap, refl, string_bytes}
 use Rattle.eu_model.specs.declared.commands.Command.TheVariants as command
 use Rattle.eu_model.specs.declared.views.Query.TheVariants as asked
 use Rattle.eu_model.specs.declared.views.View.TheVariants as seen
 use Rattle.eu_core.specs.Shown.{shown}
-use Rattle.eu_server.specs.Lines.{Said, newcomer_of}
-use Rattle.eu_server.proofs.Desks.{told, sees, passes}
+use Rattle.eu_words.specs.Lines.{Said, newcomer_of, said_of}
+use Rattle.eu_server.proofs.Desks.{stays, told, sees, passes}
 use Rattle.eu_server.proofs.desk.answer_opened.Goals as goal
 
 pub returns-in-Register-clause-ok : goal.returns-in-Register-clause-ok
@@ -12,34 +12,35 @@ returns-in-Register-clause-ok g c =
     rw c.in-Register.is (told g.C.Chooser.asks c.args.chooser.now c.args.registry.now c.register.new.self (Said.Register c.in-Register.moment (newcomer_of c.in-Register.instance) c.in-Register.replicated)
     (command.Register c.in-Register.instance c.in-Register.replicated)
     c.in-Register.moment c.register.result c.print_answer.result (string_bytes c.print_answer.new.out)
-    (λ y next d. ((c.in-Register.instance, refl, d), refl)) c.register.ensures.answers c.print_answer.ensures.known (rw c.requires at c.print_answer.ensures.text))
+    (λ y next d. (c.in-Register.instance, refl, d)) c.register.ensures.answers c.print_answer.ensures.known (rw c.requires at c.print_answer.ensures.text))
 
-pub returns-in-Renew-clause-ok : goal.returns-in-Renew-clause-ok
-returns-in-Renew-clause-ok g c =
-    rw c.in-Renew.is (told g.C.Chooser.asks c.args.chooser.now c.args.registry.now c.renew.new.self (Said.Renew c.in-Renew.moment c.in-Renew.key c.in-Renew.replicated)
-    (command.Renew c.in-Renew.key None None c.in-Renew.replicated)
-    c.in-Renew.moment c.renew.result c.print_answer-in-Renew.result (string_bytes c.print_answer-in-Renew.new.out)
-    (λ y next d. (d, refl)) c.renew.ensures.answers c.print_answer-in-Renew.ensures.known (rw c.requires at c.print_answer-in-Renew.ensures.text))
+pub returns-in-Adopt-clause-ok : goal.returns-in-Adopt-clause-ok
+returns-in-Adopt-clause-ok g c =
+    rw c.in-Adopt.is (told g.C.Chooser.asks c.args.chooser.now c.args.registry.now c.adopt.new.self (Said.Adopt c.in-Adopt.moment (newcomer_of c.in-Adopt.instance))
+    (command.Adopt c.in-Adopt.instance)
+    c.in-Adopt.moment c.adopt.result c.print_answer-in-Adopt.result (string_bytes c.print_answer-in-Adopt.new.out)
+    (λ y next d. (c.in-Adopt.instance, refl, d)) c.adopt.ensures.answers c.print_answer-in-Adopt.ensures.known
+    (rw c.requires at c.print_answer-in-Adopt.ensures.text))
 
 pub returns-in-Cancel-clause-ok : goal.returns-in-Cancel-clause-ok
 returns-in-Cancel-clause-ok g c =
     rw c.in-Cancel.is (told g.C.Chooser.asks c.args.chooser.now c.args.registry.now c.cancel.new.self (Said.Cancel c.in-Cancel.moment c.in-Cancel.key c.in-Cancel.replicated)
     (command.Cancel c.in-Cancel.key c.in-Cancel.replicated)
     c.in-Cancel.moment (Ok c.cancel.result) c.print_answer-in-Cancel.result (string_bytes c.print_answer-in-Cancel.new.out)
-    (λ y next d. (d, refl)) (c.cancel.ensures c.in-Cancel.replicated c.in-Cancel.moment) c.print_answer-in-Cancel.ensures.known
+    (λ y next d. d) (c.cancel.ensures c.in-Cancel.replicated c.in-Cancel.moment) c.print_answer-in-Cancel.ensures.known
     (rw c.requires at c.print_answer-in-Cancel.ensures.text))
 
 pub returns-in-Roll-clause-ok : goal.returns-in-Roll-clause-ok
 returns-in-Roll-clause-ok g c =
     rw c.in-Roll.is (told g.C.Chooser.asks c.args.chooser.now c.args.registry.now c.roll.new.self (Said.Roll c.in-Roll.moment) command.Roll
     c.in-Roll.moment (Ok c.roll.result) c.print_answer-in-Roll.result (string_bytes c.print_answer-in-Roll.new.out)
-    (λ y next d. (d, refl)) (c.roll.ensures c.in-Roll.moment) c.print_answer-in-Roll.ensures.known (rw c.requires at c.print_answer-in-Roll.ensures.text))
+    (λ y next d. d) (c.roll.ensures c.in-Roll.moment) c.print_answer-in-Roll.ensures.known (rw c.requires at c.print_answer-in-Roll.ensures.text))
 
 pub returns-in-Update-clause-ok : goal.returns-in-Update-clause-ok
 returns-in-Update-clause-ok g c =
     rw c.in-Update.is (told g.C.Chooser.asks c.args.chooser.now c.args.registry.now c.update.new.self (Said.Update c.in-Update.moment) command.Update
     c.in-Update.moment (Ok c.update.result) c.print_answer-in-Update.result (string_bytes c.print_answer-in-Update.new.out)
-    (λ y next d. (d, refl)) (c.update.ensures c.in-Update.moment) c.print_answer-in-Update.ensures.known (rw c.requires at c.print_answer-in-Update.ensures.text))
+    (λ y next d. d) (c.update.ensures c.in-Update.moment) c.print_answer-in-Update.ensures.known (rw c.requires at c.print_answer-in-Update.ensures.text))
 
 pub returns-in_ok-print_look-in-Look-clause-ok : goal.returns-in_ok-print_look-in-Look-clause-ok
 returns-in_ok-print_look-in-Look-clause-ok g c =
@@ -56,3 +57,8 @@ returns-in-Evict-clause-ok g c =
     rw c.in-Evict.is (passes g.C.Chooser.asks c.args.chooser.now c.evict.new.chooser c.args.registry.now c.evict.new.self c.in-Evict.moment
     (string_bytes c.print_answer-in-Evict.new.out) c.evict.result c.print_answer-in-Evict.result c.evict.ensures.answers c.evict.ensures.drawn
     c.print_answer-in-Evict.ensures.known (rw c.requires at c.print_answer-in-Evict.ensures.text))
+
+pub returns-in_default-clause-ok : goal.returns-in_default-clause-ok
+returns-in_default-clause-ok g c =
+    stays g.C.Chooser.asks c.args.chooser.now c.args.registry.now c.answer_stamped.new.registry (said_of c.args.line) c.answer_stamped.result
+    (string_bytes c.answer_stamped.new.out) c.answer_stamped.ensures.ok

@@ -13,14 +13,14 @@ pub returns-in-Some : goal.returns-in-Some
 returns-in-Some c = λ replicated t.
     let p = plain_of c.self.inside in
     let left = c.left.ensures in
-    let whole : ◌≡◌ {A = Plain} (record p { config = c.left.new.self.config; leases = c.take.new.self.held; rows = c.remove.new.self.rows; expected = c.left.new.self.expected })
-    (record p { leases = c.take.new.self.held; rows = c.remove.new.self.rows; expected = p.expected - 1 }) =
-    λ i. record p { config = (left i).config; leases = c.take.new.self.held; rows = c.remove.new.self.rows; expected = (left i).expected } in
+    let whole : ◌≡◌ {A = Plain} (record p { config = c.left.new.self.config; leases = c.take-2.new.self.held; rows = c.take.new.self.rows; expected = c.left.new.self.expected })
+    (record p { leases = c.take-2.new.self.held; rows = c.take.new.self.rows; expected = p.expected - 1 }) =
+    λ i. record p { config = (left i).config; leases = c.take-2.new.self.held; rows = c.take.new.self.rows; expected = (left i).expected } in
     subst (λ q. Answers c.args.self.now (Cancel c.args.key.now replicated) t (Ok Done) q) (sym whole)
     (moved _ _ _ _ _ _ c.self.view_is
-    (found_answers p c.args.key.now replicated t _ _ c.take.ensures.held c.remove.ensures c.in-Some._lease (p.expected - 1) c.in-Some.ensures.before refl))
+    (found_answers p c.args.key.now replicated t _ _ c.take-2.ensures.held c.take.ensures.rows c.in-Some._lease (p.expected - 1) c.in-Some.ensures.before refl))
 
 pub returns-in-None : goal.returns-in-None
 returns-in-None c = λ replicated t.
     moved _ _ _ _ _ _ c.self.view_is
-    (missing_answers (plain_of c.self.inside) c.args.key.now replicated t _ _ c.take.ensures.held c.remove.ensures c.in-None.ensures.before)
+    (missing_answers (plain_of c.self.inside) c.args.key.now replicated t _ _ c.take-2.ensures.held c.take.ensures.rows c.in-None.ensures.before)

@@ -1,5 +1,5 @@
 use Rattle.std.proofs.Common.{rules, refl, string_bytes}
-use Rattle.eu_server.specs.Lines.{said_of}
+use Rattle.eu_words.specs.Lines.{said_of}
 use Rattle.eu_server.proofs.Desks.{closed, opened}
 use Rattle.eu_server.proofs.desk.DeskAnswerer.answer.Goals as goal
 

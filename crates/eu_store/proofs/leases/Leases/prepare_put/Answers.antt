@@ -3,23 +3,24 @@ use Rattle.std.proofs.Common.{Result, Err}
 use Rattle.std.specs.FinMap as map
 use Rattle.eu_base.specs.declared.faults.Fault.{Fault}
 use Rattle.eu_base.specs.declared.faults.Fault.TheVariants.{Full, OutOfMemory}
-use Rattle.eu_store.proofs.MapLemmas.{held_of, get_in, len_in, the_other, none_is_not_some, ok_is_no_err, none_from_is_some}
+use Rattle.eu_store.proofs.MapLemmas.{the_other, none_is_not_some, ok_is_no_err, none_from_is_some}
+use Rattle.eu_store.proofs.TableLemmas.{by_key, map_of, get_in, len_in}
 use Rattle.eu_store.proofs.leases.Leases.prepare_put.Goals as goal
 use Rattle.eu_store.proofs.leases.Leases.prepare_put.Goals.{in-Ok, in-Err}
 
 pub returns-then-contains_key-clause-ready : goal.returns-then-contains_key-clause-ready
 returns-then-contains_key-clause-ready c =
-    inl (ap is_some (get_in c.self.inside.table.entries c.args.self.now.held c.args.key.now _ (ap (λ s. s.held) c.self.view_is) refl) ∙ sym c.contains_key.ensures ∙ c.if-contains_key.true)
+    inl (ap is_some (get_in by_key c.self.inside.table.entries c.args.self.now.held c.args.key.now _ (ap (λ s. s.held) c.self.view_is) refl) ∙ sym c.contains_key.ensures ∙ c.if-contains_key.true)
 
 pub returns-then-contains_key-clause-full : goal.returns-then-contains_key-clause-full
 returns-then-contains_key-clause-full c =
-    let there = ap is_some (get_in c.self.inside.table.entries c.args.self.now.held c.args.key.now _ (ap (λ s. s.held) c.self.view_is) refl) ∙ sym c.contains_key.ensures ∙ c.if-contains_key.true in
+    let there = ap is_some (get_in by_key c.self.inside.table.entries c.args.self.now.held c.args.key.now _ (ap (λ s. s.held) c.self.view_is) refl) ∙ sym c.contains_key.ensures ∙ c.if-contains_key.true in
     ((λ e. absurd (ok_is_no_err e)), (λ h. absurd (none_is_not_some _ h.1 there)))
 
 pub returns-then-len-ge-MOST_LEASES-clause-full : goal.returns-then-len-ge-MOST_LEASES-clause-full
 returns-then-len-ge-MOST_LEASES-clause-full c =
-    let gone = ap is_some (get_in c.self.inside.table.entries c.args.self.now.held c.args.key.now _ (ap (λ s. s.held) c.self.view_is) refl) ∙ sym c.contains_key.ensures ∙ c.if-contains_key.false in
-    let long = len_in c.self.inside.table.entries c.args.self.now.held (ap (λ s. s.held) c.self.view_is) c.len.ensures.unique in
+    let gone = ap is_some (get_in by_key c.self.inside.table.entries c.args.self.now.held c.args.key.now _ (ap (λ s. s.held) c.self.view_is) refl) ∙ sym c.contains_key.ensures ∙ c.if-contains_key.false in
+    let long = len_in by_key c.self.inside.table.entries c.args.self.now.held (ap (λ s. s.held) c.self.view_is) c.len.ensures.unique in
     ((λ e. (omega (arith, c.self.invariant), none_from_is_some _ gone)), (λ h. refl))
 
 memory_is_not_full : ◌≡◌ {A = Result (Unit {0}) Fault} (Err OutOfMemory) (Err Full) → ⊥
@@ -27,6 +28,6 @@ memory_is_not_full h = cc
 
 pub returns-clause-full : goal.returns-clause-full
 returns-clause-full c =
-    let long = len_in c.self.inside.table.entries c.args.self.now.held (ap (λ s. s.held) c.self.view_is) c.len.ensures.unique in
+    let long = len_in by_key c.self.inside.table.entries c.args.self.now.held (ap (λ s. s.held) c.self.view_is) c.len.ensures.unique in
     let short : map.len c.args.self.now.held < 65536 = omega arith in
     ((λ e. absurd (elim c.match-reserve.branch [ in-Ok w ↦ ok_is_no_err (sym w.result-is ∙ e) | in-Err w ↦ memory_is_not_full (sym w.result-is ∙ e) ])), (λ h. absurd (omega (arith, h.0))))

@@ -1,0 +1,28 @@
+//! Which status an instance is given.
+ghost use Rattle.std.specs.Prelude.{◌≡◌};
+ghost use Rattle.eu_model.specs.Override.{rule};
+
+use eu_base::Status;
+
+/// The override rule (`OverrideExistsRule` and its neighbours in Eureka): the first that holds of an own status that
+/// isn't settable, the row of the id, for a client a held status that is settable, and the own status.
+pub fn override_rule(
+    own: Status,
+    row: Option<Status>,
+    held: Option<Status>,
+    replicated: bool,
+) -> Status
+    ensures { result ≡ rule own row held replicated }
+{
+    match own {
+        Status::Up | Status::OutOfService => match row {
+            Some(status) => status,
+            None => match held {
+                Some(Status::Up) if !replicated => Status::Up,
+                Some(Status::OutOfService) if !replicated => Status::OutOfService,
+                _ => own,
+            },
+        },
+        _ => own,
+    }
+}

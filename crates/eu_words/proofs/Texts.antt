@@ -1,0 +1,91 @@
+-- Words cut at spaces, digits, and names
+use Rattle.std.proofs.Common.{◌≡◌, ℕ, zero, suc, ◌+◌, ◌-◌, ◌*◌, ◌^◌, ◌<◌, ◌≤◌, Bool, true, false, ◌&&◌, List, [], ◌∷◌, length, get_or, take, drop, refl, arith, None, nat_lt, nat_le, ◌==◌, cond, eq-eqb}
+use Rattle.std.proofs.lemmas.Bool.{ne_eqb, false_from_ne_true, leb-true}
+use Rattle.std.proofs.lemmas.Str.{IsUtf8-from_is_utf8, is_utf8-from_IsUtf8, digit_value_digit}
+use Rattle.std.proofs.Math.Nat.{pow-suc}
+use Rattle.std.specs.List.{onto_first}
+use Rattle.std.specs.Str.{all_ascii_digits, is_utf8, IsUtf8}
+use Rattle.std.specs.Char.{is_ascii_digit, digit_value}
+use Rattle.eu_words.specs.Words.{words_of, end_at, is_name, number}
+
+-- the first word ends before the first space
+pub cut_here : (text : List ℕ) (i : ℕ) → i < length text → ((k : ℕ) → k < i → get_or text k 0 ≡ 32 → ⊥) → get_or text i 0 ≡ 32
+    → words_of text ≡ take i text ∷ words_of (drop (suc i) text)
+cut_here [] i lt before here = absurd (omega arith)
+cut_here (x ∷ xs) zero lt before here =
+    let first : (x == 32) ≡ true = eq-eqb x 32 here in
+    rw first refl
+cut_here (x ∷ xs) (suc i) lt before here =
+    let first : (x == 32) ≡ false = ne_eqb x 32 (before zero (omega arith)) in
+    let rest = cut_here xs i (omega arith) (λ k l. before (suc k) (omega arith)) here in
+    rw (first, rest) refl
+
+-- where there is no space, the text is the one word
+pub cut_nowhere : (text : List ℕ) → ((k : ℕ) → k < length text → get_or text k 0 ≡ 32 → ⊥) → words_of text ≡ text ∷ []
+cut_nowhere [] before = refl
+cut_nowhere (x ∷ xs) before =
+    let first : (x == 32) ≡ false = ne_eqb x 32 (before zero (omega arith)) in
+    let rest = cut_nowhere xs (λ k l. before (suc k) (omega arith)) in
+    rw (first, rest) refl
+
+onto_some : (x : ℕ) (parts : List (List ℕ)) → end_at (onto_first x parts) ≡ None
+onto_some x [] = refl
+onto_some x (p ∷ ps) = refl
+
+split_some : (b : Bool) (x : ℕ) (parts : List (List ℕ)) → end_at (cond b ([] ∷ parts) (onto_first x parts)) ≡ None
+split_some true x parts = refl
+split_some false x parts = onto_some x parts
+
+-- each text has a first word
+pub words_some : (text : List ℕ) → end_at (words_of text) ≡ None
+words_some [] = refl
+words_some (x ∷ xs) = split_some (x == 32) x (words_of xs)
+
+and_parts : (a b : Bool) → (a && b) ≡ true → (a ≡ true) × (b ≡ true)
+and_parts true b e = (refl, e)
+and_parts false b e = cc
+
+and_false : (a b : Bool) → b ≡ false → (a && b) ≡ false
+and_false true b e = e
+and_false false b e = refl
+
+pub digits_more : (w : List ℕ) (i : ℕ) → i < length w → all_ascii_digits (take i w) ≡ true → is_ascii_digit (get_or w i 0) ≡ true → all_ascii_digits (take (suc i) w) ≡ true
+digits_more [] i lt a d = absurd (omega arith)
+digits_more (x ∷ xs) zero lt a d = rw d refl
+digits_more (x ∷ xs) (suc i) lt a d =
+    let p = and_parts (is_ascii_digit x) (all_ascii_digits (take i xs)) a in
+    rw (p.0, digits_more xs i (omega arith) p.1 d) refl
+
+pub not_digits : (w : List ℕ) (i : ℕ) → i < length w → is_ascii_digit (get_or w i 0) ≡ false → all_ascii_digits w ≡ false
+not_digits [] i lt d = absurd (omega arith)
+not_digits (x ∷ xs) zero lt d = rw d refl
+not_digits (x ∷ xs) (suc i) lt d = and_false (is_ascii_digit x) (all_ascii_digits xs) (not_digits xs i (omega arith) d)
+
+-- a word that isn't all digits is no number
+pub no_number : (w : List ℕ) → all_ascii_digits w ≡ false → number w ≡ None
+no_number w h = rw (and_false (nat_lt 0 (length w) && nat_lt (length w) 21) (all_ascii_digits w) h) refl
+
+-- the value with one digit more
+pub one_more : (v d i : ℕ) → v < 10 ^ i → d < 10 → v * 10 + d < 10 ^ suc i
+one_more v d i small digit = rw pow-suc (omega arith)
+
+-- a digit's value
+pub digit_is : (c : ℕ) → is_ascii_digit c ≡ true → (digit_value c ≡ c - 48) × (c - 48 < 10)
+digit_is c h =
+    let p = and_parts (nat_le 48 c) (nat_le c 57) h in
+    let low = leb-true 48 c p.0 in
+    let high = leb-true c 57 p.1 in
+    let v : digit_value c + 48 ≡ c = digit_value_digit c (low, high) in
+    (omega arith, omega arith)
+
+-- a word that isn't UTF-8 is no name
+pub no_name : (w : List ℕ) → (IsUtf8 w → ⊥) → is_name w ≡ false
+no_name w h = and_false _ (is_utf8 w) (false_from_ne_true _ (λ e. h (IsUtf8-from_is_utf8 w e)))
+
+some_length : (w : List ℕ) → 0 < length w → length w ≤ 255 → IsUtf8 w → is_name w ≡ true
+some_length w low high u = rw (is_utf8-from_IsUtf8 w u) (grind arith)
+
+-- a word of UTF-8 that is neither empty nor too long is a name
+pub some_name : (w : List ℕ) → (w ≡ [] → ⊥) → (255 < length w → ⊥) → IsUtf8 w → is_name w ≡ true
+some_name [] filled short u = absurd (filled refl)
+some_name (x ∷ xs) filled short u = some_length (x ∷ xs) (omega arith) (omega (arith, short)) u

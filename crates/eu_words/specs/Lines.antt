@@ -1,0 +1,182 @@
+-- What a line says
+use Rattle.std.specs.Prelude.{◌≡◌, ℕ, ◌^◌, ◌-◌, Bool, List, Option, Some, None, Result, Ok, Err, if◌then◌else◌, codes}
+use Rattle.std.specs.Str.{bytes_eq}
+use Rattle.eu_base.specs.declared.names.Key.{Key}
+use Rattle.eu_base.specs.declared.statuses.Status.{Status}
+use Rattle.eu_base.specs.declared.instances.Instance.{Instance}
+use Rattle.eu_lines.specs.declared.faults.LineError.{LineError}
+use Rattle.eu_words.specs.declared.lines.Line.{Line}
+use Rattle.eu_words.specs.declared.lines.Line.TheVariants as line
+use Rattle.eu_words.specs.Words.{◌>>=◌, Field, Fails, words_of, word_at, end_at, number_at, moment_at, key_at, status_at, maybe_status_at, secs_at, number_of, stamp_at, dirty_at, source_at}
+
+-- an instance as a line says it
+pub record Newcomer : Type 0 where
+  pub key : Key
+  pub status : Status
+  pub overridden : Status
+  pub dirty : ℕ
+  pub secs : ℕ
+
+abbrev pub newcomer_of : Instance → Newcomer
+newcomer_of i = record { key = i.key; status = i.status; overridden = i.overridden; dirty = i.dirty; secs = i.secs }
+
+-- what a line says, and first its moment in milliseconds
+pub data Said : Type 0 where
+  -- the registry is to be opened, with so many clients expected
+  Open : ℕ → Said
+  -- the instance is to be registered, and whether a peer sends it
+  Register : ℕ → Newcomer → Bool → Said
+  -- the lease is to be renewed; the instance's stamp and the status that overrides its own, if they are told, and whether a peer sends it
+  Renew : ℕ → Key → Option ℕ → Option Status → Bool → Said
+  -- the lease is to be ended, and whether a peer sends it
+  Cancel : ℕ → Key → Bool → Said
+  -- the status is to override the instance's own; the stamp of the change, if it is told, and whether a peer sends it
+  SetStatus : ℕ → Key → Status → Option ℕ → Bool → Said
+  -- no status is to override the instance's own any more; the own one from now on and the stamp of the change, if they are told, and whether
+  -- a peer sends it
+  UnsetStatus : ℕ → Key → Option Status → Option ℕ → Bool → Said
+  -- the instance, which a peer holds, is to be taken over
+  Adopt : ℕ → Newcomer → Said
+  -- a minute ends
+  Roll : ℕ → Said
+  -- the clients are to be counted anew
+  Update : ℕ → Said
+  -- leases that have expired are to be evicted
+  Evict : ℕ → Said
+  -- the lease is asked for
+  Look : ℕ → Key → Said
+  -- the counts are asked for
+  Counts : ℕ → Said
+
+-- what a line that was read says
+abbrev pub said_of : Line → Said
+said_of (line.Open n) = Open n
+said_of (line.Register t i replicated) = Register t (newcomer_of i) replicated
+said_of (line.Renew t k dirty overridden replicated) = Renew t k (number_of dirty) overridden replicated
+said_of (line.Cancel t k replicated) = Cancel t k replicated
+said_of (line.SetStatus t k status dirty replicated) = SetStatus t k status (number_of dirty) replicated
+said_of (line.UnsetStatus t k status dirty replicated) = UnsetStatus t k status (number_of dirty) replicated
+said_of (line.Adopt t i) = Adopt t (newcomer_of i)
+said_of (line.Roll t) = Roll t
+said_of (line.Update t) = Update t
+said_of (line.Evict t) = Evict t
+said_of (line.Look t k) = Look t k
+said_of (line.Counts t) = Counts t
+
+-- N, below 2^32
+unfoldable pub open_says : List (List ℕ) → Option Said
+open_says ws = do
+  n ← number_at (2 ^ 32 - 1) ws
+  e ← end_at n.1
+  Some (Open n.0)
+
+-- APP ID SECS STATUS OVR DIRTY: an absent stamp is the moment
+unfoldable pub newcomer_at : ℕ → Field Newcomer
+newcomer_at moment ws = do
+  key ← key_at ws
+  secs ← secs_at key.1
+  status ← status_at secs.1
+  overridden ← status_at status.1
+  dirty ← dirty_at moment overridden.1
+  Some (record { key = key.0; status = status.0; overridden = overridden.0; dirty = dirty.0; secs = secs.0 }, dirty.1)
+
+-- T APP ID SECS STATUS OVR DIRTY SRC
+unfoldable pub register_says : List (List ℕ) → Option Said
+register_says ws = do
+  t ← moment_at ws
+  newcomer ← newcomer_at t.0 t.1
+  source ← source_at newcomer.1
+  e ← end_at source.1
+  Some (Register t.0 newcomer.0 source.0)
+
+-- T APP ID DIRTY OVR SRC
+unfoldable pub renew_says : List (List ℕ) → Option Said
+renew_says ws = do
+  t ← moment_at ws
+  key ← key_at t.1
+  dirty ← stamp_at key.1
+  overridden ← maybe_status_at dirty.1
+  source ← source_at overridden.1
+  e ← end_at source.1
+  Some (Renew t.0 key.0 dirty.0 overridden.0 source.0)
+
+-- T APP ID SRC
+unfoldable pub cancel_says : List (List ℕ) → Option Said
+cancel_says ws = do
+  t ← moment_at ws
+  key ← key_at t.1
+  source ← source_at key.1
+  e ← end_at source.1
+  Some (Cancel t.0 key.0 source.0)
+
+-- T APP ID STATUS DIRTY SRC
+unfoldable pub set_says : List (List ℕ) → Option Said
+set_says ws = do
+  t ← moment_at ws
+  key ← key_at t.1
+  status ← status_at key.1
+  dirty ← stamp_at status.1
+  source ← source_at dirty.1
+  e ← end_at source.1
+  Some (SetStatus t.0 key.0 status.0 dirty.0 source.0)
+
+-- the same, where STATUS may be absent
+unfoldable pub unset_says : List (List ℕ) → Option Said
+unset_says ws = do
+  t ← moment_at ws
+  key ← key_at t.1
+  status ← maybe_status_at key.1
+  dirty ← stamp_at status.1
+  source ← source_at dirty.1
+  e ← end_at source.1
+  Some (UnsetStatus t.0 key.0 status.0 dirty.0 source.0)
+
+-- T APP ID SECS STATUS OVR DIRTY
+unfoldable pub adopt_says : List (List ℕ) → Option Said
+adopt_says ws = do
+  t ← moment_at ws
+  newcomer ← newcomer_at t.0 t.1
+  e ← end_at newcomer.1
+  Some (Adopt t.0 newcomer.0)
+
+-- T APP ID
+unfoldable pub look_says : List (List ℕ) → Option Said
+look_says ws = do
+  t ← moment_at ws
+  key ← key_at t.1
+  e ← end_at key.1
+  Some (Look t.0 key.0)
+
+-- T alone, after this verb
+unfoldable pub moment_says : List ℕ → List (List ℕ) → Option Said
+moment_says verb ws = do
+  t ← moment_at ws
+  e ← end_at t.1
+  if bytes_eq verb (codes "roll") then Some (Roll t.0)
+      else if bytes_eq verb (codes "update") then Some (Update t.0)
+      else if bytes_eq verb (codes "evict") then Some (Evict t.0)
+      else if bytes_eq verb (codes "counts") then Some (Counts t.0)
+      else None
+
+-- the verb, which stands first, tells which line it is
+unfoldable pub words_say : List (List ℕ) → Option Said
+words_say ws = do
+  verb ← word_at ws
+  if bytes_eq verb.0 (codes "open") then open_says verb.1
+      else if bytes_eq verb.0 (codes "register") then register_says verb.1
+      else if bytes_eq verb.0 (codes "renew") then renew_says verb.1
+      else if bytes_eq verb.0 (codes "cancel") then cancel_says verb.1
+      else if bytes_eq verb.0 (codes "set") then set_says verb.1
+      else if bytes_eq verb.0 (codes "unset") then unset_says verb.1
+      else if bytes_eq verb.0 (codes "adopt") then adopt_says verb.1
+      else if bytes_eq verb.0 (codes "look") then look_says verb.1
+      else moment_says verb.0 verb.1
+
+-- what a line says, if it says anything
+abbrev pub line_of : List ℕ → Option Said
+line_of text = words_say (words_of text)
+
+-- the line that was read is what is said; where memory ran out, nothing is known
+abbrev pub IsReading : Result Line LineError → Option Said → Type 0
+IsReading (Ok x) said = said ≡ Some (said_of x)
+IsReading (Err e) said = Fails e said

@@ -1,0 +1,10 @@
+//! The lines of a script: the words of a line, and what they say.
+#![tactic(auto)]
+
+mod lines;
+mod words;
+
+pub use lines::{Line, read_line};
+
+#[cfg(test)]
+mod tests;

@@ -1,0 +1,317 @@
+//! What a line says.
+ghost use Rattle.std.specs.Prelude.{◌≢◌, Err};
+ghost use Rattle.eu_words.specs.Words.{Gives};
+ghost use Rattle.eu_words.specs.Lines.{IsReading, line_of, words_say, open_says, newcomer_of, newcomer_at, register_says, renew_says, cancel_says, set_says, unset_says, adopt_says, look_says, moment_says};
+
+use crate::words::{Words, is_text};
+use eu_base::{Instance, Key, Moment, Stamp, Status};
+use eu_lines::LineError;
+use std::alloc::Global;
+
+/// What a line says.
+#[derive(Drop)]
+pub enum Line {
+    /// The registry is to be opened, with so many clients expected.
+    Open(u32),
+    /// An instance is to be registered.
+    Register {
+        /// When.
+        moment: Moment,
+        /// The instance.
+        instance: Instance,
+        /// Whether a peer sends it.
+        replicated: bool,
+    },
+    /// A lease is to be renewed.
+    Renew {
+        /// When.
+        moment: Moment,
+        /// The lease.
+        key: Key,
+        /// The stamp of the instance, where it is told.
+        dirty: Option<Stamp>,
+        /// The status that overrides the instance's own, where it is told.
+        overridden: Option<Status>,
+        /// Whether a peer sends it.
+        replicated: bool,
+    },
+    /// A lease is to be ended.
+    Cancel {
+        /// When.
+        moment: Moment,
+        /// The lease.
+        key: Key,
+        /// Whether a peer sends it.
+        replicated: bool,
+    },
+    /// A status is to override the own one of an instance.
+    SetStatus {
+        /// When.
+        moment: Moment,
+        /// The instance's lease.
+        key: Key,
+        /// The status.
+        status: Status,
+        /// The stamp of the change, where it is told.
+        dirty: Option<Stamp>,
+        /// Whether a peer sends it.
+        replicated: bool,
+    },
+    /// No status is to override the own one of an instance any more.
+    UnsetStatus {
+        /// When.
+        moment: Moment,
+        /// The instance's lease.
+        key: Key,
+        /// The instance's own status from now on, where it is told.
+        status: Option<Status>,
+        /// The stamp of the change, where it is told.
+        dirty: Option<Stamp>,
+        /// Whether a peer sends it.
+        replicated: bool,
+    },
+    /// An instance that a peer holds is to be taken over.
+    Adopt {
+        /// When.
+        moment: Moment,
+        /// The instance.
+        instance: Instance,
+    },
+    /// A minute ends.
+    Roll {
+        /// When.
+        moment: Moment,
+    },
+    /// The clients are to be counted anew.
+    Update {
+        /// When.
+        moment: Moment,
+    },
+    /// Leases that have expired are to be evicted.
+    Evict {
+        /// When.
+        moment: Moment,
+    },
+    /// A lease is asked for.
+    Look {
+        /// When.
+        moment: Moment,
+        /// The lease.
+        key: Key,
+    },
+    /// The counts are asked for.
+    Counts {
+        /// When.
+        moment: Moment,
+    },
+}
+
+/// What a line says, by its words. The first is its verb, and T is a moment in milliseconds.
+///
+/// - `open N`: N is below 2^32.
+/// - `register T APP ID SECS STATUS OVR DIRTY SRC`, `adopt T APP ID SECS STATUS OVR DIRTY`: SECS is 0 to 2,147,483, and 0
+///   means 90. DIRTY is a stamp, and `-` means T.
+/// - `renew T APP ID DIRTY OVR SRC`, `set T APP ID STATUS DIRTY SRC`, `unset T APP ID STATUS DIRTY SRC`: DIRTY may be `-` for
+///   none, as may the OVR of `renew` and the STATUS of `unset`.
+/// - `cancel T APP ID SRC`, `look T APP ID`.
+/// - `roll T`, `update T`, `evict T`, `counts T`.
+///
+/// APP and ID are names, STATUS and OVR statuses in capitals. SRC is `c` for a client, or `r` for a peer.
+///
+/// `Bad` where it says none of these; `OutOfMemory`.
+pub fn read_line(alloc: Global, line: &[u8]) -> Result<Line, LineError>
+    ensures { IsReading result (line_of line.now) }
+{
+    say(alloc, &mut Words::of(line))
+}
+
+#[tactic(auto, unfolding(crate::specs::Lines::words_say))]
+fn say(alloc: Global, words: &mut Words<'_>) -> Result<Line, LineError>
+    ensures { IsReading result (words_say words.old) }
+{
+    let verb = words.next_word()?;
+    if is_text(verb, "open") {
+        return open_line(words);
+    }
+    if is_text(verb, "register") {
+        return register_line(alloc, words);
+    }
+    if is_text(verb, "renew") {
+        return renew_line(alloc, words);
+    }
+    if is_text(verb, "cancel") {
+        return cancel_line(alloc, words);
+    }
+    if is_text(verb, "set") {
+        return set_line(alloc, words);
+    }
+    if is_text(verb, "unset") {
+        return unset_line(alloc, words);
+    }
+    if is_text(verb, "adopt") {
+        return adopt_line(alloc, words);
+    }
+    if is_text(verb, "look") {
+        return look_line(alloc, words);
+    }
+    moment_line(verb, words)
+}
+
+#[tactic(auto, unfolding(crate::specs::Lines::open_says))]
+fn open_line(words: &mut Words<'_>) -> Result<Line, LineError>
+    ensures said { IsReading result (open_says words.old) }
+    ensures memory { result ≢ Err LineError.OutOfMemory }
+{
+    let expected = words.number_at(u64::from(u32::MAX))?;
+    words.end()?;
+    Ok(Line::Open(expected as u32))
+}
+
+#[tactic(auto, unfolding(crate::specs::Lines::register_says))]
+fn register_line(alloc: Global, words: &mut Words<'_>) -> Result<Line, LineError>
+    ensures { IsReading result (register_says words.old) }
+{
+    let moment = words.moment_at()?;
+    let instance = instance_at(alloc, words, moment)?;
+    let replicated = words.source_at()?;
+    words.end()?;
+    Ok(Line::Register {
+        moment,
+        instance,
+        replicated,
+    })
+}
+
+/// An instance, else `Bad`; `OutOfMemory`. Its stamp is the moment where `-` stands for it.
+#[tactic(auto, unfolding(crate::specs::Lines::newcomer_at))]
+fn instance_at(alloc: Global, words: &mut Words<'_>, moment: Moment) -> Result<Instance, LineError>
+    ensures { Gives newcomer_of result words.new (newcomer_at moment words.old) }
+{
+    let key = words.key_at(alloc)?;
+    let secs = words.secs_at()?;
+    let status = words.status_at()?;
+    let overridden = words.status_at()?;
+    let dirty = words.dirty_at(moment.ms())?;
+    Ok(Instance {
+        key,
+        status,
+        overridden,
+        dirty,
+        secs,
+    })
+}
+
+#[tactic(auto, unfolding(crate::specs::Lines::renew_says))]
+fn renew_line(alloc: Global, words: &mut Words<'_>) -> Result<Line, LineError>
+    ensures { IsReading result (renew_says words.old) }
+{
+    let moment = words.moment_at()?;
+    let key = words.key_at(alloc)?;
+    let dirty = words.stamp_at()?;
+    let overridden = words.maybe_status_at()?;
+    let replicated = words.source_at()?;
+    words.end()?;
+    Ok(Line::Renew {
+        moment,
+        key,
+        dirty,
+        overridden,
+        replicated,
+    })
+}
+
+#[tactic(auto, unfolding(crate::specs::Lines::cancel_says))]
+fn cancel_line(alloc: Global, words: &mut Words<'_>) -> Result<Line, LineError>
+    ensures { IsReading result (cancel_says words.old) }
+{
+    let moment = words.moment_at()?;
+    let key = words.key_at(alloc)?;
+    let replicated = words.source_at()?;
+    words.end()?;
+    Ok(Line::Cancel {
+        moment,
+        key,
+        replicated,
+    })
+}
+
+#[tactic(auto, unfolding(crate::specs::Lines::set_says))]
+fn set_line(alloc: Global, words: &mut Words<'_>) -> Result<Line, LineError>
+    ensures { IsReading result (set_says words.old) }
+{
+    let moment = words.moment_at()?;
+    let key = words.key_at(alloc)?;
+    let status = words.status_at()?;
+    let dirty = words.stamp_at()?;
+    let replicated = words.source_at()?;
+    words.end()?;
+    Ok(Line::SetStatus {
+        moment,
+        key,
+        status,
+        dirty,
+        replicated,
+    })
+}
+
+#[tactic(auto, unfolding(crate::specs::Lines::unset_says))]
+fn unset_line(alloc: Global, words: &mut Words<'_>) -> Result<Line, LineError>
+    ensures { IsReading result (unset_says words.old) }
+{
+    let moment = words.moment_at()?;
+    let key = words.key_at(alloc)?;
+    let status = words.maybe_status_at()?;
+    let dirty = words.stamp_at()?;
+    let replicated = words.source_at()?;
+    words.end()?;
+    Ok(Line::UnsetStatus {
+        moment,
+        key,
+        status,
+        dirty,
+        replicated,
+    })
+}
+
+#[tactic(auto, unfolding(crate::specs::Lines::adopt_says))]
+fn adopt_line(alloc: Global, words: &mut Words<'_>) -> Result<Line, LineError>
+    ensures { IsReading result (adopt_says words.old) }
+{
+    let moment = words.moment_at()?;
+    let instance = instance_at(alloc, words, moment)?;
+    words.end()?;
+    Ok(Line::Adopt { moment, instance })
+}
+
+#[tactic(auto, unfolding(crate::specs::Lines::look_says))]
+fn look_line(alloc: Global, words: &mut Words<'_>) -> Result<Line, LineError>
+    ensures { IsReading result (look_says words.old) }
+{
+    let moment = words.moment_at()?;
+    let key = words.key_at(alloc)?;
+    words.end()?;
+    Ok(Line::Look { moment, key })
+}
+
+/// What a moment alone says after this verb.
+#[tactic(auto, unfolding(crate::specs::Lines::moment_says))]
+fn moment_line(verb: &[u8], words: &mut Words<'_>) -> Result<Line, LineError>
+    ensures said { IsReading result (moment_says verb.now words.old) }
+    ensures memory { result ≢ Err LineError.OutOfMemory }
+{
+    let moment = words.moment_at()?;
+    words.end()?;
+    if is_text(verb, "roll") {
+        return Ok(Line::Roll { moment });
+    }
+    if is_text(verb, "update") {
+        return Ok(Line::Update { moment });
+    }
+    if is_text(verb, "evict") {
+        return Ok(Line::Evict { moment });
+    }
+    if is_text(verb, "counts") {
+        return Ok(Line::Counts { moment });
+    }
+    Err(LineError::Bad)
+}

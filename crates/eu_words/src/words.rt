@@ -1,0 +1,260 @@
+//! The words of a line.
+ghost use Rattle.std.specs.Prelude.{◌≡◌, ◌≢◌, ◌∷◌, ◌^◌, ◌<◌, ◌≤◌, List, ℕ, IfOk, Err};
+ghost use Rattle.std.specs.Str.{bytes_eq};
+ghost use Rattle.eu_words.specs.Words.{words_of, words_left, number, Gives, word_at, absent_at, number_at, moment_at, app_at, id_at, key_at, status_at, maybe_status_at, secs_at, number_of, stamp_at, dirty_at, source_at, end_at};
+
+use eu_base::{App, Fault, Id, Instance, Key, Moment, Stamp, Status};
+use eu_lines::LineError;
+use std::alloc::Global;
+use std::marker::Model;
+use std::str;
+
+/// The greatest stamp, 2^63 - 1.
+const LAST_STAMP: u64 = 0x7fff_ffff_ffff_ffff;
+
+/// The last moment, 2^62 ms.
+const LAST_MOMENT: u64 = 1 << 62;
+
+/// The longest duration of a lease, in seconds.
+const LONGEST_SECS: u64 = 2_147_483;
+
+/// The words of a line that are still to be read. Contracts see the list of them.
+#[derive(Drop)]
+pub struct Words<'a> {
+    rest: Option<&'a [u8]>,
+}
+
+impl<'a> Model for Words<'a> {
+    ghost Value = { List (List ℕ) };
+
+    ghost view = { λ w. words_left w.rest };
+}
+
+impl<'a> Words<'a> {
+    /// The words of a line.
+    pub fn of(line: &'a [u8]) -> Words<'a>
+        ensures { result ≡ words_of line.entry.now }
+    {
+        Words { rest: Some(line) }
+    }
+
+    /// The next word. `Bad` where none is left.
+    pub fn next_word(&mut self) -> Result<&'a [u8], LineError>
+        ensures said { Gives (λ w. w.now) result self.new (word_at self.old) }
+        ensures memory { result ≢ Err LineError.OutOfMemory }
+    {
+        let Some(text) = self.rest else {
+            return Err(LineError::Bad);
+        };
+        let (word, rest) = cut(text);
+        self.rest = rest;
+        Ok(word)
+    }
+
+    /// No word is left, else `Bad`.
+    pub fn end(&self) -> Result<(), LineError>
+        ensures said { Gives (λ u. u) result self.now (end_at self.now) }
+        ensures memory { result ≢ Err LineError.OutOfMemory }
+    {
+        match self.rest {
+            None => Ok(()),
+            Some(_) => Err(LineError::Bad),
+        }
+    }
+
+    /// Whether the next word is `-`, which is then read; any other word is left. `Bad` where none is left.
+    #[tactic(auto, unfolding(crate::specs::Words::absent_at))]
+    fn absent_at(&mut self) -> Result<bool, LineError>
+        ensures said { Gives (λ b. b) result self.new (absent_at self.old) }
+        ensures memory { result ≢ Err LineError.OutOfMemory }
+    {
+        let before = self.rest;
+        let absent = is_text(self.next_word()?, "-");
+        if !absent {
+            self.rest = before;
+        }
+        Ok(absent)
+    }
+
+    /// A number up to `most`, else `Bad`.
+    #[tactic(auto, unfolding(crate::specs::Words::number_at))]
+    pub fn number_at(&mut self, most: u64) -> Result<u64, LineError>
+        ensures said { Gives (λ n. n) result self.new (number_at most self.old) }
+        ensures small { IfOk result (λ n. n ≤ most) }
+        ensures memory { result ≢ Err LineError.OutOfMemory }
+    {
+        let word = self.next_word()?;
+        let Some(n) = number(word) else {
+            return Err(LineError::Bad);
+        };
+        if n > u128::from(most) {
+            return Err(LineError::Bad);
+        }
+        Ok(n as u64)
+    }
+
+    /// A moment, else `Bad`.
+    pub fn moment_at(&mut self) -> Result<Moment, LineError>
+        ensures said { Gives (λ t. t) result self.new (moment_at self.old) }
+        ensures memory { result ≢ Err LineError.OutOfMemory }
+    {
+        let ms = self.number_at(LAST_MOMENT)?;
+        Moment::new(ms).ok_or(LineError::Bad)
+    }
+
+    /// An application, else `Bad`; `OutOfMemory`.
+    #[tactic(auto, unfolding(crate::specs::Words::app_at))]
+    pub fn app_at(&mut self, alloc: Global) -> Result<App, LineError>
+        ensures { Gives (λ a. a) result self.new (app_at self.old) }
+    {
+        let word = self.next_word()?;
+        let Ok(text) = str::from_utf8(word) else {
+            return Err(LineError::Bad);
+        };
+        match App::read(alloc, text) {
+            Ok(app) => Ok(app),
+            Err(Fault::OutOfMemory) => Err(LineError::OutOfMemory),
+            Err(_) => Err(LineError::Bad),
+        }
+    }
+
+    /// The id of an instance, else `Bad`; `OutOfMemory`.
+    #[tactic(auto, unfolding(crate::specs::Words::id_at))]
+    pub fn id_at(&mut self, alloc: Global) -> Result<Id, LineError>
+        ensures { Gives (λ i. i) result self.new (id_at self.old) }
+    {
+        let word = self.next_word()?;
+        let Ok(text) = str::from_utf8(word) else {
+            return Err(LineError::Bad);
+        };
+        match Id::read(alloc, text) {
+            Ok(id) => Ok(id),
+            Err(Fault::OutOfMemory) => Err(LineError::OutOfMemory),
+            Err(_) => Err(LineError::Bad),
+        }
+    }
+
+    /// An application and an id, else `Bad`; `OutOfMemory`.
+    #[tactic(auto, unfolding(crate::specs::Words::key_at))]
+    pub fn key_at(&mut self, alloc: Global) -> Result<Key, LineError>
+        ensures { Gives (λ k. k) result self.new (key_at self.old) }
+    {
+        let app = self.app_at(alloc)?;
+        let id = self.id_at(alloc)?;
+        Ok(Key { app, id })
+    }
+
+    /// A status, else `Bad`.
+    #[tactic(auto, unfolding(crate::specs::Words::status_at))]
+    pub fn status_at(&mut self) -> Result<Status, LineError>
+        ensures said { Gives (λ s. s) result self.new (status_at self.old) }
+        ensures memory { result ≢ Err LineError.OutOfMemory }
+    {
+        let word = self.next_word()?;
+        Status::read(word).ok_or(LineError::Bad)
+    }
+
+    /// A status, or none where `-` stands, else `Bad`.
+    #[tactic(auto, unfolding(crate::specs::Words::maybe_status_at))]
+    pub fn maybe_status_at(&mut self) -> Result<Option<Status>, LineError>
+        ensures said { Gives (λ s. s) result self.new (maybe_status_at self.old) }
+        ensures memory { result ≢ Err LineError.OutOfMemory }
+    {
+        if self.absent_at()? {
+            return Ok(None);
+        }
+        Ok(Some(self.status_at()?))
+    }
+
+    /// The seconds that a lease lasts, else `Bad`. 0 stands for `Instance::DEFAULT_SECS`.
+    #[tactic(auto, unfolding(crate::specs::Words::secs_at))]
+    pub fn secs_at(&mut self) -> Result<u32, LineError>
+        ensures said { Gives (λ n. n) result self.new (secs_at self.old) }
+        ensures small { IfOk result (λ n. (1 ≤ n) × (n ≤ 2147483)) }
+        ensures memory { result ≢ Err LineError.OutOfMemory }
+    {
+        match self.number_at(LONGEST_SECS)? {
+            0 => Ok(Instance::DEFAULT_SECS),
+            secs => Ok(secs as u32),
+        }
+    }
+
+    /// A stamp, or none where `-` stands, else `Bad`.
+    #[tactic(auto, unfolding(crate::specs::Words::stamp_at))]
+    pub fn stamp_at(&mut self) -> Result<Option<Stamp>, LineError>
+        ensures said { Gives number_of result self.new (stamp_at self.old) }
+        ensures memory { result ≢ Err LineError.OutOfMemory }
+    {
+        if self.absent_at()? {
+            return Ok(None);
+        }
+        let value = self.number_at(LAST_STAMP)?;
+        Ok(Some(Stamp { value }))
+    }
+
+    /// The number of a stamp, else `Bad`. `-` stands for `given`.
+    #[tactic(auto, unfolding(crate::specs::Words::dirty_at))]
+    pub fn dirty_at(&mut self, given: u64) -> Result<u64, LineError>
+        requires { given < 2 ^ 63 }
+        ensures said { Gives (λ n. n) result self.new (dirty_at given self.old) }
+        ensures small { IfOk result (λ n. n < 2 ^ 63) }
+        ensures memory { result ≢ Err LineError.OutOfMemory }
+    {
+        match self.stamp_at()? {
+            Some(stamp) => Ok(stamp.value),
+            None => Ok(given),
+        }
+    }
+
+    /// Whether a peer sends the line: `r`, or `c` for a client, else `Bad`.
+    #[tactic(auto, unfolding(crate::specs::Words::source_at))]
+    pub fn source_at(&mut self) -> Result<bool, LineError>
+        ensures said { Gives (λ b. b) result self.new (source_at self.old) }
+        ensures memory { result ≢ Err LineError.OutOfMemory }
+    {
+        let word = self.next_word()?;
+        if is_text(word, "c") {
+            return Ok(false);
+        }
+        if is_text(word, "r") {
+            return Ok(true);
+        }
+        Err(LineError::Bad)
+    }
+}
+
+/// The part of a text before the first space, and what is after that, where there is one.
+fn cut(text: &[u8]) -> (&[u8], Option<&[u8]>)
+    ensures { words_of text.now ≡ result.0.now ∷ words_left result.1 }
+{
+    for (i, byte) in text.iter().enumerate() {
+        if *byte == b' ' {
+            return (&text[..i], Some(&text[i + 1..]));
+        }
+    }
+    (text, None)
+}
+
+/// 1 to 20 decimal digits as a number. None for any other word.
+fn number(word: &[u8]) -> Option<u128>
+    ensures { result ≡ number word.now }
+{
+    if word.is_empty() || word.len() > 20 {
+        return None;
+    }
+    let mut value: u128 = 0;
+    for byte in word {
+        if !byte.is_ascii_digit() {
+            return None;
+        }
+        value = value * 10 + u128::from(*byte - b'0');
+    }
+    Some(value)
+}
+
+/// Whether a word is this text.
+pub fn is_text(word: &[u8], text: &str) -> bool
+    ensures { result ≡ bytes_eq word.now text.now }
+{
+    word == text.as_bytes()
+}

@@ -1,7 +1,8 @@
 //! The plain program that the registry's speed is compared with: the same lines and replies, with std's `HashMap`, one buffer
 //! in and one out, and no proofs. Build it with `rustc --edition 2021 -O bench/plain.rs`.
 //!
-//! It takes the lines of `eureka script` at their defaults, and stops at a bad one.
+//! It takes the lines of `eureka script` at their defaults, but for overrides and stamps, of which it knows nothing, and
+//! stops at a bad one.
 use std::collections::HashMap;
 use std::io::{self, BufWriter, Read, Write};
 

@@ -1,2 +1,3 @@
 pub mod InstanceLemmas
 pub mod KeyLemmas
+pub mod RestLemmas

@@ -1,3 +1,5 @@
 pub mod Fault
 pub mod Key
 pub mod Status
+pub mod Tree
+pub mod Rest

@@ -2,6 +2,7 @@
 ghost use Rattle.std.specs.Prelude.{◌≡◌, ◌<◌, ◌≤◌, ◌^◌, IfOk};
 
 use crate::names::Key;
+use crate::rest::Rest;
 use crate::statuses::Status;
 use std::alloc::{AllocError, Global};
 
@@ -18,25 +19,36 @@ pub struct Instance {
     pub dirty: u64,
     /// The duration of its lease, in seconds: 1 to 2,147,483.
     pub secs: u32,
+    /// How often its client means to renew the lease, in seconds: 1 to 2^31 - 1. The registry keeps it and doesn't use it.
+    pub interval: u32,
+    /// What else its client gave.
+    pub rest: Rest,
     ghost dirty_bound: { dirty < 2 ^ 63 },
     ghost secs_bound: { (1 ≤ secs) × (secs ≤ 2147483) },
+    ghost interval_bound: { (1 ≤ interval) × (interval < 2 ^ 31) },
 }
 
 impl Instance {
     /// The seconds that a lease lasts where the registration gives none (`LeaseInfo.DEFAULT_LEASE_DURATION` in Eureka).
     pub const DEFAULT_SECS: u32 = 90;
 
+    /// The seconds between renewals where the registration gives none (`LeaseInfo.DEFAULT_LEASE_RENEWAL_INTERVAL` in Eureka).
+    pub const DEFAULT_INTERVAL: u32 = 30;
+
     /// The same instance once more.
     pub fn copy(&self, alloc: Global) -> Result<Instance, AllocError>
         ensures { IfOk result (λ i. i ≡ self.now) }
     {
         let key = self.key.copy(alloc)?;
+        let rest = self.rest.copy()?;
         Ok(Instance {
             key,
             status: self.status,
             overridden: self.overridden,
             dirty: self.dirty,
             secs: self.secs,
+            interval: self.interval,
+            rest,
         })
     }
 }

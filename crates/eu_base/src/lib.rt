@@ -4,6 +4,7 @@
 mod faults;
 mod instances;
 mod names;
+mod rest;
 mod settings;
 mod statuses;
 mod times;
@@ -11,6 +12,7 @@ mod times;
 pub use faults::Fault;
 pub use instances::Instance;
 pub use names::{App, Id, Key};
+pub use rest::Rest;
 pub use settings::Config;
 pub use statuses::Status;
 pub use times::{Moment, Stamp};

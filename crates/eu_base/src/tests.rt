@@ -1,5 +1,6 @@
 //! Values from Eureka's own names and from the limits of each type.
 use crate::*;
+use serde_json::Value;
 use std::alloc::Global;
 use std::test::Fail;
 
@@ -120,11 +121,14 @@ fn an_instance_is_copied(rt: HostRuntime) -> Result<(), Fail> {
         overridden: Status::OutOfService,
         dirty: 7,
         secs: 90,
+        interval: 30,
+        rest: Rest::of_host(rt.alloc(), "i1")?,
     };
     let copy = instance.copy(rt.alloc())?;
     assert!(rt; copy.key == instance.key);
     assert!(rt; copy.status == Status::Starting && copy.overridden == Status::OutOfService);
-    assert!(rt; copy.dirty == 7 && copy.secs == 90);
+    assert!(rt; copy.dirty == 7 && copy.secs == 90 && copy.interval == 30);
+    assert!(rt; copy.rest.members() == instance.rest.members());
     Ok(())
 }
 
@@ -138,5 +142,29 @@ fn faults_have_numbers(rt: HostRuntime) -> Result<(), Fail> {
         format!(in rt.alloc(); "{}", Fault::Full)?.as_str(),
         "the registry is full"
     );
+    Ok(())
+}
+
+#[test]
+fn a_rest_is_an_object_of_whole_numbers(rt: HostRuntime) -> Result<(), Fail> {
+    let cases = [
+        (
+            r#"{"port":{"$":8080,"@enabled":"true"},"n":-9223372036854775808}"#,
+            true,
+        ),
+        (
+            r#"{"n":18446744073709551615,"none":null,"list":[1,[2,{"a":3}]]}"#,
+            true,
+        ),
+        (r#"{"n":18446744073709551616}"#, false),
+        (r#"{"list":[1,[2,{"a":1.5}]]}"#, false),
+        (r#"{"n":1e2}"#, false),
+        ("[1]", false),
+        ("null", false),
+    ];
+    for (text, good) in cases {
+        let value = Value::from_str(rt.alloc(), text)?;
+        assert!(rt; Rest::new(value).is_some() == good);
+    }
     Ok(())
 }

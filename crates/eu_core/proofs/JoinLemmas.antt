@@ -20,7 +20,7 @@ use Rattle.eu_core.specs.Joins.{Joins}
 use Rattle.eu_store.proofs.ListedLemmas.{same_listed}
 
 under_row_data : (row : Option Status) (j : Instance) (held : Option Status) (replicated : Bool) →
-    data_of (let i = under_row row j in record i { status = rule i.status row held replicated }) ≡ (j.key, rule j.status row held replicated, unwrap_or row j.overridden, j.dirty, j.secs)
+    data_of (let i = under_row row j in record i { status = rule i.status row held replicated }) ≡ (j.key, rule j.status row held replicated, unwrap_or row j.overridden, j.dirty, j.secs, j.interval, j.rest)
 under_row_data None j held replicated = refl
 under_row_data (Some r) j held replicated = refl
 
@@ -28,7 +28,7 @@ under_row_data (Some r) j held replicated = refl
 abbrev pub joined_data : Instance → Option Status → Option Status → Bool → Data
 joined_data j row held replicated =
     let row' = row_after row j.overridden in
-    (j.key, rule j.status row' held replicated, unwrap_or row' j.overridden, j.dirty, j.secs)
+    (j.key, rule j.status row' held replicated, unwrap_or row' j.overridden, j.dirty, j.secs, j.interval, j.rest)
 
 abbrev pub joined_times : Instance → Option Status → Option Status → Bool → ℕ → ℕ → Times
 joined_times j row held replicated up t = record { registered = t; updated = t; up = up_after up (rule j.status (row_after row j.overridden) held replicated) t }
@@ -68,13 +68,13 @@ module _ (L L' : FinMap key_cmp Listed) (O O1 O' : FinMap name_cmp Status) (n j 
       → settled_row ≡ row_after row j.overridden
       → overridden ≡ unwrap_or (row_after row j.overridden) j.overridden
       → status ≡ rule j.status (row_after row j.overridden) (held_status held) replicated
-      → data_of x.instance ≡ (j.key, status, overridden, j.dirty, j.secs)
+      → data_of x.instance ≡ (j.key, status, overridden, j.dirty, j.secs, j.interval, j.rest)
       → x.times ≡ record { registered = t; updated = t; up = up_after (held_up held) status t }
       → L' ≡ insert L n.key x
       → with_put O put ≡ with_row O n.key.id settled_row → O1 ≡ O → O' ≡ with_put O1 put
       → Joins L L' O O' n held row replicated t
   joins_from chose is_settled is_overridden is_status d e l is_put o1 o =
-      let facts : ◌≡◌ {A = Data} (j.key, status, overridden, j.dirty, j.secs) (joined_data j row (held_status held) replicated) = λ i. (j.key, is_status i, is_overridden i, j.dirty, j.secs) in
+      let facts : ◌≡◌ {A = Data} (j.key, status, overridden, j.dirty, j.secs, j.interval, j.rest) (joined_data j row (held_status held) replicated) = λ i. (j.key, is_status i, is_overridden i, j.dirty, j.secs, j.interval, j.rest) in
       let times : ◌≡◌ {A = Times} (record { registered = t; updated = t; up = up_after (held_up held) status t }) (joined_times j row (held_status held) replicated (held_up held) t) =
       λ i. record { registered = t; updated = t; up = up_after (held_up held) (is_status i) t } in
       record {

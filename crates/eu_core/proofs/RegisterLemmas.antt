@@ -92,10 +92,6 @@ is_err (Err x) f g h e = ap Err (sym (h ∙ e))
 pub err_moved : (p q : Plain) (c : Command) (t : ℕ) (r : Result Reply Fault) (f g : Fault) (new : Plain) → p ≡ q → IsErrAnd r (λ e. e ≡ f) → f ≡ g → Answers p c t (Err g) new → Answers q c t r new
 err_moved p q c t r f g new e is same a = subst (λ x. Answers x c t r new) e (subst (λ x. Answers p c t x new) (is_err r f g is same) a)
 
-pub some_held : (o : Option Listed) (P : Listed → Type 0) → IsSomeAnd o P → (l : Listed) × (o ≡ Some l)
-some_held None P h = absurd h
-some_held (Some l) P h = (l, refl)
-
 pub moved_both : (p q : Plain) (c : Command) (t : ℕ) (r : Result Reply Fault) → p ≡ q → Answers p c t r p → Answers q c t r q
 moved_both p q c t r e a = subst (λ x. Answers x c t r x) e a
 

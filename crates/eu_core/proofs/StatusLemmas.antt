@@ -20,6 +20,7 @@ use Rattle.eu_model.specs.Plain.{Plain, listed}
 use Rattle.eu_model.specs.Answers.{Answers}
 use Rattle.eu_model.specs.Maps.{with_value}
 use Rattle.eu_model.specs.Kept.{raised, kept, kept_expired, kept_seen, kept_one, kept_set_status, kept_unset_status, after}
+use Rattle.eu_model.proofs.RaiseLemmas.{both_ways}
 use Rattle.eu_model.proofs.StatusLemmas.{sets, set_answers, unsets, unset_answers}
 use Rattle.eu_store.specs.Stored.{changed, amended, renewed_at, upped_at}
 use Rattle.eu_store.proofs.TableLemmas.{by_key, changed-found, get_inserted, insert_again}
@@ -37,21 +38,12 @@ seen_held p k t l e = seen_is _ t (get p.leases k) l e
 by_change : (p q : Plain) (c : Command) (t : ℕ) (k : Key) (x y : Change Listed) → Answers p c t (Ok x.reply) (after p k x) → x ≡ y → q ≡ after p k y → Answers p c t (Ok y.reply) q
 by_change p q c t k x y a same e = subst (λ z. Answers p c t (Ok y.reply) z) (sym e) (subst (λ z. Answers p c t (Ok z.reply) (after p k z)) same a)
 
-both_ways : (o : Option Listed) → option_map listed (option_map raised o) ≡ o
-both_ways None = refl
-both_ways (Some l) = refl
-
 -- a change that leaves lease and row
 left_after : (p : Plain) (k : Key) → p ≡ after p k (kept (uncounted (option_map raised (get p.leases k)) (get p.rows k.id) p.expected NotFound))
 left_after p k =
     let lease = with_lease-same p.leases k (option_map listed (option_map raised (get p.leases k))) (sym (both_ways (get p.leases k))) in
     let row = with_row-same p.rows k.id (get p.rows k.id) refl in
     λ i. record p { leases = sym lease i; rows = sym row i }
-
--- a renewal that leaves the instance
-renewed_after : (p : Plain) (k : Key) (l : Listed) (t : ℕ) (row : Option Status)
-    → ◌≡◌ {A = Plain} (record p { leases = insert p.leases k (renewed_at t l); rows = with_value p.rows k.id row }) (after p k (kept (uncounted (Some (renewed (raised l) t)) row p.expected Done)))
-renewed_after p k l t row = refl
 
 stamped_secs : (dirty : Option Stamp) (i : Instance) → i.secs ≡ (stamped dirty i).secs
 stamped_secs None i = refl

@@ -1,5 +1,5 @@
 //! The registry.
-ghost use Rattle.std.specs.Prelude.{◌≡◌, ◌≢◌, ℕ, Bool, OnOk, OnErr, None, Ok, List, IfOk, IfErr, IsOk};
+ghost use Rattle.std.specs.Prelude.{◌≡◌, ◌≢◌, ℕ, Bool, false, OnOk, OnErr, None, Ok, List, IfOk, IfErr, IsOk};
 ghost use Rattle.std.specs.Option.{option_copied};
 ghost use Rattle.std.specs.FinMap as map;
 ghost use Rattle.eu_model.specs.Change.{renew_reply};
@@ -190,7 +190,7 @@ impl Registry {
     /// the instance's overridden status. The number expected stays.
     ///
     /// Refused with `Exhausted` where 2^62 renewals were counted in this minute, or with `OutOfMemory`; that changes nothing.
-    /// Without a stamp it takes no memory.
+    /// A client's renewal takes no memory, and neither does one without a stamp.
     pub fn renew(
         &mut self,
         alloc: Global,
@@ -203,6 +203,7 @@ impl Registry {
         ensures answers { Answers self.old (Command.Renew key.now dirty overridden replicated) moment result self.new }
         ensures err { OnErr result (self.new ≡ self.old) }
         ensures memory { dirty ≡ None → result ≢ Err Fault.OutOfMemory }
+        ensures client { replicated ≡ false → result ≢ Err Fault.OutOfMemory }
     {
         let row = self.rows.get(&key.id);
         let Some(held) = self.leases.get(key) else {
@@ -417,6 +418,7 @@ fn renew_reply(
 ) -> Result<Reply, AllocError>
     ensures reply { IfOk result (λ reply. reply ≡ renew_reply dirty (record instance.now { status = status }) replicated) }
     ensures memory { dirty ≡ None → IsOk result }
+    ensures client { replicated ≡ false → IsOk result }
 {
     let Some(stamp) = dirty else {
         return Ok(Reply::Done);

@@ -24,9 +24,9 @@ pub fn told(overridden: Status) -> Option<Status>
     }
 }
 
-/// The row that a peer's renewal brings, which has this reply (`PeerAwareInstanceRegistryImpl.renew` and
-/// `InstanceResource.validateDirtyTimestamp` in Eureka): the overridden status that it gives, where its sender knows a newer
-/// instance, unless it is UNKNOWN or the row already.
+/// The row that a peer's renewal brings, which has this reply (`InstanceResource.renewLease` and
+/// `AbstractInstanceRegistry.storeOverriddenStatusIfRequired` in Eureka): the overridden status that it gives, where its
+/// sender knows a newer instance, unless it is UNKNOWN or the row already.
 pub fn brought(
     reply: &Reply,
     overridden: Option<Status>,

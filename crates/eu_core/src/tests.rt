@@ -1,6 +1,6 @@
 //! Values from the rules of Eureka's registry, worked out by hand.
 use crate::Registry;
-use eu_base::{App, Config, Fault, Id, Instance, Key, Moment, Stamp, Status};
+use eu_base::{App, Config, Fault, Id, Instance, Key, Moment, Rest, Stamp, Status};
 use eu_clock::{Chooser, FirstChooser, ListChooser};
 use eu_model::Reply;
 use std::alloc::{AllocError, Global};
@@ -53,6 +53,8 @@ fn instance(
         overridden: statuses.1,
         dirty,
         secs,
+        interval: 30,
+        rest: Rest::of_host(alloc, "h")?,
     })
 }
 

@@ -4,8 +4,9 @@ ghost use Rattle.eu_model.specs.Override.{rule};
 
 use eu_base::Status;
 
-/// The override rule (`OverrideExistsRule` and its neighbours in Eureka): the first that holds of an own status that
-/// isn't settable, the row of the id, for a client a held status that is settable, and the own status.
+/// The override rule (`OverrideExistsRule` and its neighbours in Eureka): the first that holds of an own status that is
+/// neither UP nor OUT_OF_SERVICE, the row of the id, for a client a held status that is UP or OUT_OF_SERVICE, and the own
+/// status.
 pub fn override_rule(
     own: Status,
     row: Option<Status>,

@@ -43,7 +43,7 @@ unfolding marks_of
 since_of l n =
     since_renewals (renewals [] l ++ (Minute ∷ [])) n ∙ omega (arith, since_minute (renewals [] l))
 
-both_ways : (o : Option Listed) → option_map listed (option_map raised o) ≡ o
+pub both_ways : (o : Option Listed) → option_map listed (option_map raised o) ≡ o
 both_ways None = refl
 both_ways (Some l) = refl
 

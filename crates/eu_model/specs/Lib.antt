@@ -12,7 +12,6 @@ pub mod Delta
 pub mod Plain
 pub mod View
 pub mod Answers
-pub mod Reaches
 pub mod Law
 pub mod Kept
 pub mod PlainCode

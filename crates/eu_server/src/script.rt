@@ -20,15 +20,17 @@ use std::io::{Read, Write};
 /// - `open N` opens the registry, which expects N clients, and prints `opened`. It stands once, before the others.
 /// - `register T APP ID SECS STATUS OVR DIRTY SRC` registers an instance of this status and overridden status with a lease
 ///   of SECS seconds (0 stands for 90) and the stamp DIRTY (`-` stands for T), and prints `204`.
-/// - `renew T APP ID DIRTY OVR SRC` renews a lease, and prints `200`, or `404` where none is held or it isn't to be renewed.
-///   Where DIRTY is greater than the held stamp, the lease is renewed but `404` is printed, and a peer's OVR other than
-///   UNKNOWN becomes the overridden status. Where it is smaller and a peer sends it, the lease is renewed and
+/// - `renew T APP ID DIRTY OVR SRC` renews a lease, and prints `200`, or `404` where none is held, or its status would be
+///   UNKNOWN. Where DIRTY is greater than the held stamp, the lease is renewed but `404` is printed, and a peer's OVR other
+///   than UNKNOWN and the override that there is becomes the overridden status. Where it is smaller and a peer sends it, the lease is renewed and
 ///   `409 STATUS OVERRIDDEN D` printed: the statuses and the stamp that are held. DIRTY and OVR may be `-`, for none.
 /// - `cancel T APP ID SRC` ends a lease, and prints `200`, or `404` where none is held.
 /// - `set T APP ID STATUS DIRTY SRC` renews a lease and has STATUS override the instance's own, and prints `200`, or `404`
-///   where no lease is visible. A greater DIRTY replaces the held stamp; it may be `-`, for none.
+///   where no lease is visible. Where STATUS is another than the instance's, a greater DIRTY replaces the held stamp; it
+///   may be `-`, for none.
 /// - `unset T APP ID STATUS DIRTY SRC` renews a lease and takes back the status that overrides the instance's own, which is
-///   STATUS from now on (`-` stands for UNKNOWN). What it prints and what DIRTY does are as for `set`.
+///   STATUS from now on (`-` stands for UNKNOWN), and then a greater DIRTY replaces the held stamp; where nothing overrides,
+///   the lease is only renewed. What it prints is as for `set`.
 /// - `adopt T APP ID SECS STATUS OVR DIRTY` takes over an instance that a peer holds: an OVR other than UNKNOWN becomes the
 ///   overridden status here, and then the instance is registered as by a peer. It prints `204`.
 /// - `roll T` ends a minute, and prints `last N`: the renewals that were counted in it.

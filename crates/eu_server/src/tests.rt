@@ -3,7 +3,7 @@ ghost use Rattle.std.specs.Prelude.{None};
 
 use crate::printing::{print_refusal, print_reply};
 use crate::run_script;
-use eu_base::{App, Config, Fault, Id, Instance, Key, Status};
+use eu_base::{App, Config, Fault, Id, Instance, Key, Rest, Status};
 use eu_clock::FirstChooser;
 use eu_lines::ScriptFault;
 use eu_model::Reply;
@@ -165,6 +165,11 @@ fn stamps_are_compared(rt: HostRuntime) -> Result<(), Fail> {
         (
             b"open 0\nregister 0 A i1 90 UP UNKNOWN 3 c\nadopt 1 A i1 90 UP OUT_OF_SERVICE 7\nlook 1 A i1\nadopt 2 A i1 30 STARTING UNKNOWN 5\nlook 2 A i1\n",
             b"opened\n204\n204\nfound OUT_OF_SERVICE OUT_OF_SERVICE dirty 7 secs 90 registered 1 up 0 updated 1\n204\nfound OUT_OF_SERVICE OUT_OF_SERVICE dirty 7 secs 30 registered 2 up 0 updated 2\n",
+        ),
+        // a greater stamp comes with a status, and a smaller one doesn't
+        (
+            b"open 0\nregister 1 A x 90 UP UNKNOWN 3 c\nset 2 A x DOWN 7 c\nlook 2 A x\nunset 3 A x UP 8 r\nlook 3 A x\nset 4 A x DOWN 2 r\nlook 4 A x\n",
+            b"opened\n204\n200\nfound DOWN DOWN dirty 7 secs 90 registered 1 up 1 updated 90002\n200\nfound UP UNKNOWN dirty 8 secs 90 registered 1 up 1 updated 90003\n200\nfound DOWN DOWN dirty 8 secs 90 registered 1 up 1 updated 90004\n",
         ),
     ];
     let config = Config::new(true, 85, 30, 60_000)?;
@@ -507,6 +512,8 @@ fn conflicts_and_refusals_are_told(rt: HostRuntime) -> Result<(), Fail> {
         overridden: Status::Unknown,
         dirty: 7,
         secs: 90,
+        interval: 30,
+        rest: Rest::of_host(rt.alloc(), "h")?,
     };
     print_reply(&mut out, &Reply::Conflict(held))?;
     print_refusal(&mut out, Fault::Full)?;
@@ -516,5 +523,18 @@ fn conflicts_and_refusals_are_told(rt: HostRuntime) -> Result<(), Fail> {
         out.as_str(),
         "409 OUT_OF_SERVICE UNKNOWN 7\nrefused 7\nlast 4\nexpected 9\n"
     );
+    Ok(())
+}
+
+#[test]
+fn a_refusal_is_told_and_the_script_goes_on(rt: HostRuntime) -> Result<(), Fail> {
+    let config = Config::new(true, 85, 30, 60_000)?;
+    let mut text = joined(rt.alloc(), 0, 65_536, 90)?;
+    text.push_str("register 1 A more 90 UP UNKNOWN - c\n")?;
+    text.push_str("register 1 A i0 90 UP UNKNOWN - c\ncounts 1\n")?;
+    let mut printed = joined_printed(rt.alloc(), 65_536)?;
+    printed.push_str("refused 7\n204\n")?;
+    printed.push_str("held 65536 expected 0 threshold 0 last 0 permitted no\n")?;
+    assert!(rt; prints(rt.alloc(), config, text.as_bytes(), printed.as_bytes()));
     Ok(())
 }

@@ -10,25 +10,13 @@ use Rattle.std.specs.FinMap.Entries.{find, is_sorted, below_all, same_entries}
 use Rattle.std.specs.Ordering.{eq_by_cmp, is_eq, is_lt, ordering_reverse}
 use Rattle.std.specs.Cmp.{IsTotalOrder, eq_by_cmp_equiv}
 use Rattle.std.proofs.lemmas.Map.Keys.{IsDistinct-IsPermutation, IsDistinct-cons, IsDistinct-head, IsDistinct-tail, IsDistinct-from_sorted, apart_from_distinct, sorted_from_all_adjacent, sorted_head, sorted_tail}
+use Rattle.eu_model.proofs.PassLemmas.{first, second, less}
 use Rattle.std.proofs.lemmas.Map.Lookups.{CmpEqualImpliesEq}
 use Rattle.std.proofs.lemmas.List.Sorted.{list_any-IsPermutation}
 
 both : (a b : Bool) → T a → T b → T (a && b)
 both true b p q = q
 both false b p q = p
-
-first : (a b : Bool) → T (a && b) → T a
-first true b p = tt
-first false b p = p
-
-second : (a b : Bool) → T (a && b) → T b
-second true b p = p
-second false b p = absurd p
-
-less : (o : Ordering) → T (is_lt o) → o ≡ Less
-less Less p = refl
-less Equal p = absurd p
-less Greater p = absurd p
 
 -- neither equal nor after it
 rises : {K : Type 0} {R : K → K → Ordering} (o : IsTotalOrder R) (x y : K) → eq_by_cmp R x y ≡ false → is_lt (R y x) ≡ false → R x y ≡ Less

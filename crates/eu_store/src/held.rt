@@ -20,8 +20,11 @@ impl Model for Held {
     ghost use Rattle.std.specs.Prelude.{◌≡◌};
     ghost use Rattle.eu_lease.specs.Term.{listed_with};
     ghost use Rattle.eu_model.specs.declared.views.Listed.{Listed};
+    ghost use Rattle.eu_model.specs.contracts.views.Listed as listed;
 
     ghost Value = { Listed };
+
+    ghost coded = { listed.the_row.coded };
 
     ghost view = { λ h. listed_with h.instance h.lease };
 

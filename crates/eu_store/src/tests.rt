@@ -1,6 +1,6 @@
 //! Leases, with what they answer worked out by hand.
 use crate::{Held, Leases};
-use eu_base::{App, Fault, Id, Instance, Key, Moment, Stamp, Status};
+use eu_base::{App, Fault, Id, Instance, Key, Moment, Rest, Stamp, Status};
 use eu_lease::Lease;
 use std::alloc::Global;
 use std::test::Fail;
@@ -24,6 +24,8 @@ fn held(alloc: Global, id: &str) -> Result<Held, Fault> {
         overridden: Status::Unknown,
         dirty: 7,
         secs: 10,
+        interval: 30,
+        rest: Rest::of_host(alloc, "h")?,
     };
     Ok(Held::new(instance, Lease::fresh(at(0)?, 10)))
 }
@@ -107,6 +109,8 @@ fn a_held_lease_begins_anew(rt: HostRuntime) -> Result<(), Fail> {
         overridden: Status::Unknown,
         dirty: 3,
         secs: 30,
+        interval: 30,
+        rest: Rest::of_host(rt.alloc(), "h")?,
     };
     let lease = Lease::fresh(at(4)?, 30);
     assert!(rt; leases.rejoin(&newcomer, Status::OutOfService, Status::Down, lease));

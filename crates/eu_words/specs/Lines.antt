@@ -3,6 +3,8 @@ use Rattle.std.specs.Prelude.{◌≡◌, ℕ, ◌^◌, ◌-◌, Bool, List, Opti
 use Rattle.std.specs.Str.{bytes_eq}
 use Rattle.eu_base.specs.declared.names.Key.{Key}
 use Rattle.eu_base.specs.declared.statuses.Status.{Status}
+use Rattle.serde_json.specs.Data.{Data}
+use Rattle.eu_base.specs.Rest.{rest_of_host}
 use Rattle.eu_base.specs.declared.instances.Instance.{Instance}
 use Rattle.eu_lines.specs.declared.faults.LineError.{LineError}
 use Rattle.eu_words.specs.declared.lines.Line.{Line}
@@ -16,9 +18,11 @@ pub record Newcomer : Type 0 where
   pub overridden : Status
   pub dirty : ℕ
   pub secs : ℕ
+  pub interval : ℕ
+  pub rest : Data
 
 abbrev pub newcomer_of : Instance → Newcomer
-newcomer_of i = record { key = i.key; status = i.status; overridden = i.overridden; dirty = i.dirty; secs = i.secs }
+newcomer_of i = record { key = i.key; status = i.status; overridden = i.overridden; dirty = i.dirty; secs = i.secs; interval = i.interval; rest = i.rest }
 
 -- what a line says, and first its moment in milliseconds
 pub data Said : Type 0 where
@@ -70,7 +74,7 @@ open_says ws = do
   e ← end_at n.1
   Some (Open n.0)
 
--- APP ID SECS STATUS OVR DIRTY: an absent stamp is the moment
+-- APP ID SECS STATUS OVR DIRTY: an absent stamp is the moment. The host is the id, and renewals are meant to come each 30 s
 unfoldable pub newcomer_at : ℕ → Field Newcomer
 newcomer_at moment ws = do
   key ← key_at ws
@@ -78,7 +82,7 @@ newcomer_at moment ws = do
   status ← status_at secs.1
   overridden ← status_at status.1
   dirty ← dirty_at moment overridden.1
-  Some (record { key = key.0; status = status.0; overridden = overridden.0; dirty = dirty.0; secs = secs.0 }, dirty.1)
+  Some (record { key = key.0; status = status.0; overridden = overridden.0; dirty = dirty.0; secs = secs.0; interval = 30; rest = rest_of_host key.0.id }, dirty.1)
 
 -- T APP ID SECS STATUS OVR DIRTY SRC
 unfoldable pub register_says : List (List ℕ) → Option Said

@@ -4,7 +4,7 @@ ghost use Rattle.eu_words.specs.Words.{Gives};
 ghost use Rattle.eu_words.specs.Lines.{IsReading, line_of, words_say, open_says, newcomer_of, newcomer_at, register_says, renew_says, cancel_says, set_says, unset_says, adopt_says, look_says, moment_says};
 
 use crate::words::{Words, is_text};
-use eu_base::{Instance, Key, Moment, Stamp, Status};
+use eu_base::{Instance, Key, Moment, Rest, Stamp, Status};
 use eu_lines::LineError;
 use std::alloc::Global;
 
@@ -182,7 +182,7 @@ fn register_line(alloc: Global, words: &mut Words<'_>) -> Result<Line, LineError
     })
 }
 
-/// An instance, else `Bad`; `OutOfMemory`. Its stamp is the moment where `-` stands for it.
+/// An instance, else `Bad`; `OutOfMemory`. Its stamp is the moment where `-` stands for it; its host is its id.
 #[tactic(auto, unfolding(crate::specs::Lines::newcomer_at))]
 fn instance_at(alloc: Global, words: &mut Words<'_>, moment: Moment) -> Result<Instance, LineError>
     ensures { Gives newcomer_of result words.new (newcomer_at moment words.old) }
@@ -192,12 +192,15 @@ fn instance_at(alloc: Global, words: &mut Words<'_>, moment: Moment) -> Result<I
     let status = words.status_at()?;
     let overridden = words.status_at()?;
     let dirty = words.dirty_at(moment.ms())?;
+    let rest = Rest::of_host(alloc, key.id.as_str())?;
     Ok(Instance {
         key,
         status,
         overridden,
         dirty,
         secs,
+        interval: Instance::DEFAULT_INTERVAL,
+        rest,
     })
 }
 

@@ -1,0 +1,117 @@
+//! What a client gave of its instance beside what the registry reads.
+ghost use Rattle.std.specs.Prelude.{◌≡◌, ◌↔◌, IfOk, IfSome, IsSome};
+ghost use Rattle.std.specs.Option.{option_map};
+ghost use Rattle.serde_json.specs.Data.{object};
+ghost use Rattle.serde_json.specs.Find.{as_object};
+ghost use Rattle.serde_json.specs.View.{view as tree_of, members_view};
+ghost use Rattle.serde_json.specs.Written.{has_float};
+ghost use Rattle.eu_base.specs.Rest.{IsRest, rest_of_host};
+
+use serde_json::{Map, Value, json};
+use std::alloc::{AllocError, Global};
+use std::marker::Model;
+
+/// The members of an instance that the registry keeps as they came: a JSON object whose numbers are all whole. Contracts see
+/// the tree.
+#[derive(Debug, Drop)]
+pub struct Rest {
+    members: Map<String, Value>,
+}
+
+impl Model for Rest {
+    ghost use Rattle.std.specs.Prelude.{◌≡◌, false};
+    ghost use Rattle.serde_json.specs.Data.{Data, object};
+    ghost use Rattle.serde_json.specs.View.{members_view};
+    ghost use Rattle.serde_json.specs.Written.{members_have_float};
+    ghost use Rattle.eu_base.specs.Tree.{coded_tree};
+
+    ghost Value = { Data };
+
+    ghost coded = { coded_tree };
+
+    ghost view = { λ r. object (members_view r.members.entries) };
+
+    ghost invariant = { λ r. members_have_float (members_view r.members.entries) ≡ false };
+}
+
+impl Rest {
+    /// The members of that value. None exactly where it isn't an object, or has a number anywhere that isn't whole.
+    pub fn new(value: Value) -> Option<Rest>
+        ensures some { IfSome result (λ r. r ≡ tree_of value) }
+        ensures found { IsSome result ↔ IsRest (tree_of value) }
+    {
+        if has_fraction(&value) {
+            return None;
+        }
+        let members = members_of(value)?;
+        Some(Rest { members })
+    }
+
+    /// What a client at that host gives at least: its host name, an address and a data center of its own. `OutOfMemory`.
+    pub fn of_host(alloc: Global, host: &str) -> Result<Rest, AllocError>
+        ensures { IfOk result (λ r. r ≡ rest_of_host host.now) }
+    {
+        let mut members = Map::new(alloc);
+        let center = json!(in alloc; { "name": "MyOwn" })?;
+        members.insert(String::from_str(alloc, "dataCenterInfo")?, center)?;
+        let name = Value::String(String::from_str(alloc, host)?);
+        members.insert(String::from_str(alloc, "hostName")?, name)?;
+        let address = Value::String(String::from_str(alloc, "0.0.0.0")?);
+        members.insert(String::from_str(alloc, "ipAddr")?, address)?;
+        Ok(Rest { members })
+    }
+
+    /// The members, by their names.
+    pub fn members(&self) -> &Map<String, Value>
+        ensures { object (members_view result.now.entries) ≡ self.now }
+    {
+        &self.members
+    }
+
+    /// The same members once more.
+    pub fn copy(&self) -> Result<Rest, AllocError>
+        ensures { IfOk result (λ r. r ≡ self.now) }
+    {
+        let members = self.members.clone()?;
+        Ok(Rest { members })
+    }
+}
+
+/// The members of that value, where it is an object.
+fn members_of(value: Value) -> Option<Map<String, Value>>
+    ensures { option_map (λ m. members_view m.entries) result ≡ as_object (tree_of value) }
+{
+    match value {
+        Value::Object(members) => Some(members),
+        other => {
+            drop(other);
+            None
+        }
+    }
+}
+
+/// Whether a number anywhere is neither a `u64` nor an `i64`.
+fn has_fraction(value: &Value) -> bool
+    ensures { result ≡ has_float (tree_of value.now) }
+{
+    match value {
+        Value::Null | Value::Bool(_) | Value::String(_) => false,
+        Value::Number(number) => number.is_f64(),
+        Value::Array(items) => {
+            for item in items {
+                if has_fraction(item) {
+                    return true;
+                }
+            }
+            false
+        }
+        Value::Object(members) => {
+            for (_, member) in members {
+                if has_fraction(member) {
+                    return true;
+                }
+            }
+            false
+        }
+    }
+}

@@ -3,8 +3,8 @@ ghost use Rattle.std.specs.Prelude.{◌≡◌, ◌↔◌, IfOk, IfSome, IsSome};
 ghost use Rattle.std.specs.Option.{option_map};
 ghost use Rattle.serde_json.specs.Data.{object};
 ghost use Rattle.serde_json.specs.Find.{as_object};
-ghost use Rattle.serde_json.specs.View.{view as tree_of, members_view};
-ghost use Rattle.serde_json.specs.Written.{has_float};
+ghost use Rattle.serde_json.specs.View.{view as tree_of, items_view, members_view};
+ghost use Rattle.serde_json.specs.Written.{has_float, items_have_float, members_have_float};
 ghost use Rattle.eu_base.specs.Rest.{IsRest, rest_of_host};
 
 use serde_json::{Map, Value, json};
@@ -91,27 +91,38 @@ fn members_of(value: Value) -> Option<Map<String, Value>>
 }
 
 /// Whether a number anywhere is neither a `u64` nor an `i64`.
+#[cycle(has_fraction)]
 fn has_fraction(value: &Value) -> bool
     ensures { result ≡ has_float (tree_of value.now) }
 {
     match value {
         Value::Null | Value::Bool(_) | Value::String(_) => false,
         Value::Number(number) => number.is_f64(),
-        Value::Array(items) => {
-            for item in items {
-                if has_fraction(item) {
-                    return true;
-                }
-            }
-            false
-        }
-        Value::Object(members) => {
-            for (_, member) in members {
-                if has_fraction(member) {
-                    return true;
-                }
-            }
-            false
+        Value::Array(items) => any_has_fraction(items),
+        Value::Object(members) => any_member_has_fraction(members),
+    }
+}
+
+#[cycle(has_fraction)]
+fn any_has_fraction(items: &Vec<Value>) -> bool
+    ensures { result ≡ items_have_float (items_view items.now.items) }
+{
+    for item in items {
+        if has_fraction(item) {
+            return true;
         }
     }
+    false
+}
+
+#[cycle(has_fraction)]
+fn any_member_has_fraction(members: &Map<String, Value>) -> bool
+    ensures { result ≡ members_have_float (members_view members.now.entries) }
+{
+    for (_, member) in members {
+        if has_fraction(member) {
+            return true;
+        }
+    }
+    false
 }

@@ -1,43 +1,32 @@
--- An adoption is a registration, where the overridden status that is told was read
-use Rattle.std.proofs.Common.{◌≡◌, ℕ, true, refl, sym, ◌∙◌}
-use Rattle.std.specs.Prelude.{Option, Some, None, IsSomeAnd}
-use Rattle.std.specs.Option.{option_map, option_or}
+-- An adoption is a registration under the row that is told: what overrode the held instance plays no part
+use Rattle.std.proofs.Common.{◌≡◌, ℕ, Bool, true, false, refl}
+use Rattle.std.specs.Prelude.{Option, Some, None, cond, nat_lt}
+use Rattle.std.specs.Option.{option_or}
 use Rattle.eu_base.specs.declared.statuses.Status.{Status}
 use Rattle.eu_base.specs.declared.instances.Instance.{Instance}
 use Rattle.eu_model.specs.declared.views.Listed.{Listed}
-use Rattle.eu_model.specs.Change.{told, under_row}
-use Rattle.eu_model.specs.Kept.{kept_register, kept_adopt}
-use Rattle.eu_core.specs.declared.joins.HeldPart.{HeldPart}
-use Rattle.eu_core.specs.Joins.{IsPart, IsRead, read, read_as, told_part}
+use Rattle.eu_model.specs.Override.{rule}
+use Rattle.eu_model.specs.Record.{made}
+use Rattle.eu_model.specs.Change.{told, joined, up_after, register, overridden_by}
+use Rattle.eu_model.specs.Plain.{listed}
+use Rattle.eu_model.specs.Kept.{raised, kept, kept_register, kept_adopt}
 
--- a listed lease with its instance under a row
-abbrev pub under : Option Status → Listed → Listed
-under row l = record l { instance = under_row row l.instance }
+-- the instance that a registration leaves, from the one that was chosen, where the id has a row
+abbrev settled : Instance → Status → Status → Bool → Instance
+settled chosen row held replicated = record chosen { status = rule chosen.status (Some row) (Some held) replicated; overridden = row }
 
-under_none : (l : Option Listed) → option_map (under None) l ≡ l
-under_none None = refl
-under_none (Some l) = refl
+same_joined : (h n : Instance) (row : Status) (replicated : Bool) → joined (Some h) (Some row) n replicated ≡ joined (Some (record h { overridden = row })) (Some row) n replicated
+same_joined h n row replicated =
+    elim (nat_lt n.dirty h.dirty) as (λ b.
+    settled (cond b (record h { secs = n.secs; secs_bound = n.secs_bound }) n) row h.status replicated
+    ≡ settled (cond b (record h { overridden = row; secs = n.secs; secs_bound = n.secs_bound }) n) row h.status replicated) [ true ↦ refl | false ↦ refl ]
 
-none_under : (row : Option Status) (l : Option Listed) → l ≡ None → None ≡ option_map (under row) l
-none_under row None e = refl
-none_under row (Some l) e = cc
-
-pub read_told : (part : Option HeldPart) (row : Option Status) (l : Option Listed) → IsRead part l → read part l ≡ l → read (told_part part row) l ≡ option_map (under row) l
-read_told None row l h whole = none_under row l h
-read_told (Some part) None l h whole = whole ∙ sym (under_none l)
-read_told (Some part) (Some overridden) l h whole = refl
-
-told_is_read : (part : HeldPart) (overridden : Status) (l : Option Listed) → IsSomeAnd l (λ x. IsPart part (read_as part x))
-    → IsSomeAnd l (λ x. let p : HeldPart = record part { overridden = overridden } in IsPart p (read_as p x))
-told_is_read part overridden None h = h
-told_is_read part overridden (Some x) h = record { status = h.status; overridden = refl; dirty = h.dirty; lease = h.lease }
-
-pub told_read : (part : Option HeldPart) (row : Option Status) (l : Option Listed) → IsRead part l → IsRead (told_part part row) l
-told_read None row l h = h
-told_read (Some part) None l h = h
-told_read (Some part) (Some overridden) l h = told_is_read part overridden l h
-
-pub adopt_registers : (held : Option Listed) (row : Option Status) (e : ℕ) (n : Instance) (t : ℕ)
-    → kept_register (option_map (under (told n.overridden)) held) (option_or (told n.overridden) row) e n true t ≡ kept_adopt held row e n t
+pub adopt_registers : (held : Option Listed) (row : Option Status) (e : ℕ) (n : Instance) (t : ℕ) → kept_register held (option_or (told n.overridden) row) e n true t ≡ kept_adopt held row e n t
 adopt_registers None row e n t = refl
-adopt_registers (Some l) row e n t = refl
+adopt_registers (Some l) row e n t =
+    elim (told n.overridden) as (λ o. kept_register (Some l) (option_or o row) e n true t ≡ kept (register (Some (overridden_by o (raised l))) (option_or o row) e n true t)) [
+      | None ↦ refl
+      | Some s ↦
+          let q = same_joined l.instance n s true in
+          λ i. record (kept_register (Some l) (Some s) e n true t) { lease = Some (listed (made (q i) (up_after l.times.up (q i).status t) t)) }
+    ]

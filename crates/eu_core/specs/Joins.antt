@@ -1,6 +1,5 @@
 -- What a registration reads and writes
 use Rattle.std.specs.Prelude.{◌≡◌, ℕ, Bool, Option, Some, None, IsSomeAnd}
-use Rattle.std.specs.Option.{option_map}
 use Rattle.std.specs.FinMap.{FinMap, get}
 use Rattle.eu_base.specs.declared.statuses.Status.{Status}
 use Rattle.eu_base.specs.declared.instances.Instance.{Instance}
@@ -21,30 +20,16 @@ pub record IsPart (part : HeldPart) (l : Listed) : Type 0 where
   pub dirty : part.dirty ≡ l.instance.dirty
   pub lease : part.lease ≡ term_of l
 
--- a held lease with the overridden status of a part: an adoption puts another there than was read
-abbrev pub read_as : HeldPart → Listed → Listed
-read_as part l = record l { instance = record l.instance { overridden = part.overridden } }
-
-abbrev pub read : Option HeldPart → Option Listed → Option Listed
-read None held = None
-read (Some part) held = option_map (read_as part) held
-
--- a part is that of the lease which is held, its overridden status aside, and none where none is held
+-- a part is that of the lease which is held, and none where none is held
 abbrev pub IsRead : Option HeldPart → Option Listed → Type 0
 IsRead None held = held ≡ None
-IsRead (Some part) held = IsSomeAnd held (λ l. IsPart part (read_as part l))
-
--- a part with the overridden status that is told, if one is
-abbrev pub told_part : Option HeldPart → Option Status → Option HeldPart
-told_part None told = None
-told_part (Some part) None = Some part
-told_part (Some part) (Some overridden) = Some (record part { overridden = overridden })
+IsRead (Some part) held = IsSomeAnd held (IsPart part)
 
 -- the lease and the row that a registration leaves, from a held lease and a row. Neither depends on the number expected
 pub record Joins (leases leases' : FinMap key_cmp Listed) (rows rows' : FinMap name_cmp Status) (n : Instance) (held : Option Listed) (held_row : Option Status) (replicated : Bool) (t : ℕ) : Type 0 where
   pub lease : leases' ≡ with_value leases n.key (kept_register held held_row 0 n replicated t).lease
   pub row : rows' ≡ with_row rows n.key.id (kept_register held held_row 0 n replicated t).row
 
--- what a registration changes, where this is read of the held lease and the id has this row
-abbrev pub joined_by : Plain → Option HeldPart → Option Status → Instance → Bool → ℕ → Change Listed
-joined_by p part row n replicated t = kept_register (read part (get p.leases n.key)) row p.expected n replicated t
+-- what a registration changes, where the id has this row
+abbrev pub joined_by : Plain → Option Status → Instance → Bool → ℕ → Change Listed
+joined_by p row n replicated t = kept_register (get p.leases n.key) row p.expected n replicated t

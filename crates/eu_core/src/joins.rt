@@ -2,7 +2,7 @@
 ghost use Rattle.std.specs.Prelude.{◌≡◌, ◌<◌, ◌≤◌, IsSomeAnd, IfErr, OnOk, OnErr, None, Some};
 ghost use Rattle.std.specs.FinMap as map;
 ghost use Rattle.eu_model.specs.Change.{up_after};
-ghost use Rattle.eu_core.specs.Joins.{IsPart, IsRead, read, read_as, told_part, Joins};
+ghost use Rattle.eu_core.specs.Joins.{IsPart, IsRead, Joins};
 
 use crate::overrides::Overrides;
 use crate::statuses::settle;
@@ -23,7 +23,6 @@ pub struct HeldPart {
 /// What is read of the lease of that key, if it is held.
 pub fn held_part(leases: &Leases, key: &Key) -> Option<HeldPart>
     ensures read { IsRead result (map.get leases.now.held key.now) }
-    ensures whole { read result (map.get leases.now.held key.now) ≡ map.get leases.now.held key.now }
 {
     match leases.get(key) {
         Some(held) => Some(HeldPart {
@@ -33,16 +32,6 @@ pub fn held_part(leases: &Leases, key: &Key) -> Option<HeldPart>
             lease: held.lease(),
         }),
         None => None,
-    }
-}
-
-/// What was read of a lease, with the overridden status that is told, if one is.
-pub fn told_part(held: Option<HeldPart>, told: Option<Status>) -> Option<HeldPart>
-    ensures { result ≡ told_part held told }
-{
-    match (held, told) {
-        (Some(held), Some(overridden)) => Some(HeldPart { overridden, ..held }),
-        _ => held,
     }
 }
 
@@ -102,9 +91,9 @@ fn join_over(
     replicated: bool,
     moment: Moment,
 ) -> Result<(), AllocError>
-    requires held { IsSomeAnd (map.get leases.old.held instance.key) (λ l. IsPart held (read_as held l)) }
+    requires held { IsSomeAnd (map.get leases.old.held instance.key) (IsPart held) }
     requires newer { held.dirty ≤ instance.dirty }
-    ensures ok { OnOk result (Joins leases.old.held leases.new.held rows.old.rows rows.new.rows instance (read (Some held) (map.get leases.old.held instance.key)) row replicated moment) }
+    ensures ok { OnOk result (Joins leases.old.held leases.new.held rows.old.rows rows.new.rows instance (map.get leases.old.held instance.key) row replicated moment) }
     ensures err_leases { OnErr result (leases.new.held ≡ leases.old.held) }
     ensures err_rows { OnErr result (rows.new.rows ≡ rows.old.rows) }
 {
@@ -138,9 +127,9 @@ fn join_under(
     replicated: bool,
     moment: Moment,
 ) -> Result<(), AllocError>
-    requires held { IsSomeAnd (map.get leases.old.held instance.now.key) (λ l. IsPart held (read_as held l)) }
+    requires held { IsSomeAnd (map.get leases.old.held instance.now.key) (IsPart held) }
     requires older { instance.now.dirty < held.dirty }
-    ensures ok { OnOk result (Joins leases.old.held leases.new.held rows.old.rows rows.new.rows instance.now (read (Some held) (map.get leases.old.held instance.now.key)) row replicated moment) }
+    ensures ok { OnOk result (Joins leases.old.held leases.new.held rows.old.rows rows.new.rows instance.now (map.get leases.old.held instance.now.key) row replicated moment) }
     ensures err_leases { OnErr result (leases.new.held ≡ leases.old.held) }
     ensures err_rows { OnErr result (rows.new.rows ≡ rows.old.rows) }
 {
@@ -172,8 +161,8 @@ pub fn join_held(
     replicated: bool,
     moment: Moment,
 ) -> Result<(), AllocError>
-    requires held { IsSomeAnd (map.get leases.old.held instance.key) (λ l. IsPart held (read_as held l)) }
-    ensures ok { OnOk result (Joins leases.old.held leases.new.held rows.old.rows rows.new.rows instance (read (Some held) (map.get leases.old.held instance.key)) row replicated moment) }
+    requires held { IsSomeAnd (map.get leases.old.held instance.key) (IsPart held) }
+    ensures ok { OnOk result (Joins leases.old.held leases.new.held rows.old.rows rows.new.rows instance (map.get leases.old.held instance.key) row replicated moment) }
     ensures err_leases { OnErr result (leases.new.held ≡ leases.old.held) }
     ensures err_rows { OnErr result (rows.new.rows ≡ rows.old.rows) }
 {

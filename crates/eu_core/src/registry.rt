@@ -13,7 +13,7 @@ ghost use Rattle.eu_core.specs.Evicts.{Draws};
 ghost use Rattle.eu_core.specs.Joins.{IsRead, joined_by};
 ghost use Rattle.eu_core.specs.Shown.{shown};
 
-use crate::joins::{HeldPart, held_part, join_held, join_new, told_part};
+use crate::joins::{HeldPart, held_part, join_held, join_new};
 use crate::overrides::Overrides;
 use crate::pass::run_pass;
 use crate::statuses::{brought, is_status, told};
@@ -121,9 +121,8 @@ impl Registry {
         ensures answers { Answers self.old (Command.Adopt instance) moment result self.new }
         ensures err { OnErr result (self.new ≡ self.old) }
     {
-        let told = told(instance.overridden);
-        let held = told_part(held_part(&self.leases, &instance.key), told);
-        let row = told.or(self.rows.get(&instance.key.id));
+        let held = held_part(&self.leases, &instance.key);
+        let row = told(instance.overridden).or(self.rows.get(&instance.key.id));
         self.join(alloc, instance, held, row, true, moment)
     }
 
@@ -140,8 +139,8 @@ impl Registry {
         requires held { IsRead held (map.get self.old.leases instance.key) }
         requires row { row ≡ None → map.get self.old.rows instance.key.id ≡ None }
         ensures fault { OnOk result (kept_join_fault self.old instance.key ≡ None) }
-        ensures reply { IfOk result (λ reply. reply ≡ (joined_by self.old held row instance replicated moment).reply) }
-        ensures after { OnOk result (self.new ≡ after self.old instance.key (joined_by self.old held row instance replicated moment)) }
+        ensures reply { IfOk result (λ reply. reply ≡ (joined_by self.old row instance replicated moment).reply) }
+        ensures after { OnOk result (self.new ≡ after self.old instance.key (joined_by self.old row instance replicated moment)) }
         ensures refused { IfErr result (λ f. IsRefusal (kept_join_fault self.old instance.key) f) }
         ensures err { OnErr result (self.new ≡ self.old) }
     {

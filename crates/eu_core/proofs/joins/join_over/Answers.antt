@@ -8,17 +8,17 @@ use Rattle.eu_model.specs.Override.{rule}
 use Rattle.eu_model.specs.Change.{row_after, up_after}
 use Rattle.eu_lease.specs.Term.{Term, times_of, anew}
 use Rattle.eu_store.specs.Stored.{changed}
-use Rattle.eu_core.specs.Joins.{IsPart, read, read_as, Joins}
+use Rattle.eu_core.specs.Joins.{IsPart, Joins}
 use Rattle.eu_core.proofs.JoinLemmas.{joins_from, some_and, chosen_over}
 use Rattle.eu_core.proofs.joins.join_over.Goals as goal
 
 pub returns-clause-ok : goal.returns-clause-ok
 returns-clause-ok c =
-    let h = some_and (λ l. IsPart c.args.held (read_as c.args.held l)) _ c.requires.held in
-    let l = read_as c.args.held h.0 in
+    let h = some_and (IsPart c.args.held) _ c.requires.held in
+    let l = h.0 in
     let L = c.args.leases.now.held in
     let x = c.new.result in
-    subst (λ o. Joins L c.replace.new.self.held c.args.rows.now.rows c.put.new.self.rows c.args.instance o c.args.row c.args.replicated c.args.moment) (sym (ap (read (Some c.args.held)) h.1))
+    subst (λ o. Joins L c.replace.new.self.held c.args.rows.now.rows c.put.new.self.rows c.args.instance o c.args.row c.args.replicated c.args.moment) (sym h.1)
     (joins_from _ _ _ _ _ c.args.instance c.args.instance c.args.replicated c.args.moment (Some l) x c.args.row _ _ _ _
     (chosen_over l c.args.instance (subst (λ d. d ≤ c.args.instance.dirty) h.2.dirty c.requires.newer))
     c.settle-settled.ensures.row c.settle-settled.ensures.overridden

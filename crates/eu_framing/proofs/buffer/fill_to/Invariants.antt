@@ -1,0 +1,12 @@
+use Rattle.std.proofs.Common.{◌≡◌, ◌-◌, vec_len}
+use Rattle.eu_framing.specs.Reading.{Grows}
+use Rattle.eu_framing.proofs.buffer.fill_to.Given as goal
+
+abbrev pub invariant-reads : goal.invariant-reads
+invariant-reads g l = record {
+  grows : Grows (g.R.Source.remaining l.initial.reader) (g.R.Source.failed l.initial.reader) l.initial.buffer.items (g.R.Source.remaining l.reader) (g.R.Source.failed l.reader) l.buffer.items;
+  same_stream : g.R.Source.stream l.reader ≡ g.R.Source.stream l.initial.reader;
+}
+
+abbrev pub decreases-reads : goal.decreases-reads
+decreases-reads g l = l.wanted - vec_len l.buffer

@@ -1,0 +1,16 @@
+use Rattle.std.proofs.Common.{◌≡◌, ◌≤◌, ◌+◌, ◌-◌, length, vec_len}
+use Rattle.eu_framing.specs.Chunks.{trailer_room}
+use Rattle.eu_framing.specs.Message.{max_fields}
+use Rattle.eu_framing.specs.Reading.{Grows}
+use Rattle.eu_framing.proofs.trailer.find_trailer.Given as goal
+
+abbrev pub invariant-reads : goal.invariant-reads
+invariant-reads g l = record {
+  within : l.start ≤ vec_len l.buffer;
+  room : length l.spans ≡ max_fields;
+  grows : Grows (g.R.Source.remaining l.initial.reader) (g.R.Source.failed l.initial.reader) l.initial.buffer.items (g.R.Source.remaining l.reader) (g.R.Source.failed l.reader) l.buffer.items;
+  same_stream : g.R.Source.stream l.reader ≡ g.R.Source.stream l.initial.reader;
+}
+
+abbrev pub decreases-reads : goal.decreases-reads
+decreases-reads g l = (l.start + trailer_room l.room) - vec_len l.buffer

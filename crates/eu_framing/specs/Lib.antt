@@ -1,0 +1,11 @@
+pub mod Stream
+pub mod Fields
+pub mod Chunks
+pub mod Message
+pub mod Next
+pub mod Reading
+pub mod Steps
+pub mod HeadSteps
+pub mod ChunkSteps
+pub mod Said
+pub mod Law

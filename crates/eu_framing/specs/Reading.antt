@@ -1,0 +1,25 @@
+-- Where a reader and its buffer stand between two steps. Only the contracts of private functions speak of this.
+use Rattle.std.specs.Prelude.{◌≡◌, ◌⊎◌, ℕ, Bool, List, ◌++◌, Option, Some, None, ⊤}
+use Rattle.std.specs.Io.KnownBytes.{Keeps}
+use Rattle.eu_base.specs.declared.faults.Fault.{Fault}
+use Rattle.eu_framing.specs.Stream.{pending, IsOutside}
+
+-- From one place to the next nothing but reading was done: the buffer grew at its end, and no byte was lost.
+pub record Grows (left : Option (List ℕ)) (failed : Bool) (buffer : List ℕ) (left' : Option (List ℕ)) (failed' : Bool) (buffer' : List ℕ) : Type 0 where
+  pub kept : Keeps (pending buffer left) (pending buffer' left')
+  pub sound : failed' ≡ failed
+  pub more : List ℕ
+  pub grown : buffer' ≡ buffer ++ more
+
+-- these bytes are the ones left, where those are known
+abbrev pub Tells : Option (List ℕ) → List ℕ → Type 0
+Tells None bytes = ⊤
+Tells (Some all) bytes = bytes ≡ all
+
+-- P of the buffer and the bytes that come behind it
+abbrev pub Comes : Option (List ℕ) → List ℕ → (List ℕ → Type 0) → Type 0
+Comes left buffer P = (coming : List ℕ) × Tells left coming × P (buffer ++ coming)
+
+-- a fault comes from outside, or it is that of the buffer and the bytes that come behind it
+abbrev pub Blames : Bool → Option (List ℕ) → List ℕ → Fault → (List ℕ → Fault → Type 0) → Type 0
+Blames failed left buffer fault P = IsOutside failed fault ⊎ Comes left buffer (λ bytes. P bytes fault)

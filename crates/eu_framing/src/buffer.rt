@@ -1,0 +1,71 @@
+//! The buffer between a reader and what is made of its bytes.
+ghost use Rattle.std.specs.Prelude.{◌≡◌, ◌≤◌, ◌<◌, ◌+◌, ℕ, List, Ok, true, false, length, drop, take, IfOk, IfErr, OnOk, vec_len};
+ghost use Rattle.std.specs.Io.KnownBytes.{IsAtEnd};
+ghost use Rattle.eu_framing.specs.Stream.{IsOutside};
+ghost use Rattle.eu_framing.specs.Reading.{Grows};
+
+use eu_base::Fault;
+use eu_stream::Source;
+
+/// So many bytes are read at once, at most.
+const PIECE: usize = 4096;
+
+/// Reads once, to the end of the buffer, and tells how many bytes came: none only at the end.
+///
+/// `Read` comes where a read failed, and `OutOfMemory` where there was no memory for what came.
+pub fn fill<R: Source>(reader: &mut R, buffer: &mut Vec<u8>) -> Result<usize, Fault>
+    ensures grows { OnOk result (Grows (R.remaining reader.old) (R.failed reader.old) buffer.old.items (R.remaining reader.new) (R.failed reader.new) buffer.new.items) }
+    ensures count { IfOk result (λ n. vec_len buffer.new ≡ vec_len buffer.old + n) }
+    ensures end { IfOk result (λ n. n ≡ 0 → IsAtEnd (R.remaining reader.new)) }
+    ensures fault { IfErr result (IsOutside (R.failed reader.new)) }
+    ensures same_stream { R.stream reader.new ≡ R.stream reader.old }
+{
+    let mut piece = [0u8; PIECE];
+    match reader.read_some(&mut piece) {
+        Ok(count) => {
+            buffer.extend_from_slice(&piece[..count])?;
+            Ok(count)
+        }
+        Err(_) => Err(Fault::Read),
+    }
+}
+
+/// Reads until the buffer holds so many bytes, and tells whether they came before the end.
+///
+/// The faults are those of `fill`.
+pub fn fill_to<R: Source>(
+    reader: &mut R,
+    buffer: &mut Vec<u8>,
+    wanted: usize,
+) -> Result<bool, Fault>
+    ensures grows { OnOk result (Grows (R.remaining reader.old) (R.failed reader.old) buffer.old.items (R.remaining reader.new) (R.failed reader.new) buffer.new.items) }
+    ensures whole { result ≡ Ok true → wanted ≤ vec_len buffer.new }
+    ensures cut { result ≡ Ok false → vec_len buffer.new < wanted }
+    ensures end { result ≡ Ok false → IsAtEnd (R.remaining reader.new) }
+    ensures fault { IfErr result (IsOutside (R.failed reader.new)) }
+    ensures same_stream { R.stream reader.new ≡ R.stream reader.old }
+{
+    'reads: while buffer.len() < wanted {
+        if fill(reader, buffer)? == 0 {
+            return Ok(false);
+        }
+    }
+    Ok(true)
+}
+
+/// The bytes behind a place, at most so many.
+pub fn window(buffer: &[u8], start: usize, room: usize) -> &[u8]
+    requires { start ≤ length buffer.now }
+    ensures { result.now ≡ take room (drop start buffer.now) }
+{
+    let behind = &buffer[start..];
+    &behind[..behind.len().min(room)]
+}
+
+/// Drops the first bytes of the buffer, once they are used.
+pub fn drop_front(buffer: &mut Vec<u8>, used: usize)
+    requires { used ≤ vec_len buffer.old }
+    ensures { buffer.new.items ≡ drop used buffer.old.items }
+{
+    buffer.drain(..used);
+}

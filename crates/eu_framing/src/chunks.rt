@@ -1,0 +1,243 @@
+//! A chunked body.
+ghost use Rattle.std.specs.Prelude.{◌≡◌, ◌≤◌, ◌<◌, ◌+◌, ◌++◌, [], List, ℕ, IfOk, IfErr, IfSome, OnOk, drop, length, take, vec_len, bytes_eq};
+ghost use Rattle.std.specs.Option.{MatchOption};
+ghost use Rattle.httparse.specs.Ascii.{crlf_bytes};
+ghost use Rattle.httparse.specs.Grammar.{HasNoChunkLine, MayBecomeChunkLine};
+ghost use Rattle.eu_framing.specs.Chunks.{IsLineFault, IsDataFault, BreaksChunks, ReadsChunked, BreaksChunked};
+ghost use Rattle.eu_framing.specs.Message.{max_head};
+ghost use Rattle.eu_framing.specs.Reading.{Grows, Blames};
+ghost use Rattle.eu_framing.specs.Steps.{FindsLine};
+ghost use Rattle.eu_framing.specs.ChunkSteps.{TakesStep, TakesChunks};
+
+use crate::buffer::{fill, fill_to, window};
+use crate::trailer::find_trailer;
+use crate::{MAX_BODY, MAX_RAW};
+use eu_base::Fault;
+use eu_stream::Source;
+use httparse::{Status, parse_chunk_size};
+use std::alloc::Global;
+
+/// What a chunk line led to, with the number of bytes that it took.
+#[derive(Clone, Copy, Debug, PartialEq, Eq)]
+pub enum Step {
+    /// A chunk: the line, its data and their end.
+    Chunk(usize),
+    /// The last line, alone.
+    Last(usize),
+}
+
+/// The chunk line at `start`, if it is whole within the room: its length, and the size of its data. The fault is that of
+/// the bytes, whatever follows.
+fn look(buffer: &[u8], start: usize, room: usize) -> Result<Option<(usize, u64)>, Fault>
+    requires { start ≤ length buffer.now }
+    ensures line { IfOk result (λ found. IfSome found (FindsLine room (drop start buffer.now))) }
+    ensures none { IfOk result (λ found. MatchOption found (HasNoChunkLine (take room (drop start buffer.now))) (λ _. Unit {0})) }
+    ensures may { IfOk result (λ found. MatchOption found (MayBecomeChunkLine (take room (drop start buffer.now))) (λ _. Unit {0})) }
+    ensures fault { IfErr result (λ fault. (more : List ℕ) → IsLineFault room (drop start (buffer.now ++ more)) fault) }
+{
+    match parse_chunk_size(window(buffer, start, room)) {
+        Ok(Status::Complete(found)) => Ok(Some(found)),
+        Ok(Status::Partial) => Ok(None),
+        Err(_) => Err(Fault::BadChunk),
+    }
+}
+
+/// The chunk line at `start`, where a line end stands behind the bytes that were looked through before.
+fn try_line(
+    buffer: &[u8],
+    seen: usize,
+    start: usize,
+    room: usize,
+) -> Result<Option<(usize, u64)>, Fault>
+    requires within { start ≤ length buffer.now }
+    requires seen { seen ≤ length buffer.now }
+    ensures line { IfOk result (λ found. IfSome found (FindsLine room (drop start buffer.now))) }
+    ensures fault { IfErr result (λ fault. (more : List ℕ) → IsLineFault room (drop start (buffer.now ++ more)) fault) }
+{
+    if buffer[seen..].contains(&b'\n') {
+        look(buffer, start, room)
+    } else {
+        Ok(None)
+    }
+}
+
+/// The chunk line at `start`, where no byte comes behind these, and the room is larger.
+fn last_line(buffer: &[u8], start: usize, room: usize) -> Result<(usize, u64), Fault>
+    requires within { start ≤ length buffer.now }
+    requires short { length buffer.now < start + room }
+    ensures line { IfOk result (FindsLine room (drop start buffer.now)) }
+    ensures fault { IfErr result (IsLineFault room (drop start buffer.now)) }
+{
+    match look(buffer, start, room)? {
+        Some(found) => Ok(found),
+        None => Err(Fault::BadChunk),
+    }
+}
+
+/// The chunk line at `start`, where the buffer holds as many bytes as there is room for.
+fn full_line(buffer: &[u8], start: usize, room: usize) -> Result<(usize, u64), Fault>
+    requires within { start ≤ length buffer.now }
+    requires full { start + room ≤ length buffer.now }
+    ensures line { IfOk result (FindsLine room (drop start buffer.now)) }
+    ensures fault { IfErr result (λ fault. (more : List ℕ) → IsLineFault room (drop start (buffer.now ++ more)) fault) }
+{
+    match look(buffer, start, room)? {
+        Some(found) => Ok(found),
+        None => Err(Fault::BodyTooLong),
+    }
+}
+
+/// Reads until a whole chunk line stands at `start`: its length, and the size of its data.
+///
+/// `BadChunk` and `BodyTooLong` come as the definition says, and the faults of `fill`.
+fn find_line<R: Source>(
+    reader: &mut R,
+    buffer: &mut Vec<u8>,
+    start: usize,
+    room: usize,
+) -> Result<(usize, u64), Fault>
+    requires within { start ≤ vec_len buffer.old }
+    requires near { start + room ≤ 4202496 }
+    ensures grows { OnOk result (Grows (R.remaining reader.old) (R.failed reader.old) buffer.old.items (R.remaining reader.new) (R.failed reader.new) buffer.new.items) }
+    ensures line { IfOk result (FindsLine room (drop start buffer.new.items)) }
+    ensures inside { IfOk result (λ found. start + found.0 ≤ vec_len buffer.new) }
+    ensures fits { IfOk result (λ found. found.0 ≤ room) }
+    ensures fault { IfErr result (λ fault. Blames (R.failed reader.new) (R.remaining reader.old) buffer.old.items fault (λ bytes f. IsLineFault room (drop start bytes) f)) }
+    ensures same_stream { R.stream reader.new ≡ R.stream reader.old }
+{
+    let mut seen = start;
+    'reads: while buffer.len() < start + room {
+        match try_line(buffer, seen, start, room)? {
+            Some(found) => return Ok(found),
+            None => {}
+        }
+        seen = buffer.len();
+        if fill(reader, buffer)? == 0 {
+            return last_line(buffer, start, room);
+        }
+    }
+    full_line(buffer, start, room)
+}
+
+/// Whether CR LF stands at a place.
+fn has_line_end(buffer: &[u8], at: usize) -> bool
+    requires { at + 2 ≤ length buffer.now }
+    ensures { result ≡ bytes_eq (take 2 (drop at buffer.now)) crlf_bytes }
+{
+    &buffer[at..at + 2] == b"\r\n".as_slice()
+}
+
+/// Reads the data that a chunk line before `start` announces, and its CR LF, and puts the data to the end of `body`.
+///
+/// `BadChunk` and `BodyTooLong` come as the definition says, and the faults of `fill`.
+fn take_data<R: Source>(
+    reader: &mut R,
+    buffer: &mut Vec<u8>,
+    body: &mut Vec<u8>,
+    start: usize,
+    room: usize,
+    size: usize,
+) -> Result<(), Fault>
+    requires within { start ≤ vec_len buffer.old }
+    requires near { start + room ≤ 4202496 }
+    requires short { size ≤ 1048576 }
+    ensures grows { OnOk result (Grows (R.remaining reader.old) (R.failed reader.old) buffer.old.items (R.remaining reader.new) (R.failed reader.new) buffer.new.items) }
+    ensures data_ { OnOk result ((chunk : List ℕ) × (length chunk ≡ size) × (body.new.items ≡ body.old.items ++ chunk) × (drop start buffer.new.items ≡ chunk ++ (crlf_bytes ++ drop (start + size + 2) buffer.new.items))) }
+    ensures inside { OnOk result (start + size + 2 ≤ vec_len buffer.new) }
+    ensures fits { OnOk result (size + 2 ≤ room) }
+    ensures fault { IfErr result (λ fault. Blames (R.failed reader.new) (R.remaining reader.old) buffer.old.items fault (λ bytes f. IsDataFault room size (drop start bytes) f)) }
+    ensures same_stream { R.stream reader.new ≡ R.stream reader.old }
+{
+    if !fill_to(reader, buffer, start + room.min(size + 2))? {
+        return Err(Fault::BadChunk);
+    }
+    if size + 2 > room {
+        return Err(Fault::BodyTooLong);
+    }
+    let end = start + size;
+    if !has_line_end(buffer, end) {
+        return Err(Fault::BadChunk);
+    }
+    body.extend_from_slice(&buffer[start..end])?;
+    Ok(())
+}
+
+/// Takes the chunk at `start`, and puts its data to the end of `body`; or finds the last line.
+///
+/// `BadChunk` and `BodyTooLong` come as the definition says, and the faults of `fill`.
+fn take_chunk<R: Source>(
+    reader: &mut R,
+    buffer: &mut Vec<u8>,
+    body: &mut Vec<u8>,
+    start: usize,
+    room: usize,
+) -> Result<Step, Fault>
+    requires within { start ≤ vec_len buffer.old }
+    requires near { start + room ≤ 4202496 }
+    requires held { vec_len body.old ≤ 1048576 }
+    ensures grows { OnOk result (Grows (R.remaining reader.old) (R.failed reader.old) buffer.old.items (R.remaining reader.new) (R.failed reader.new) buffer.new.items) }
+    ensures step { IfOk result (TakesStep start room buffer.new.items body.old.items body.new.items) }
+    ensures fault { IfErr result (λ fault. Blames (R.failed reader.new) (R.remaining reader.old) buffer.old.items fault (λ bytes f. BreaksChunks room (length body.old.items) (drop start bytes) f)) }
+    ensures same_stream { R.stream reader.new ≡ R.stream reader.old }
+{
+    let (len, size) = find_line(reader, buffer, start, room)?;
+    if size == 0 {
+        return Ok(Step::Last(len));
+    }
+    if size > (MAX_BODY - body.len()) as u64 {
+        return Err(Fault::BodyTooLong);
+    }
+    let size = size as usize;
+    take_data(reader, buffer, body, start + len, room - len, size)?;
+    Ok(Step::Chunk(len + size + 2))
+}
+
+/// Takes the chunks from `start` on: where the last line stands, and its length.
+///
+/// `BadChunk` and `BodyTooLong` come as the definition says, and the faults of `fill`.
+fn take_chunks<R: Source>(
+    reader: &mut R,
+    buffer: &mut Vec<u8>,
+    body: &mut Vec<u8>,
+    start: usize,
+) -> Result<(usize, usize), Fault>
+    requires within { start ≤ vec_len buffer.old }
+    requires near { start ≤ max_head }
+    requires empty { body.old.items ≡ [] }
+    ensures grows { OnOk result (Grows (R.remaining reader.old) (R.failed reader.old) buffer.old.items (R.remaining reader.new) (R.failed reader.new) buffer.new.items) }
+    ensures chunks { IfOk result (λ r. TakesChunks start r.0 r.1 buffer.new.items body.new.items) }
+    ensures fault { IfErr result (λ fault. Blames (R.failed reader.new) (R.remaining reader.old) buffer.old.items fault (λ bytes f. BreaksChunked (drop start bytes) f)) }
+    ensures same_stream { R.stream reader.new ≡ R.stream reader.old }
+{
+    let mut at = start;
+    'chunks: loop {
+        match take_chunk(reader, buffer, body, at, MAX_RAW - (at - start))? {
+            Step::Chunk(len) => at += len,
+            Step::Last(len) => return Ok((at, len)),
+        }
+    }
+}
+
+/// The chunked body that begins at `start`, and where it ends. Its trailer is dropped.
+///
+/// `BadChunk` and `BodyTooLong` come as the definition says, and the faults of `fill`.
+pub fn read_chunked<R: Source>(
+    alloc: Global,
+    reader: &mut R,
+    buffer: &mut Vec<u8>,
+    start: usize,
+) -> Result<(Vec<u8>, usize), Fault>
+    requires within { start ≤ vec_len buffer.old }
+    requires near { start ≤ max_head }
+    ensures grows { OnOk result (Grows (R.remaining reader.old) (R.failed reader.old) buffer.old.items (R.remaining reader.new) (R.failed reader.new) buffer.new.items) }
+    ensures body { IfOk result (λ r. (more : List ℕ) → ReadsChunked (drop start (buffer.new.items ++ more)) r.0.items (drop r.1 buffer.new.items ++ more)) }
+    ensures inside { IfOk result (λ r. r.1 ≤ vec_len buffer.new) }
+    ensures fault { IfErr result (λ fault. Blames (R.failed reader.new) (R.remaining reader.old) buffer.old.items fault (λ bytes f. BreaksChunked (drop start bytes) f)) }
+    ensures same_stream { R.stream reader.new ≡ R.stream reader.old }
+{
+    let mut body = Vec::new(alloc);
+    let (at, len) = take_chunks(reader, buffer, &mut body, start)?;
+    let behind = at + len;
+    let trailer = find_trailer(reader, buffer, behind, MAX_RAW - (behind - start))?;
+    Ok((body, behind + trailer))
+}

@@ -1,0 +1,211 @@
+//! What the fields of a head say.
+ghost use Rattle.std.specs.Prelude.{◌≡◌, ◌∷◌, ◌++◌, [], ◌≤◌, ◌<◌, List, ℕ, length, map, if◌then◌else◌, Some, None, All, codes, IfOk, bytes_eq};
+ghost use Rattle.std.specs.List.{list_all, list_any};
+ghost use Rattle.std.specs.Str.Parse.{digits_value};
+ghost use Rattle.httparse.specs.Spans.{IsHeaderWithin, header_bytes};
+ghost use Rattle.eu_framing.specs.Fields.{values_of, is_length, one_length, one_coding, is_same_text, stated_by, has_host, within_limit, framing_of, closes, is_replicated, IsWithin};
+ghost use Rattle.eu_framing.specs.Said.{IsSaid};
+
+use crate::MAX_BODY;
+use eu_base::Fault;
+use httparse::spans::HeaderSpan;
+
+/// How a body is framed.
+#[derive(Clone, Copy, Debug, PartialEq, Eq)]
+pub enum Framing {
+    /// There is none.
+    NoBody,
+    /// It has so many bytes.
+    Sized(u64),
+    /// It comes in chunks.
+    Chunked,
+}
+
+/// The values that the fields of one name have.
+#[derive(Clone, Copy)]
+pub enum Said<'b> {
+    Never,
+    Once(&'b [u8]),
+    Often,
+}
+
+impl<'b> Said<'b> {
+    /// One more value.
+    fn and(self, value: &'b [u8]) -> Said<'b>
+        ensures { (before : List (List ℕ)) → IsSaid self.entry before → IsSaid result (before ++ value.now ∷ []) }
+    {
+        match self {
+            Said::Never => Said::Once(value),
+            Said::Once(_) => Said::Often,
+            Said::Often => Said::Often,
+        }
+    }
+}
+
+/// Whether the two texts are one, whatever the case of their ASCII letters.
+fn is_same_text(a: &[u8], b: &[u8]) -> bool
+    ensures { result ≡ is_same_text a.now b.now }
+{
+    a.eq_ignore_ascii_case(b)
+}
+
+/// What the fields of a name say, at most one value of it.
+fn find_said<'b>(text: &'b [u8], headers: &[HeaderSpan], name: &[u8]) -> Said<'b>
+    requires { All (IsHeaderWithin (length text.now)) headers.now }
+    ensures { IsSaid result (values_of name.now (map (header_bytes text.now) headers.now)) }
+{
+    let mut found = Said::Never;
+    for header in headers {
+        if is_same_text(header.name.of(text), name) {
+            found = found.and(header.value.of(text));
+        }
+    }
+    found
+}
+
+/// Whether some field of a name has that value, whatever the case of its ASCII letters.
+fn has_word(text: &[u8], headers: &[HeaderSpan], name: &[u8], word: &[u8]) -> bool
+    requires { All (IsHeaderWithin (length text.now)) headers.now }
+    ensures { result ≡ list_any (λ v. is_same_text v word.now) (values_of name.now (map (header_bytes text.now) headers.now)) }
+{
+    let mut found = false;
+    for header in headers {
+        if is_same_text(header.name.of(text), name) {
+            found |= is_same_text(header.value.of(text), word);
+        }
+    }
+    found
+}
+
+/// Whether some field of a name has exactly that value.
+fn has_value(text: &[u8], headers: &[HeaderSpan], name: &[u8], value: &[u8]) -> bool
+    requires { All (IsHeaderWithin (length text.now)) headers.now }
+    ensures { result ≡ list_any (λ v. bytes_eq v value.now) (values_of name.now (map (header_bytes text.now) headers.now)) }
+{
+    let mut found = false;
+    for header in headers {
+        if is_same_text(header.name.of(text), name) {
+            found |= header.value.of(text) == value;
+        }
+    }
+    found
+}
+
+/// Whether each field of a name has exactly that value.
+fn all_have_value(text: &[u8], headers: &[HeaderSpan], name: &[u8], value: &[u8]) -> bool
+    requires { All (IsHeaderWithin (length text.now)) headers.now }
+    ensures { result ≡ list_all (λ v. bytes_eq v value.now) (values_of name.now (map (header_bytes text.now) headers.now)) }
+{
+    let mut all = true;
+    for header in headers {
+        if is_same_text(header.name.of(text), name) {
+            all &= header.value.of(text) == value;
+        }
+    }
+    all
+}
+
+/// The number, where the value is 1 to 19 digits.
+fn parse_length(value: &[u8]) -> Option<u64>
+    ensures { result ≡ (if is_length value.now then Some (digits_value 10 value.now) else None) }
+{
+    if value.is_empty() || value.len() > 19 {
+        return None;
+    }
+    let mut number: u64 = 0;
+    for byte in value {
+        if !byte.is_ascii_digit() {
+            return None;
+        }
+        number = number * 10 + u64::from(*byte - b'0');
+    }
+    Some(number)
+}
+
+/// The framing that a `Content-Length` states. `BadLength` comes where it isn't 1 to 19 digits.
+fn sized(value: &[u8]) -> Result<Framing, Fault>
+    ensures { result ≡ one_length value.now }
+{
+    match parse_length(value) {
+        Some(len) => Ok(Framing::Sized(len)),
+        None => Err(Fault::BadLength),
+    }
+}
+
+/// The framing that a `Transfer-Encoding` states. `BadLength` comes where it isn't `chunked`, or not of HTTP/1.1.
+fn coded(minor: u8, value: &[u8]) -> Result<Framing, Fault>
+    ensures { result ≡ one_coding minor value.now }
+{
+    if is_same_text(value, b"chunked") && minor == 1 {
+        Ok(Framing::Chunked)
+    } else {
+        Err(Fault::BadLength)
+    }
+}
+
+/// The framing that both fields state. `BadLength` comes where there are several of them, or one in another form.
+fn stated(minor: u8, lengths: Said<'_>, codings: Said<'_>) -> Result<Framing, Fault>
+    ensures { (ls cs : List (List ℕ)) → IsSaid lengths.entry ls → IsSaid codings.entry cs → result ≡ stated_by minor ls cs }
+{
+    match (lengths, codings) {
+        (Said::Never, Said::Never) => Ok(Framing::NoBody),
+        (Said::Once(value), Said::Never) => sized(value),
+        (Said::Never, Said::Once(value)) => coded(minor, value),
+        _ => Err(Fault::BadLength),
+    }
+}
+
+/// Whether a head has the `Host` that it needs.
+fn has_host(minor: u8, hosts: Said<'_>) -> bool
+    ensures { (vs : List (List ℕ)) → IsSaid hosts.entry vs → result ≡ has_host minor vs }
+{
+    match hosts {
+        Said::Once(_) => true,
+        _ => minor != 1,
+    }
+}
+
+/// The framing, where a stated length is within the limit; else `BodyTooLong`.
+fn within_limit(framing: Framing) -> Result<Framing, Fault>
+    ensures value { result ≡ within_limit framing }
+    ensures within { IfOk result IsWithin }
+{
+    match framing {
+        Framing::Sized(len) if len > MAX_BODY as u64 => Err(Fault::BodyTooLong),
+        _ => Ok(framing),
+    }
+}
+
+/// How the body of a head is framed, or the first fault of its fields.
+pub fn find_framing(minor: u8, text: &[u8], headers: &[HeaderSpan]) -> Result<Framing, Fault>
+    requires { All (IsHeaderWithin (length text.now)) headers.now }
+    ensures value { result ≡ framing_of minor (map (header_bytes text.now) headers.now) }
+    ensures within { IfOk result IsWithin }
+{
+    if !has_host(minor, find_said(text, headers, b"host")) {
+        return Err(Fault::BadHead);
+    }
+    let lengths = find_said(text, headers, b"content-length");
+    let codings = find_said(text, headers, b"transfer-encoding");
+    let framing = stated(minor, lengths, codings)?;
+    if !all_have_value(text, headers, b"content-encoding", b"identity") {
+        return Err(Fault::BadEncoding);
+    }
+    within_limit(framing)
+}
+
+/// Whether the connection is to end after the request.
+pub fn find_closes(minor: u8, text: &[u8], headers: &[HeaderSpan]) -> bool
+    requires { All (IsHeaderWithin (length text.now)) headers.now }
+    ensures { result ≡ closes minor (map (header_bytes text.now) headers.now) }
+{
+    minor == 0 || has_word(text, headers, b"connection", b"close")
+}
+
+/// Whether another server sent the request on.
+pub fn find_replicated(text: &[u8], headers: &[HeaderSpan]) -> bool
+    requires { All (IsHeaderWithin (length text.now)) headers.now }
+    ensures { result ≡ is_replicated (map (header_bytes text.now) headers.now) }
+{
+    has_value(text, headers, b"x-netflix-discovery-replication", b"true")
+}

@@ -1,0 +1,154 @@
+//! The next request of a stream.
+ghost use Rattle.std.specs.Prelude.{◌≡◌, ◌⊎◌, ◌≤◌, ◌++◌, List, ℕ, IsUtf8, IfOk, IfErr, IfSome, OnOk, drop, string_bytes, take, vec_len};
+ghost use Rattle.std.specs.Option.{MatchOption};
+ghost use Rattle.std.specs.Io.KnownBytes.{IsAtEnd};
+ghost use Rattle.httparse.specs.Spans.{IsRequestWithin, IsRequestOf};
+ghost use Rattle.eu_framing.specs.Fields.{IsWithin};
+ghost use Rattle.eu_framing.specs.Message.{IsFault, max_head};
+ghost use Rattle.eu_framing.specs.Next.{FindsNext};
+ghost use Rattle.eu_framing.specs.Reading.{Grows, Blames};
+ghost use Rattle.eu_framing.specs.Steps.{HasHeadAt};
+ghost use Rattle.eu_framing.specs.HeadSteps.{GivesHead, FindsHead};
+ghost use Rattle.eu_framing.specs.Stream.{pending, Between, OfBytes, IsOutside};
+
+use crate::body::read_body;
+use crate::buffer::{drop_front, window};
+use crate::fields::{Framing, find_closes, find_framing, find_replicated};
+use crate::head::find_head;
+use crate::{MAX_FIELDS, MAX_HEAD};
+use eu_base::Fault;
+use eu_stream::Source;
+use httparse::spans::{EMPTY_HEADER_SPAN, HeaderSpan, RequestSpans};
+use std::alloc::{AllocError, Global};
+
+/// A request, whole.
+#[derive(Debug, Drop)]
+pub struct Request {
+    /// The method, as written.
+    pub method: String,
+    /// The target, as written: mostly a path and a query.
+    pub target: String,
+    /// The version is HTTP/1.0 or HTTP/1.1 by this number.
+    pub minor: u8,
+    /// The connection is to end after the request: it is of HTTP/1.0, or a `Connection` field says `close`.
+    pub closes: bool,
+    /// Another server sent the request on: a field `x-netflix-discovery-replication` says `true`.
+    pub replicated: bool,
+    /// The body, without its framing.
+    pub body: Vec<u8>,
+}
+
+/// What a head says.
+#[derive(Drop)]
+pub struct Head {
+    method: String,
+    target: String,
+    minor: u8,
+    closes: bool,
+    replicated: bool,
+    framing: Framing,
+    /// So many bytes it has.
+    len: usize,
+}
+
+/// A text of these bytes.
+fn text_of(alloc: Global, bytes: &[u8]) -> Result<String, AllocError>
+    requires { IsUtf8 bytes.now }
+    ensures { IfOk result (λ text. string_bytes text ≡ bytes.now) }
+{
+    String::from_str(alloc, str::from_utf8(bytes).unwrap())
+}
+
+/// What the head says that the spans cover, or the first fault of its fields.
+fn copy_head(
+    alloc: Global,
+    text: &[u8],
+    spans: &[HeaderSpan],
+    found: &RequestSpans,
+) -> Result<Head, Fault>
+    requires within { IsRequestWithin text.now spans.now found.now }
+    requires head { IsRequestOf text.now spans.now found.now }
+    ensures head { GivesHead text.now spans.now found.now result }
+    ensures within { IfOk result (λ head. IsWithin head.framing) }
+    ensures len { IfOk result (λ head. head.len ≡ found.now.len) }
+{
+    let headers = &spans[..found.headers];
+    let framing = find_framing(found.version, text, headers)?;
+    Ok(Head {
+        method: text_of(alloc, found.method.of(text))?,
+        target: text_of(alloc, found.path.of(text))?,
+        minor: found.version,
+        closes: find_closes(found.version, text, headers),
+        replicated: find_replicated(text, headers),
+        framing,
+        len: found.len,
+    })
+}
+
+/// The head of the next request, which then stands at the front of the buffer; none at the end.
+fn next_head<R: Source>(
+    alloc: Global,
+    reader: &mut R,
+    buffer: &mut Vec<u8>,
+) -> Result<Option<Head>, Fault>
+    ensures grows { OnOk result (Grows (R.remaining reader.old) (R.failed reader.old) buffer.old.items (R.remaining reader.new) (R.failed reader.new) buffer.new.items) }
+    ensures found { IfOk result (λ found. FindsHead found buffer.new.items) }
+    ensures end { IfOk result (λ found. MatchOption found (IsAtEnd (R.remaining reader.new)) (λ _. Unit {0})) }
+    ensures within { IfOk result (λ found. IfSome found (λ head. IsWithin head.framing)) }
+    ensures fault { IfErr result (λ fault. Blames (R.failed reader.new) (R.remaining reader.old) buffer.old.items fault IsFault) }
+    ensures same_stream { R.stream reader.new ≡ R.stream reader.old }
+{
+    let mut spans = [EMPTY_HEADER_SPAN; MAX_FIELDS];
+    match find_head(reader, buffer, &mut spans)? {
+        None => Ok(None),
+        Some(found) => Ok(Some(copy_head(alloc, window(buffer, 0, MAX_HEAD), &spans, &found)?)),
+    }
+}
+
+/// Takes the next request from what was read before and the reader: none at the end.
+///
+/// `buffer` holds bytes that were read and not yet used; they come first. Those that the request doesn't use are left in it, so
+/// the next call goes on with them. Where there is no request, it is as it was, with what was read behind it. No byte behind
+/// the request is waited for.
+///
+/// A head is what `httparse` reads, with empty lines before it (RFC 9112, sections 2 to 5). The end is that of the bytes,
+/// before a head or after empty lines alone. Of the faults, the first that is met comes:
+///
+/// - `HeadTooLong`: the head isn't whole within `MAX_HEAD` bytes, or has more than `MAX_FIELDS` fields.
+/// - `BadHead`: it can't become one, or the bytes end inside it, or it is of HTTP/1.1 and hasn't exactly one `Host`.
+/// - `BadLength`: the body isn't framed by one `Content-Length` of 1 to 19 digits, or by one `Transfer-Encoding` that is
+///   `chunked`, in HTTP/1.1, or by none of the two (section 6); or the bytes end inside a body with a length.
+/// - `BadEncoding`: a `Content-Encoding` isn't `identity`.
+/// - `BodyTooLong`: the body has more than `MAX_BODY` bytes, which a stated length or a chunk line tells before the body is
+///   read; or a chunked body isn't whole within `MAX_RAW` bytes.
+/// - `BadChunk`: a chunk line, the end of a chunk or the trailer isn't one (section 7.1), the trailer isn't whole within
+///   `MAX_TRAILER` bytes, or the bytes end inside a chunked body.
+/// - `OutOfMemory`: there was no memory. `Read`: a read failed.
+///
+/// After a fault the reader and the buffer are left open.
+pub fn read_request<R: Source>(
+    alloc: Global,
+    reader: &mut R,
+    buffer: &mut Vec<u8>,
+) -> Result<Option<Request>, Fault>
+    ensures found { IfOk result (λ next. Between (pending buffer.old.items (R.remaining reader.old)) (pending buffer.new.items (R.remaining reader.new)) (FindsNext next)) }
+    ensures fault { IfErr result (λ fault. IsOutside (R.failed reader.new) fault ⊎ OfBytes (pending buffer.old.items (R.remaining reader.old)) (λ bytes. IsFault bytes fault)) }
+    ensures sound { OnOk result (R.failed reader.new ≡ R.failed reader.old) }
+    ensures same_stream { R.stream reader.new ≡ R.stream reader.old }
+{
+    match next_head(alloc, reader, buffer)? {
+        None => Ok(None),
+        Some(head) => {
+            let (body, used) = read_body(alloc, reader, buffer, head.len, head.framing)?;
+            drop_front(buffer, used);
+            Ok(Some(Request {
+                method: head.method,
+                target: head.target,
+                minor: head.minor,
+                closes: head.closes,
+                replicated: head.replicated,
+                body,
+            }))
+        }
+    }
+}

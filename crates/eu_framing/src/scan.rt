@@ -1,0 +1,66 @@
+//! How far a text was looked through for the line that ends it.
+ghost use Rattle.std.specs.Prelude.{◌≡◌};
+
+/// Looks through a text, as it grows, for the empty line that ends a head or a trailer. No byte is looked at twice.
+///
+/// It only tells when it is worth while to parse: nothing rests on its answers but how often that is done.
+#[derive(Clone, Copy)]
+pub struct Scan {
+    /// So many bytes were looked at.
+    seen: usize,
+    /// The line that they end in has a byte, CR aside.
+    in_line: bool,
+    /// An empty line ends the text; before a head it doesn't.
+    begun: bool,
+}
+
+impl Scan {
+    /// Before a head, at which empty lines may stand.
+    pub fn of_head() -> Scan {
+        Scan {
+            seen: 0,
+            in_line: false,
+            begun: false,
+        }
+    }
+
+    /// Before a trailer, which an empty line ends at once.
+    pub fn of_trailer() -> Scan {
+        Scan {
+            seen: 0,
+            in_line: false,
+            begun: true,
+        }
+    }
+
+    /// Whether an empty line ends the text within the bytes that weren't looked at before.
+    pub fn finds_empty_line(&mut self, text: &[u8]) -> bool {
+        'bytes: while self.seen < text.len() {
+            let byte = text[self.seen];
+            self.seen += 1;
+            if self.ends_at(byte) {
+                return true;
+            }
+        }
+        false
+    }
+
+    /// Takes one byte, and tells whether it ends an empty line that ends the text.
+    fn ends_at(&mut self, byte: u8) -> bool
+        ensures { self.new.seen ≡ self.old.seen }
+    {
+        match byte {
+            b'\n' => {
+                let ends = self.begun && !self.in_line;
+                self.in_line = false;
+                ends
+            }
+            b'\r' => false,
+            _ => {
+                self.in_line = true;
+                self.begun = true;
+                false
+            }
+        }
+    }
+}

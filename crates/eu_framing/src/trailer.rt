@@ -1,0 +1,131 @@
+//! The trailer of a chunked body.
+ghost use Rattle.std.specs.Prelude.{◌≡◌, ◌≤◌, ◌<◌, ◌+◌, ◌++◌, List, ℕ, IfOk, IfErr, IfSome, OnOk, drop, length, take, vec_len};
+ghost use Rattle.std.specs.Option.{MatchOption};
+ghost use Rattle.httparse.specs.Grammar.{HasNoSection, MayBecomeSection};
+ghost use Rattle.eu_framing.specs.Chunks.{IsTrailerFault, trailer_room};
+ghost use Rattle.eu_framing.specs.Message.{max_fields};
+ghost use Rattle.eu_framing.specs.Reading.{Grows, Blames};
+ghost use Rattle.eu_framing.specs.ChunkSteps.{FindsTrailer};
+
+use crate::buffer::{fill, window};
+use crate::scan::Scan;
+use crate::{MAX_FIELDS, MAX_TRAILER};
+use eu_base::Fault;
+use eu_stream::Source;
+use httparse::spans::{EMPTY_HEADER_SPAN, HeaderSpan, parse_headers};
+use httparse::{Error, Status};
+
+/// The length of the trailer at `start`, if it is whole within its limit and the room. The fault is that of the bytes,
+/// whatever follows.
+fn look(
+    buffer: &[u8],
+    start: usize,
+    room: usize,
+    spans: &mut [HeaderSpan],
+) -> Result<Option<usize>, Fault>
+    requires within { start ≤ length buffer.now }
+    requires spans { length spans.old ≡ max_fields }
+    ensures trailer { IfOk result (λ found. IfSome found (FindsTrailer room (drop start buffer.now))) }
+    ensures none { IfOk result (λ found. MatchOption found (HasNoSection (take (trailer_room room) (drop start buffer.now))) (λ _. Unit {0})) }
+    ensures may { IfOk result (λ found. MatchOption found (MayBecomeSection (take (trailer_room room) (drop start buffer.now))) (λ _. Unit {0})) }
+    ensures fault { IfErr result (λ fault. (more : List ℕ) → IsTrailerFault room (drop start (buffer.now ++ more)) fault) }
+{
+    match parse_headers(window(buffer, start, MAX_TRAILER.min(room)), spans) {
+        Ok(Status::Complete((len, _count))) => Ok(Some(len)),
+        Ok(Status::Partial) => Ok(None),
+        Err(error) => match error {
+            Error::TooManyHeaders => Err(Fault::BadChunk),
+            _ => Err(Fault::BadChunk),
+        },
+    }
+}
+
+/// The trailer at `start`, where an empty line has come that may end it.
+fn try_trailer(
+    buffer: &[u8],
+    start: usize,
+    room: usize,
+    spans: &mut [HeaderSpan],
+    scan: &mut Scan,
+) -> Result<Option<usize>, Fault>
+    requires within { start ≤ length buffer.now }
+    requires spans { length spans.old ≡ max_fields }
+    ensures trailer { IfOk result (λ found. IfSome found (FindsTrailer room (drop start buffer.now))) }
+    ensures fault { IfErr result (λ fault. (more : List ℕ) → IsTrailerFault room (drop start (buffer.now ++ more)) fault) }
+{
+    if scan.finds_empty_line(&buffer[start..]) {
+        look(buffer, start, room, spans)
+    } else {
+        Ok(None)
+    }
+}
+
+/// The trailer at `start`, where no byte comes behind these, and it might be longer.
+fn last_trailer(
+    buffer: &[u8],
+    start: usize,
+    room: usize,
+    spans: &mut [HeaderSpan],
+) -> Result<usize, Fault>
+    requires within { start ≤ length buffer.now }
+    requires short { length buffer.now < start + trailer_room room }
+    requires spans { length spans.old ≡ max_fields }
+    ensures trailer { IfOk result (FindsTrailer room (drop start buffer.now)) }
+    ensures fault { IfErr result (IsTrailerFault room (drop start buffer.now)) }
+{
+    match look(buffer, start, room, spans)? {
+        Some(len) => Ok(len),
+        None => Err(Fault::BadChunk),
+    }
+}
+
+/// The trailer at `start`, where the buffer holds as many bytes as it may have.
+fn full_trailer(
+    buffer: &[u8],
+    start: usize,
+    room: usize,
+    spans: &mut [HeaderSpan],
+) -> Result<usize, Fault>
+    requires within { start ≤ length buffer.now }
+    requires full { start + trailer_room room ≤ length buffer.now }
+    requires spans { length spans.old ≡ max_fields }
+    ensures trailer { IfOk result (FindsTrailer room (drop start buffer.now)) }
+    ensures fault { IfErr result (λ fault. (more : List ℕ) → IsTrailerFault room (drop start (buffer.now ++ more)) fault) }
+{
+    match look(buffer, start, room, spans)? {
+        Some(len) => Ok(len),
+        None if room <= MAX_TRAILER => Err(Fault::BodyTooLong),
+        None => Err(Fault::BadChunk),
+    }
+}
+
+/// Reads until a whole trailer stands at `start`: its length. The room is what the chunked body may still have.
+///
+/// `BadChunk` and `BodyTooLong` come as the definition says, and the faults of `fill`.
+pub fn find_trailer<R: Source>(
+    reader: &mut R,
+    buffer: &mut Vec<u8>,
+    start: usize,
+    room: usize,
+) -> Result<usize, Fault>
+    requires within { start ≤ vec_len buffer.old }
+    requires near { start + room ≤ 4202496 }
+    ensures grows { OnOk result (Grows (R.remaining reader.old) (R.failed reader.old) buffer.old.items (R.remaining reader.new) (R.failed reader.new) buffer.new.items) }
+    ensures trailer { IfOk result (FindsTrailer room (drop start buffer.new.items)) }
+    ensures inside { IfOk result (λ len. start + len ≤ vec_len buffer.new) }
+    ensures fault { IfErr result (λ fault. Blames (R.failed reader.new) (R.remaining reader.old) buffer.old.items fault (λ bytes f. IsTrailerFault room (drop start bytes) f)) }
+    ensures same_stream { R.stream reader.new ≡ R.stream reader.old }
+{
+    let mut spans = [EMPTY_HEADER_SPAN; MAX_FIELDS];
+    let mut scan = Scan::of_trailer();
+    'reads: while buffer.len() < start + MAX_TRAILER.min(room) {
+        match try_trailer(buffer, start, room, &mut spans, &mut scan)? {
+            Some(len) => return Ok(len),
+            None => {}
+        }
+        if fill(reader, buffer)? == 0 {
+            return last_trailer(buffer, start, room, &mut spans);
+        }
+    }
+    full_trailer(buffer, start, room, &mut spans)
+}

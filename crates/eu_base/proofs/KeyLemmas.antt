@@ -1,5 +1,5 @@
 -- The order of keys is total and tells keys apart, and equality is a tie
-use Rattle.std.proofs.Common.{◌≡◌, ℕ, List, Bool, ◌&&◌, refl, ap, sym, ◌∙◌}
+use Rattle.std.proofs.Common.{◌≡◌, ℕ, List, ◌&&◌, refl, ap, sym, ◌∙◌}
 use Rattle.std.specs.declared.cmp.Ordering.{Ordering}
 use Rattle.std.specs.declared.cmp.Ordering.TheVariants.{Less, Equal, Greater}
 use Rattle.std.specs.Ordering.{ordering_then, eq_by_cmp, is_eq}

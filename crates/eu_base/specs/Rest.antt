@@ -1,5 +1,5 @@
 -- The members of an instance that are kept as they came
-use Rattle.std.specs.Prelude.{◌≡◌, ℕ, Bool, true, false, is_some, List, codes}
+use Rattle.std.specs.Prelude.{◌≡◌, ℕ, true, false, is_some, List, codes}
 use Rattle.serde_json.specs.Data.{Data, string, object, no_members, member}
 use Rattle.serde_json.specs.Find.{as_object}
 use Rattle.serde_json.specs.Written.{has_float}

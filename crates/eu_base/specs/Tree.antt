@@ -1,9 +1,9 @@
 -- How a JSON tree is told apart from another: by the steps that build it, each on what the steps before left
 use Rattle.std.specs.Prelude.{◌≡◌, ◌⊎◌, ℕ, zero, suc, ℤ, Float, Bool, List, [], ◌∷◌, ◌++◌, refl}
-use Rattle.std.specs.Coded.{Coded, code_by, coded×, coded⊎, coded_list, coded_ℕ, coded_ℤ, coded_bool}
-use base.Stored.{coded_unit, coded_float}
+use Rattle.std.specs.Coded.{Coded, code_by, coded⊎, coded_list, coded_ℕ, coded_ℤ, coded_bool}
+use base.Stored.{coded_float}
 use mathlib.Core.Logic.{inl, inr}
-use mathlib.Core.Path.{ap, sym, ◌∙◌}
+use mathlib.Core.Path.{ap, ◌∙◌}
 use Rattle.serde_json.specs.Data.{Num, unsigned, negative, float, Data, null, boolean, number, string, array, object, Items, no_items, item, Members, no_members, member}
 
 -- a leaf, or a step that takes what was built last

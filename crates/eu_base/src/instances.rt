@@ -13,7 +13,7 @@ pub struct Instance {
     pub key: Key,
     /// Its status, by which clients choose whom to ask.
     pub status: Status,
-    /// The status that overrides its own; `Unknown` where none does.
+    /// The status that an operator, or a peer, put over its own; `Unknown` where none was put, or where that is the one.
     pub overridden: Status,
     /// The stamp of its last change: 0 to 2^63 - 1.
     pub dirty: u64,

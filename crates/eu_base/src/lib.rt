@@ -12,7 +12,7 @@ mod times;
 pub use faults::Fault;
 pub use instances::Instance;
 pub use names::{App, Id, Key};
-pub use rest::Rest;
+pub use rest::{Rest, has_fraction};
 pub use settings::Config;
 pub use statuses::Status;
 pub use times::{Moment, Stamp};

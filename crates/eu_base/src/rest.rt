@@ -1,5 +1,5 @@
 //! What a client gave of its instance beside what the registry reads.
-ghost use Rattle.std.specs.Prelude.{◌≡◌, ◌↔◌, IfOk, IfSome, IsSome};
+ghost use Rattle.std.specs.Prelude.{◌≡◌, ◌↔◌, false, IfOk, IfSome, IsSome};
 ghost use Rattle.std.specs.Option.{option_map};
 ghost use Rattle.serde_json.specs.Data.{object};
 ghost use Rattle.serde_json.specs.Find.{as_object};
@@ -12,31 +12,36 @@ use std::alloc::{AllocError, Global};
 use std::marker::Model;
 
 /// The members of an instance that the registry keeps as they came: a JSON object whose numbers are all whole. Contracts see
-/// the tree.
+/// the tree. A host's own members, which are the same for every host but for its name, are kept as that name.
 #[derive(Debug, Drop)]
 pub struct Rest {
+    /// The members are those of a host, and none is kept.
+    of_host: bool,
+    /// Its name; empty otherwise.
+    host: String,
     members: Map<String, Value>,
 }
 
 impl Model for Rest {
-    ghost use Rattle.std.specs.Prelude.{◌≡◌, false};
+    ghost use Rattle.std.specs.Prelude.{◌≡◌, false, if◌then◌else◌, string_bytes};
     ghost use Rattle.serde_json.specs.Data.{Data, object};
     ghost use Rattle.serde_json.specs.View.{members_view};
     ghost use Rattle.serde_json.specs.Written.{members_have_float};
+    ghost use Rattle.eu_base.specs.Rest.{rest_of_host};
     ghost use Rattle.eu_base.specs.Tree.{coded_tree};
 
     ghost Value = { Data };
 
     ghost coded = { coded_tree };
 
-    ghost view = { λ r. object (members_view r.members.entries) };
+    ghost view = { λ r. if r.of_host then rest_of_host (string_bytes r.host) else object (members_view r.members.entries) };
 
     ghost invariant = { λ r. members_have_float (members_view r.members.entries) ≡ false };
 }
 
 impl Rest {
     /// The members of that value. None exactly where it isn't an object, or has a number anywhere that isn't whole.
-    pub fn new(value: Value) -> Option<Rest>
+    pub fn new(alloc: Global, value: Value) -> Option<Rest>
         ensures some { IfSome result (λ r. r ≡ tree_of value) }
         ensures found { IsSome result ↔ IsRest (tree_of value) }
     {
@@ -44,37 +49,63 @@ impl Rest {
             return None;
         }
         let members = members_of(value)?;
-        Some(Rest { members })
+        Some(Rest {
+            of_host: false,
+            host: String::new(alloc),
+            members,
+        })
     }
 
     /// What a client at that host gives at least: its host name, an address and a data center of its own. `OutOfMemory`.
     pub fn of_host(alloc: Global, host: &str) -> Result<Rest, AllocError>
         ensures { IfOk result (λ r. r ≡ rest_of_host host.now) }
     {
-        let mut members = Map::new(alloc);
-        let center = json!(in alloc; { "name": "MyOwn" })?;
-        members.insert(String::from_str(alloc, "dataCenterInfo")?, center)?;
-        let name = Value::String(String::from_str(alloc, host)?);
-        members.insert(String::from_str(alloc, "hostName")?, name)?;
-        let address = Value::String(String::from_str(alloc, "0.0.0.0")?);
-        members.insert(String::from_str(alloc, "ipAddr")?, address)?;
-        Ok(Rest { members })
+        Ok(Rest {
+            of_host: true,
+            host: String::from_str(alloc, host)?,
+            members: Map::new(alloc),
+        })
     }
 
-    /// The members, by their names.
-    pub fn members(&self) -> &Map<String, Value>
-        ensures { object (members_view result.now.entries) ≡ self.now }
+    /// The members, by their names, once more. `OutOfMemory`.
+    pub fn to_members(&self, alloc: Global) -> Result<Map<String, Value>, AllocError>
+        ensures tree { IfOk result (λ members. object (members_view members.entries) ≡ self.now) }
+        ensures whole { has_float self.now ≡ false }
     {
-        &self.members
+        if self.of_host {
+            members_of_host(alloc, &self.host)
+        } else {
+            let members = self.members.clone()?;
+            Ok(members)
+        }
     }
 
-    /// The same members once more.
+    /// The same members once more. `OutOfMemory`.
     pub fn copy(&self) -> Result<Rest, AllocError>
         ensures { IfOk result (λ r. r ≡ self.now) }
     {
+        let host = self.host.clone()?;
         let members = self.members.clone()?;
-        Ok(Rest { members })
+        Ok(Rest {
+            of_host: self.of_host,
+            host,
+            members,
+        })
     }
+}
+
+/// The members of a host of that name.
+fn members_of_host(alloc: Global, host: &str) -> Result<Map<String, Value>, AllocError>
+    ensures { IfOk result (λ members. object (members_view members.entries) ≡ rest_of_host host.now) }
+{
+    let mut members = Map::new(alloc);
+    let center = json!(in alloc; { "name": "MyOwn" })?;
+    members.insert(String::from_str(alloc, "dataCenterInfo")?, center)?;
+    let name = Value::String(String::from_str(alloc, host)?);
+    members.insert(String::from_str(alloc, "hostName")?, name)?;
+    let address = Value::String(String::from_str(alloc, "0.0.0.0")?);
+    members.insert(String::from_str(alloc, "ipAddr")?, address)?;
+    Ok(members)
 }
 
 /// The members of that value, where it is an object.
@@ -92,7 +123,7 @@ fn members_of(value: Value) -> Option<Map<String, Value>>
 
 /// Whether a number anywhere is neither a `u64` nor an `i64`.
 #[cycle(has_fraction)]
-fn has_fraction(value: &Value) -> bool
+pub fn has_fraction(value: &Value) -> bool
     ensures { result ≡ has_float (tree_of value.now) }
 {
     match value {

@@ -128,7 +128,7 @@ fn an_instance_is_copied(rt: HostRuntime) -> Result<(), Fail> {
     assert!(rt; copy.key == instance.key);
     assert!(rt; copy.status == Status::Starting && copy.overridden == Status::OutOfService);
     assert!(rt; copy.dirty == 7 && copy.secs == 90 && copy.interval == 30);
-    assert!(rt; copy.rest.members() == instance.rest.members());
+    assert!(rt; copy.rest.to_members(rt.alloc())? == instance.rest.to_members(rt.alloc())?);
     Ok(())
 }
 
@@ -164,7 +164,7 @@ fn a_rest_is_an_object_of_whole_numbers(rt: HostRuntime) -> Result<(), Fail> {
     ];
     for (text, good) in cases {
         let value = Value::from_str(rt.alloc(), text)?;
-        assert!(rt; Rest::new(value).is_some() == good);
+        assert!(rt; Rest::new(rt.alloc(), value).is_some() == good);
     }
     Ok(())
 }

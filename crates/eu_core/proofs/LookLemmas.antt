@@ -1,13 +1,23 @@
--- What a look at a lease gives is what the machine shows
-use Rattle.std.proofs.Common.{◌≡◌, ℕ, sym, ap, ◌∙◌}
+-- What a look at a lease gives, and what is listed, is what the machine shows
+use Rattle.std.proofs.Common.{◌≡◌, ℕ, List, Result, Ok, Err, IfOk, sym, ap, ◌∙◌}
 use Rattle.std.specs.Prelude.{Option}
 use Rattle.eu_base.specs.declared.names.Key.{Key}
 use Rattle.eu_model.specs.declared.views.Listed.{Listed}
 use Rattle.eu_model.specs.Plain.{Plain}
-use Rattle.eu_model.specs.View.{one}
+use Rattle.eu_model.specs.View.{one, listing}
 use Rattle.eu_model.specs.Answers.{Shows}
-use Rattle.eu_model.specs.Kept.{kept_one}
+use Rattle.eu_model.specs.Kept.{kept_one, kept_listing}
 use Rattle.eu_model.proofs.SeenLemmas.{one-kept}
+use Rattle.eu_model.proofs.ListingLemmas.{listing_shown}
+use Rattle.eu_store.specs.Stored.{listing_of}
+use Rattle.eu_core.specs.declared.registry.Registry.TheInside.{Inside}
+use Rattle.eu_core.specs.Registry.{plain_of}
 
 pub shows : (p : Plain) (k : Key) (t : ℕ) (value : Option Listed) → value ≡ kept_one p k t → Shows p (λ s. one s k t) value
 shows p k t value is s e = is ∙ ap (λ (x : Plain). kept_one x k t) (sym e) ∙ sym (one-kept s k t)
+
+-- what the leases list is what the machine shows
+pub lists : {V E : Type 0} (app : Option (List ℕ)) (a : Inside) (p : Plain) → plain_of a ≡ p → (items : V → List Listed) (r : Result V E)
+    → IfOk r (λ v. items v ≡ listing_of app a.leases.held) → IfOk r (λ v. Shows p (listing app) (items v))
+lists app a p is items (Ok v) listed = λ s e. listed ∙ ap (kept_listing app) is ∙ listing_shown app p s e
+lists app a p is items (Err f) listed = tt

@@ -6,7 +6,7 @@ ghost use Rattle.eu_model.specs.Change.{renew_reply};
 ghost use Rattle.eu_model.specs.Machine.{opening};
 ghost use Rattle.eu_model.specs.Plain.{plain};
 ghost use Rattle.eu_model.specs.Answers.{Answers, IsRefusal, Shows};
-ghost use Rattle.eu_model.specs.View.{counts, one};
+ghost use Rattle.eu_model.specs.View.{counts, one, listing};
 ghost use Rattle.eu_model.specs.Kept.{after, kept_join_fault, kept_one};
 ghost use Rattle.eu_model.specs.Evict.{extra_time};
 ghost use Rattle.eu_core.specs.Evicts.{Draws};
@@ -17,11 +17,11 @@ use crate::joins::{HeldPart, held_part, join_held, join_new};
 use crate::overrides::Overrides;
 use crate::pass::run_pass;
 use crate::statuses::{brought, is_status, told};
-use eu_base::{Config, Fault, Instance, Key, Moment, Stamp, Status};
+use eu_base::{App, Config, Fault, Instance, Key, Moment, Stamp, Status};
 use eu_clock::Chooser;
 use eu_lease::override_rule;
 use eu_meter::{Rate, Threshold};
-use eu_model::{Command, Counts, Keys, Reply, Times};
+use eu_model::{Command, Counts, Keys, Listed, Reply, Times};
 use eu_store::{Held, Leases, MOST_LEASES};
 use std::alloc::{AllocError, Global};
 use std::marker::Model;
@@ -379,6 +379,16 @@ impl Registry {
             Some(held) => Some((held.instance(), held.times())),
             None => None,
         }
+    }
+
+    /// Everything that is held of an application, or of all where none is given, in key order: also what has expired
+    /// (`AbstractInstanceRegistry.getApplication` and `getApplications` in Eureka).
+    ///
+    /// Empty where the application holds no lease. `OutOfMemory` alone.
+    pub fn list(&self, alloc: Global, app: Option<&App>) -> Result<Vec<Listed>, AllocError>
+        ensures { IfOk result (λ leases. Shows self.now (listing (option_copied app.entry)) leases.items) }
+    {
+        self.leases.listed(alloc, app)
     }
 
     /// What is held under that key, where it is visible at the moment.

@@ -361,6 +361,42 @@ fn an_expired_lease_is_hidden_where_it_may_be_evicted(rt: HostRuntime) -> Result
     Ok(())
 }
 
+/// The ids that are listed of an application, or of all.
+fn listed(alloc: Global, registry: &Registry, app: Option<&App>) -> Result<String, AllocError> {
+    let mut told = String::new(alloc);
+    for listed in registry.list(alloc, app)? {
+        told.push_str(listed.instance.key.id.as_str())?;
+        told.push_str(" ")?;
+    }
+    Ok(told)
+}
+
+#[test]
+fn what_is_held_is_listed_in_key_order(rt: HostRuntime) -> Result<(), Fail> {
+    let mut registry = opened(rt.alloc(), false, 85, 1)?;
+    let calls = [
+        (0u64, Call::Join("i2", Status::Up, 0, 10)),
+        (0, Call::Join("i10", Status::Down, 0, 10)),
+        (0, Call::Join("i1", Status::Starting, 0, 10)),
+    ];
+    play(
+        rt.alloc(),
+        &mut registry,
+        calls.as_slice(),
+        &mut FirstChooser,
+    )?;
+    // at 10,001 ms all three have expired, and eviction is permitted
+    assert!(rt; seen(rt.alloc(), &registry, "i1", 10_001)?.is_none());
+    let (own, other) = (App::read(rt.alloc(), "a")?, App::read(rt.alloc(), "B")?);
+    let all = listed(rt.alloc(), &registry, None)?;
+    assert_eq!(rt; all.as_str(), "i1 i10 i2 ");
+    let of_own = listed(rt.alloc(), &registry, Some(&own))?;
+    assert_eq!(rt; of_own.as_str(), "i1 i10 i2 ");
+    let of_other = listed(rt.alloc(), &registry, Some(&other))?;
+    assert_eq!(rt; of_other.as_str(), "");
+    Ok(())
+}
+
 const FOUR: [(u64, Call); 5] = [
     (0, Call::Join("i0", Status::Up, 0, 90)),
     (0, Call::Join("i1", Status::Up, 0, 90)),

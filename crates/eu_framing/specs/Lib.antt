@@ -9,3 +9,4 @@ pub mod HeadSteps
 pub mod ChunkSteps
 pub mod Said
 pub mod Law
+pub mod Target

@@ -9,6 +9,7 @@ ghost use Rattle.eu_framing.specs.Next.{FindsNext};
 ghost use Rattle.eu_framing.specs.Reading.{Grows, Blames};
 ghost use Rattle.eu_framing.specs.Steps.{HasHeadAt};
 ghost use Rattle.eu_framing.specs.HeadSteps.{GivesHead, FindsHead};
+ghost use Rattle.eu_framing.specs.Target.{path_of, query_of};
 ghost use Rattle.eu_framing.specs.Stream.{pending, Between, OfBytes, IsOutside};
 
 use crate::body::read_body;
@@ -36,6 +37,28 @@ pub struct Request {
     pub replicated: bool,
     /// The body, without its framing.
     pub body: Vec<u8>,
+}
+
+impl Request {
+    /// The target before its first `?`, as written (RFC 9112, section 3.2).
+    pub fn path(&self) -> &str
+        ensures { result.now ≡ path_of (string_bytes self.now.target) }
+    {
+        match self.target.split_once('?') {
+            Some((path, _)) => path,
+            None => self.target.as_str(),
+        }
+    }
+
+    /// The query behind the target's first `?`, as written (RFC 3986, section 3.4); empty where there is none.
+    pub fn query(&self) -> &str
+        ensures { result.now ≡ query_of (string_bytes self.now.target) }
+    {
+        match self.target.split_once('?') {
+            Some((_, query)) => query,
+            None => "",
+        }
+    }
 }
 
 /// What a head says.

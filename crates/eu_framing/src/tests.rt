@@ -341,6 +341,27 @@ fn ends(alloc: Global, text: &[u8]) -> bool {
 }
 
 #[test]
+fn a_target_is_a_path_and_a_query(rt: HostRuntime) -> Result<(), Fail> {
+    let cases = [
+        ("/eureka/apps/A/i1", "/eureka/apps/A/i1", ""),
+        ("/status?value=UP", "/status", "value=UP"),
+        ("http://h/a?b?c", "http://h/a", "b?c"),
+        ("?", "", ""),
+    ];
+    for (target, path, query) in cases {
+        let text = format!(in rt.alloc(); "GET {target} HTTP/1.0\r\n\r\n")?;
+        let mut buffer = Vec::new(rt.alloc());
+        let mut reader = Parts::ending(text.as_bytes(), b"");
+        let Ok(Some(request)) = read_request(rt.alloc(), &mut reader, &mut buffer) else {
+            panic!(rt; "no request at {target}");
+        };
+        assert_eq!(rt; request.path(), path);
+        assert_eq!(rt; request.query(), query);
+    }
+    Ok(())
+}
+
+#[test]
 fn the_end_is_no_fault(rt: HostRuntime) {
     assert!(rt; ends(rt.alloc(), b""));
     assert!(rt; ends(rt.alloc(), b"\r\n\n\r\n"));

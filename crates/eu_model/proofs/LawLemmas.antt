@@ -1,9 +1,13 @@
 -- Nothing but the plain form decides what may happen next
-use Rattle.std.proofs.Common.{refl, sym, ap, ◌∙◌}
+use Rattle.std.proofs.Common.{◌≡◌, ℕ, List, refl, sym, ap, ◌∙◌}
+use Rattle.std.specs.Prelude.{Option, Some, None}
 use Rattle.eu_model.specs.declared.views.Query.TheVariants as asked
 use Rattle.eu_model.specs.declared.views.View.TheVariants as seen
 use Rattle.eu_model.specs.declared.commands.Command.TheVariants.{Register, Renew, Cancel, SetStatus, UnsetStatus, Adopt, Roll, Update, Evict}
-use Rattle.eu_model.specs.Kept.{kept_join_fault, kept_renew_fault, kept_one}
+use Rattle.eu_model.specs.Machine.{Machine}
+use Rattle.eu_model.specs.Plain.{plain}
+use Rattle.eu_model.specs.View.{listing}
+use Rattle.eu_model.specs.Kept.{kept_join_fault, kept_renew_fault, kept_one, kept_listing}
 use Rattle.eu_model.specs.Law.{StepsAlike, FaultsAlike, ViewsAlike}
 use Rattle.eu_model.proofs.AnswerLemmas.{alike}
 use Rattle.eu_model.proofs.ChangedLemmas.{join_fault-kept}
@@ -16,6 +20,7 @@ use Rattle.eu_model.proofs.MinuteLemmas.{roll_is_kept, update_is_kept}
 use Rattle.eu_model.proofs.EvictLemmas.{evict_alike}
 use Rattle.eu_model.proofs.OpeningLemmas.{kept_counts, counts-kept}
 use Rattle.eu_model.proofs.SeenLemmas.{one-kept}
+use Rattle.eu_model.proofs.ListingLemmas.{listing-kept}
 
 pub steps_alike : StepsAlike
 steps_alike s s' (Register n replicated) t reply new e step = alike _ _ _ _ (register_is_kept n replicated t) s s' reply new e step
@@ -43,6 +48,11 @@ faults_alike s s' Roll t e = refl
 faults_alike s s' Update t e = refl
 faults_alike s s' Evict t e = refl
 
+listings_alike : (app : Option (List ℕ)) (s s' : Machine) → plain s ≡ plain s' → listing app s ≡ listing app s'
+listings_alike app s s' e = listing-kept app s ∙ ap (kept_listing app) e ∙ sym (listing-kept app s')
+
 pub views_alike : ViewsAlike
 views_alike s s' (asked.One k) t e = ap seen.One (one-kept s k t ∙ ap (λ p. kept_one p k t) e ∙ sym (one-kept s' k t))
+views_alike s s' (asked.OfApp app) t e = ap seen.OfApp (listings_alike (Some app) s s' e)
+views_alike s s' asked.All t e = ap seen.All (listings_alike None s s' e)
 views_alike s s' asked.Counts t e = ap seen.Counts (counts-kept s ∙ ap kept_counts e ∙ sym (counts-kept s'))

@@ -9,6 +9,7 @@ pub mod CancelLemmas
 pub mod MinuteLemmas
 pub mod OpeningLemmas
 pub mod SeenLemmas
+pub mod ListingLemmas
 pub mod StatusLemmas
 pub mod AdoptLemmas
 pub mod EvictLemmas

@@ -18,6 +18,7 @@ use Rattle.eu_model.specs.Maps.{with_value, without}
 use Rattle.eu_model.specs.Evict.{extra_time, number_of_victims}
 use Rattle.eu_model.specs.Change.{Change, register, renew, cancel, set_status, unset_status, adopt}
 use Rattle.eu_model.specs.Plain.{Plain, listed}
+use Rattle.eu_model.specs.View.{is_of}
 
 -- some record that is listed so
 abbrev pub raised : Listed → Record
@@ -84,6 +85,10 @@ kept_seen permitted t (Some l) = if permitted && kept_expired l t 0 then None el
 -- the lease that is seen at a key, at a moment
 abbrev pub kept_one : Plain → Key → ℕ → Option Listed
 kept_one p k t = kept_seen (is_permitted p.config p.expected p.last) t (get p.leases k)
+
+-- what is listed of an application, or of all where none is given
+abbrev pub kept_listing : Option (List ℕ) → Plain → List Listed
+kept_listing app p = map (λ e. e.1) (filter (λ e. is_of app e.0) (entries p.leases))
 
 abbrev pub kept_rolled : Plain → Plain
 kept_rolled p = record p { last = p.since; since = 0 }

@@ -6,11 +6,13 @@
 mod commands;
 mod keys;
 mod law;
+mod listings;
 mod views;
 
 pub use commands::{Command, Entry, Reply};
 pub use keys::Keys;
 pub use law::{passes_are_safe, plain_form_decides};
+pub use listings::Listing;
 pub use views::{Counts, Listed, Query, Times, View};
 
 #[cfg(test)]

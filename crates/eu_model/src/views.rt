@@ -1,12 +1,17 @@
 //! What is seen of a registry.
 
-use eu_base::{Instance, Key};
+use crate::Listing;
+use eu_base::{App, Instance, Key};
 
 /// What may be asked of a registry without changing it.
 #[derive(Debug, Drop)]
 pub enum Query {
     /// One lease, where it is visible.
     One(Key),
+    /// Everything that an application holds, expired or not.
+    OfApp(App),
+    /// Everything that is held, expired or not.
+    All,
     /// How many leases are held, expected and renewed.
     Counts,
 }
@@ -16,6 +21,10 @@ pub enum Query {
 pub enum View {
     /// The lease; none where none is visible.
     One(Option<Listed>),
+    /// What the application holds, in key order; empty where it holds nothing.
+    OfApp(Listing),
+    /// What is held, in key order.
+    All(Listing),
     /// The counts.
     Counts(Counts),
 }

@@ -11,21 +11,20 @@ use Rattle.eu_model.specs.declared.commands.Reply.TheVariants.{Evicted}
 use Rattle.eu_core.specs.Evicts.{Draws}
 use Rattle.eu_model.specs.declared.commands.Entry.{Entry}
 use Rattle.eu_model.specs.declared.commands.Reply.{Reply}
-use Rattle.eu_model.specs.declared.views.Query.{Query}
-use Rattle.eu_model.specs.declared.views.View.{View}
 use Rattle.eu_model.specs.Answers as model
 use Rattle.eu_model.specs.Answers.{IsRefusal, Shows}
 use Rattle.eu_model.specs.Machine.{Machine, opening}
 use Rattle.eu_model.specs.Plain.{Plain, plain}
 use Rattle.eu_model.specs.Run.{fault}
 use Rattle.eu_model.specs.Step.{Step}
-use Rattle.eu_model.specs.View.{view}
+use Rattle.eu_model.specs.View.{counts, listing}
+use Rattle.eu_page.specs.Page.{shown_page}
 use Rattle.eu_model.proofs.RunLemmas.{run_push}
 use Rattle.eu_server.specs.declared.desk.Desk.{Desk}
 use Rattle.eu_server.specs.Desk.{kept_of, DeskAnswers, ClosedAnswers, OpenedAnswers, UnaskedAnswers}
 use Rattle.eu_words.specs.Lines.{Said, line_of}
 use Rattle.eu_server.specs.Script.{Ran, opened_with, Does, Sees, Says, SaysUnasked, SaysOpened}
-use Rattle.eu_server.specs.Texts.{answer_text, view_text}
+use Rattle.eu_server.specs.Texts.{answer_text}
 
 -- a refusal that isn't want of memory is the machine's fault
 abbrev IsTold : Result Reply Fault → Type 0
@@ -85,6 +84,7 @@ module _ {C : Type 0} (asks : C → ℕ → ℕ × C) (x : C) where
   says (Said.Evict t) y next out s = absurd s
   says (Said.Look t k) y next out s = (s, refl)
   says (Said.Counts t) y next out s = (s, refl)
+  says (Said.Page t) y next out s = (s, refl)
 
   pub stays : (p q : Plain) (said : Said) (r : Result (Unit {0}) LineError) (out : List ℕ)
       → OnOk r (UnaskedAnswers p said out q) → OnOk r (OpenedAnswers asks p x said out q x)
@@ -99,9 +99,15 @@ module _ {C : Type 0} (asks : C → ℕ → ℕ × C) (x : C) where
   told old new said c t answer r out tells answers known text = stays old new said r out (unasked old new said c t answer r out tells answers known text)
 
   -- a view that is printed is what is seen of each run of that plain form
-  pub sees : (p : Plain) (q : Query) (t : ℕ) (out : List ℕ) (value : View) → Shows p (λ s. view s q t) value → out ≡ view_text value
-      → (r : Ran) → kept_of r ≡ p → (next : Ran) × (Sees r q t out next × (x ≡ x)) × (kept_of next ≡ p)
-  sees p q t out value shows text r e = (r, ((text ∙ ap view_text (shows r.machine e), refl), refl), e)
+  pub sees : {V : Type 0} (p : Plain) (see : Machine → V) (text : V → List ℕ) (out : List ℕ) (value : V) → Shows p see value → out ≡ text value
+      → (r : Ran) → kept_of r ≡ p → (next : Ran) × (Sees r (λ s. text (see s)) out next × (x ≡ x)) × (kept_of next ≡ p)
+  sees p see text out value shows is r e = (r, ((is ∙ ap text (shows r.machine e), refl), refl), e)
+
+  -- the same of the status page
+  pub pages : (p : Plain) (t : ℕ) (r : Result (Unit {0}) LineError) (out : List ℕ) → OnOk r (Shows p (λ s. shown_page (counts s) (listing None s)) out)
+      → OnOk r (OpenedAnswers asks p x (Said.Page t) out p x)
+  pages p t (Err e) out shows = tt
+  pages p t (Ok u) out shows = λ r e. (r, ((shows r.machine e, refl), refl), e)
 
   module _ (x' : C) (old new : Plain) (t : ℕ) (out : List ℕ) where
     pass : (answer : Result Reply Fault) → model.Answers old Evict t answer new

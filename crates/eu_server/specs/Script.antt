@@ -10,17 +10,16 @@ use Rattle.eu_model.specs.declared.commands.Command.{Command}
 use Rattle.eu_model.specs.declared.commands.Command.TheVariants as command
 use Rattle.eu_model.specs.declared.commands.Entry.{Entry}
 use Rattle.eu_model.specs.declared.commands.Reply.TheVariants.{Evicted}
-use Rattle.eu_model.specs.declared.views.Query.{Query}
-use Rattle.eu_model.specs.declared.views.Query.TheVariants as asked
 use Rattle.eu_model.specs.Machine.{Machine, opening}
 use Rattle.eu_model.specs.Run.{Run, fault}
 use Rattle.eu_model.specs.Step.{Step}
-use Rattle.eu_model.specs.View.{view}
+use Rattle.eu_model.specs.View.{one, counts, listing}
+use Rattle.eu_page.specs.Page.{shown_page}
 use Rattle.eu_core.specs.Evicts.{drawn_victims, drawn_state}
 use Rattle.eu_words.specs.Lines.{Said, newcomer_of, line_of}
-use Rattle.eu_words.specs.Lines.Said.{Open, Register, Renew, Cancel, SetStatus, UnsetStatus, Adopt, Roll, Update, Evict, Look, Counts}
+use Rattle.eu_words.specs.Lines.Said.{Open, Register, Renew, Cancel, SetStatus, UnsetStatus, Adopt, Roll, Update, Evict, Look, Counts, Page}
 use Rattle.eu_words.specs.Words.{number_of}
-use Rattle.eu_server.specs.Texts.{reply_text, refused_text, view_text}
+use Rattle.eu_server.specs.Texts.{reply_text, refused_text, look_text, counts_text}
 
 -- A run of the lease machine: its settings, the number of clients with which it was opened, its entries so far, and the
 -- machine to which they lead
@@ -48,9 +47,9 @@ Does r c t out next =
     ((e : Entry) × (e.command ≡ c) × (e.moment ≡ t) × GoesOn r e next × (out ≡ reply_text e.reply))
     ⊎ ((f : Fault) × (fault r.machine c t ≡ Some f) × (out ≡ refused_text f) × (next ≡ r))
 
--- a query at a moment prints what is seen, and changes nothing
-abbrev pub Sees : Ran → Query → ℕ → List ℕ → Ran → Type 0
-Sees r q t out next = (out ≡ view_text (view r.machine q t)) × (next ≡ r)
+-- a question prints this text of the machine, and changes nothing
+abbrev pub Sees : Ran → (Machine → List ℕ) → List ℕ → Ran → Type 0
+Sees r text out next = (out ≡ text r.machine) × (next ≡ r)
 
 -- a line that says this prints out once the registry is open, asks no word, and takes its run from r to next
 abbrev pub SaysUnasked : Said → Ran → List ℕ → Ran → Type 0
@@ -65,8 +64,9 @@ SaysUnasked (UnsetStatus t k status dirty replicated) r out next =
 SaysUnasked (Adopt t n) r out next = (i : Instance) × (newcomer_of i ≡ n) × Does r (command.Adopt i) t out next
 SaysUnasked (Roll t) r out next = Does r command.Roll t out next
 SaysUnasked (Update t) r out next = Does r command.Update t out next
-SaysUnasked (Look t k) r out next = Sees r (asked.One k) t out next
-SaysUnasked (Counts t) r out next = Sees r asked.Counts t out next
+SaysUnasked (Look t k) r out next = Sees r (λ s. look_text (one s k t)) out next
+SaysUnasked (Counts t) r out next = Sees r (λ s. counts_text (counts s)) out next
+SaysUnasked (Page t) r out next = Sees r (λ s. shown_page (counts s) (listing None s)) out next
 -- a pass asks
 SaysUnasked (Evict t) r out next = ⊥
 -- the registry is opened only once

@@ -11,8 +11,7 @@ use Rattle.eu_model.specs.declared.commands.Reply.TheVariants.{Registered, Done,
 use Rattle.eu_model.specs.declared.views.Counts.{Counts}
 use Rattle.eu_model.specs.declared.views.Listed.{Listed}
 use Rattle.eu_model.specs.declared.views.Times.{Times}
-use Rattle.eu_model.specs.declared.views.View.{View}
-use Rattle.eu_model.specs.declared.views.View.TheVariants as seen
+use Rattle.eu_page.specs.Page.{yes_or_no}
 
 -- keys, one after the other
 abbrev pub keys_text : List Key → List ℕ
@@ -39,9 +38,6 @@ reply_text (Evicted ks) = evicted_text ks
 abbrev pub refused_text : Fault → List ℕ
 refused_text fault = codes "refused " ++ (decimal (fault_number fault) ++ codes "\n")
 
-abbrev pub yes_or_no : Bool → List ℕ
-yes_or_no b = if b then codes "yes" else codes "no"
-
 -- the printed line of the counts
 abbrev pub counts_text : Counts → List ℕ
 counts_text c =
@@ -60,11 +56,6 @@ found_text i times =
 abbrev pub look_text : Option Listed → List ℕ
 look_text None = codes "404\n"
 look_text (Some l) = found_text l.instance l.times
-
--- the printed line of what a query sees
-abbrev pub view_text : View → List ℕ
-view_text (seen.One l) = look_text l
-view_text (seen.Counts c) = counts_text c
 
 -- the printed line of a command's answer
 abbrev pub answer_text : Result Reply Fault → List ℕ

@@ -1,11 +1,14 @@
 //! A registry that answers the lines of a script.
 ghost use Rattle.std.specs.Prelude.{◌≡◌, ◌≢◌, ◌++◌, [], None, OnOk, IfErr, Err, IsTrue, not, string_bytes};
 ghost use Rattle.eu_server.specs.Texts.{answer_text};
+ghost use Rattle.eu_model.specs.Answers.{Shows};
+ghost use Rattle.eu_model.specs.View.{counts, listing};
+ghost use Rattle.eu_page.specs.Page.{shown_page};
 ghost use Rattle.eu_words.specs.Lines.{said_of};
 ghost use Rattle.eu_server.specs.Script.{opens};
 ghost use Rattle.eu_server.specs.Desk.{DeskAnswers, DeskRefuses, ClosedAnswers, OpenedAnswers, UnaskedAnswers, is_stamped};
 
-use crate::printing::{print_counts, print_look, print_refusal, print_reply};
+use crate::printing::{print_counts, print_look, print_page, print_refusal, print_reply};
 use eu_base::{Config, Fault};
 use eu_clock::Chooser;
 use eu_core::Registry;
@@ -97,8 +100,18 @@ fn answer_opened<C: Chooser>(
         Line::Evict { moment } => print_answer(out, registry.evict(alloc, moment, chooser)),
         Line::Look { moment, key } => Ok(print_look(out, registry.look(&key, moment))?),
         Line::Counts { .. } => Ok(print_counts(out, &registry.counts())?),
+        Line::Page { .. } => answer_page(alloc, registry, out),
         line => answer_stamped(alloc, registry, line, out),
     }
+}
+
+/// Prints the status page of a registry. `OutOfMemory`.
+fn answer_page(alloc: Global, registry: &Registry, out: &mut String) -> Result<(), LineError>
+    ensures text { OnOk result (Shows registry.now (λ s. string_bytes out.old ++ shown_page (counts s) (listing None s)) (string_bytes out.new)) }
+    ensures err { IfErr result (λ e. e ≡ LineError.OutOfMemory) }
+{
+    let held = registry.list(alloc, None)?;
+    Ok(print_page(alloc, out, &registry.counts(), held.as_slice())?)
 }
 
 /// Answers a line whose stamp may be absent: it renews a lease, or sets or unsets a status. `Bad` where it does none of

@@ -22,13 +22,17 @@ fn prints(alloc: Global, lines: &[(&str, &str)]) -> Result<bool, AllocError> {
     Ok(result == Ok(()) && out.as_slice() == printed.as_bytes())
 }
 
-const FIRST: [(&str, &str); 4] = [
+const FIRST: [(&str, &str); 5] = [
     ("open 1", "opened"),
     ("register 0 A i1 90 UP UNKNOWN 0 c", "204"),
     ("renew 30000 A i1 - - c", "200"),
     (
         "counts 30000",
         "held 1 expected 2 threshold 3 last 0 permitted no",
+    ),
+    (
+        "page 30000",
+        "held 1\nexpected 2\nthreshold 3\nlast 0\npreservation on\npermitted no\nstatuses UP_1_",
     ),
 ];
 

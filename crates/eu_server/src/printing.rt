@@ -2,11 +2,13 @@
 ghost use Rattle.std.specs.Prelude.{◌≡◌, ◌++◌, OnOk, codes, string_bytes};
 ghost use Rattle.eu_server.specs.Texts.{reply_text, evicted_text, keys_text, refused_text, found_text, look_text, counts_text};
 ghost use Rattle.eu_core.specs.Shown.{shown};
+ghost use Rattle.eu_page.specs.Page.{shown_page};
 ghost use Rattle.eu_model.specs.declared.commands.Reply.TheVariants.{Conflict};
 
 use eu_base::{Fault, Instance, Key};
-use eu_model::{Counts, Reply, Times};
-use std::alloc::AllocError;
+use eu_model::{Counts, Listed, Reply, Times};
+use eu_page::{page_of, status_page};
+use std::alloc::{AllocError, Global};
 
 /// Prints the line of a reply: its HTTP status and, of a conflict, the held instance's status, overridden status and stamp.
 pub fn print_reply(out: &mut String, reply: &Reply) -> Result<(), AllocError>
@@ -103,4 +105,18 @@ pub fn print_counts(out: &mut String, counts: &Counts) -> Result<(), AllocError>
         out,
         "held {held} expected {expected} threshold {threshold} last {last} permitted {permitted}"
     )
+}
+
+/// Prints the status page of a registry with these counts, which holds these leases.
+pub fn print_page(
+    alloc: Global,
+    out: &mut String,
+    counts: &Counts,
+    held: &[Listed],
+) -> Result<(), AllocError>
+    ensures { OnOk result (string_bytes out.new ≡ string_bytes out.old ++ shown_page counts.now held.now) }
+{
+    let page = page_of(alloc, counts, held)?;
+    let text = status_page(alloc, &page)?;
+    out.push_str(text.as_str())
 }

@@ -40,6 +40,7 @@ use std::io::{Read, Write};
 /// - `look T APP ID` prints `found STATUS OVERRIDDEN dirty D secs S registered R up U updated P`, or `404` where no lease
 ///   is visible: none is held, or it has expired and eviction is permitted.
 /// - `counts T` prints `held H expected E threshold V last L permitted yes`, or `no`.
+/// - `page T` prints the seven lines of the status page (`eu_page::status_page`), of what is held, expired or not.
 ///
 /// T is a moment in milliseconds, up to 2^62. APP and ID have 1 to 255 bytes of UTF-8; APP's ASCII letters are put in
 /// capitals. SECS is at most 2,147,483, and DIRTY at most 2^63 - 1. STATUS and OVR are `UP`, `DOWN`, `STARTING`,

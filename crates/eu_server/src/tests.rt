@@ -110,6 +110,41 @@ fn scripts_are_answered(rt: HostRuntime) -> Result<(), Fail> {
 }
 
 #[test]
+fn the_status_page_is_printed(rt: HostRuntime) -> Result<(), Fail> {
+    let config = Config::new(true, 85, 30, 60_000)?;
+    let cases = [
+        (
+            b"open 1\nregister 0 A i1 90 UP UNKNOWN 0 c\nrenew 30000 A i1 - - c\ncounts 30000\npage 30000\n".as_slice(),
+            b"opened\n204\n200\nheld 1 expected 2 threshold 3 last 0 permitted no\nheld 1\nexpected 2\nthreshold 3\nlast 0\npreservation on\npermitted no\nstatuses UP_1_\n".as_slice(),
+        ),
+        (
+            b"open 0\npage 0",
+            b"opened\nheld 0\nexpected 0\nthreshold 0\nlast 0\npreservation on\npermitted no\nstatuses \n",
+        ),
+        // two applications, and a status that overrides the instance's own
+        (
+            b"open 0\nregister 0 B b1 90 STARTING UNKNOWN - c\nregister 0 A a2 90 UP UNKNOWN - c\nregister 0 A a1 90 UP DOWN - c\nregister 0 A a3 90 UP UNKNOWN - c\npage 1\ncancel 1 A a1 c\npage 1\n",
+            b"opened\n204\n204\n204\n204\nheld 4\nexpected 0\nthreshold 0\nlast 0\npreservation on\npermitted no\nstatuses DOWN_1_STARTING_1_UP_2_\n200\nheld 3\nexpected 0\nthreshold 0\nlast 0\npreservation on\npermitted no\nstatuses STARTING_1_UP_2_\n",
+        ),
+    ];
+    for (text, printed) in cases {
+        assert!(rt; prints(rt.alloc(), config, text, printed));
+    }
+    Ok(())
+}
+
+#[test]
+fn the_status_page_tells_of_the_expired(rt: HostRuntime) -> Result<(), Fail> {
+    let config = Config::new(false, 85, 30, 60_000)?;
+    let text =
+        b"open 0\nregister 0 A i1 10 UP UNKNOWN - c\nlook 10001 A i1\npage 10001\nevict 10001\n".as_slice();
+    let printed =
+        b"opened\n204\n404\nheld 1\nexpected 0\nthreshold 0\nlast 0\npreservation off\npermitted yes\nstatuses UP_1_\nevicted 1 A i1\n".as_slice();
+    assert!(rt; prints(rt.alloc(), config, text, printed));
+    Ok(())
+}
+
+#[test]
 fn leases_are_looked_at_and_cancelled(rt: HostRuntime) -> Result<(), Fail> {
     let cases = [
         // the greater stamp stays, and of equal ones the newcomer's
@@ -456,6 +491,11 @@ fn bad_lines_are_told(rt: HostRuntime) -> Result<(), Fail> {
         (b"open 1\nlook 0 A\n", b"opened\n", 2),
         (b"open 1\nlook 0 A i1 c\n", b"opened\n", 2),
         (b"open 1\nevict 0 0\n", b"opened\n", 2),
+        (b"open 1\npage\n", b"opened\n", 2),
+        (b"open 1\npage 0 A\n", b"opened\n", 2),
+        (b"open 1\npage x\n", b"opened\n", 2),
+        (b"open 1\npage 4611686018427387905\n", b"opened\n", 2),
+        (b"page 0\n", b"", 1),
         (b"look 0 A i1\n", b"", 1),
         (b"set 0 A i1 UP - c\n", b"", 1),
         (b"unset 0 A i1 UP - c\n", b"", 1),

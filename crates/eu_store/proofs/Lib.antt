@@ -2,3 +2,4 @@ pub mod SortedLemmas
 pub mod TableLemmas
 pub mod MapLemmas
 pub mod ListedLemmas
+pub mod RowLemmas

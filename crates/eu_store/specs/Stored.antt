@@ -13,6 +13,7 @@ use Rattle.eu_model.specs.Record.{duration}
 use Rattle.eu_model.specs.Change.{stamped}
 use Rattle.eu_model.specs.Kept.{kept_expired}
 use Rattle.eu_model.specs.PlainCode.{coded_leases}
+use Rattle.eu_model.specs.View.{is_of}
 use Rattle.eu_lease.specs.Term.{Term, listed_with}
 
 pub record Stored : Type 0 where
@@ -51,3 +52,11 @@ rejoined n status overridden term l =
 -- the keys of the leases that have expired, in key order
 abbrev pub expired_keys : FinMap key_cmp Listed → ℕ → ℕ → List Key
 expired_keys m t extra = map (λ e. e.0) (filter (λ e. kept_expired e.1 t extra) (entries m))
+
+-- what is held of an application, or of all where none is given, with its keys and in key order
+abbrev pub rows_of : Option (List ℕ) → FinMap key_cmp Listed → List (Key × Listed)
+rows_of app m = filter (λ e. is_of app e.0) (entries m)
+
+-- the same without the keys
+abbrev pub listing_of : Option (List ℕ) → FinMap key_cmp Listed → List Listed
+listing_of app m = map (λ e. e.1) (rows_of app m)

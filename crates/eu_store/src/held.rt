@@ -1,12 +1,13 @@
 //! What is held under a key.
-ghost use Rattle.std.specs.Prelude.{◌≡◌};
+ghost use Rattle.std.specs.Prelude.{◌≡◌, IfOk};
 ghost use Rattle.eu_lease.specs.Term.{listed_with};
 ghost use Rattle.eu_model.specs.Kept.{kept_expired};
 ghost use Rattle.eu_store.specs.Stored.{term_of, renewed_at, upped_at, amended, rejoined};
 
 use eu_base::{Instance, Moment, Stamp, Status};
 use eu_lease::Lease;
-use eu_model::Times;
+use eu_model::{Listed, Times};
+use std::alloc::{AllocError, Global};
 use std::marker::Model;
 
 /// An instance with its lease, which lasts as long as the instance says. Contracts see both as they are listed.
@@ -59,6 +60,17 @@ impl Held {
         ensures { result ≡ self.now.times }
     {
         self.lease.times()
+    }
+
+    /// Both once more, as they are listed. `OutOfMemory`.
+    pub fn listed(&self, alloc: Global) -> Result<Listed, AllocError>
+        ensures { IfOk result (λ l. l ≡ self.now) }
+    {
+        let instance = self.instance.copy(alloc)?;
+        Ok(Listed {
+            instance,
+            times: self.times(),
+        })
     }
 
     /// Whether its lease has expired, if it is granted some extra milliseconds.

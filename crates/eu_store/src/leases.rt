@@ -1,12 +1,15 @@
 //! The leases that are held, by their keys.
-ghost use Rattle.std.specs.Prelude.{◌≡◌, ◌↔◌, ◌<◌, ◌≤◌, ◌+◌, ◌⊎◌, None, if◌then◌else◌, is_some, IsSome, IfOk, IfErr, OnOk};
+ghost use Rattle.std.specs.Prelude.{◌≡◌, ◌↔◌, ◌<◌, ◌≤◌, ◌+◌, ◌⊎◌, map, None, if◌then◌else◌, is_some, IsSome, IfOk, IfErr, OnOk};
 ghost use Rattle.std.specs.Option.{option_copied};
 ghost use Rattle.std.specs.FinMap as map;
-ghost use Rattle.eu_store.specs.Stored.{changed, renewed_at, amended, upped_at, rejoined, expired_keys};
+ghost use Rattle.eu_store.specs.Stored.{changed, renewed_at, amended, upped_at, rejoined, expired_keys, rows_of, listing_of};
+ghost use Rattle.eu_model.specs.View.{is_of};
+ghost use Rattle.std.specs.Map.Iter.{deref_pair};
 
 use crate::Held;
-use eu_base::{Fault, Instance, Key, Moment, Stamp, Status};
+use eu_base::{App, Fault, Instance, Key, Moment, Stamp, Status};
 use eu_lease::Lease;
+use eu_model::Listed;
 use indexmap::IndexMap;
 use std::alloc::{AllocError, Global};
 use std::marker::Model;
@@ -238,5 +241,41 @@ impl Leases {
         }
         keys.sort()?;
         Ok(keys)
+    }
+
+    /// What is held of an application, or everything where none is given: expired or not, in key order. `OutOfMemory`.
+    pub fn listed(&self, alloc: Global, app: Option<&App>) -> Result<Vec<Listed>, AllocError>
+        ensures { IfOk result (λ leases. leases.items ≡ listing_of (option_copied app.entry) self.now.held) }
+    {
+        let rows = self.rows(alloc, app)?;
+        let mut leases = Vec::new(alloc);
+        for row in &rows {
+            leases.push(row.1.listed(alloc)?)?;
+        }
+        Ok(leases)
+    }
+
+    /// The same, with the keys and not copied.
+    fn rows(&self, alloc: Global, app: Option<&App>) -> Result<Vec<(&Key, &Held)>, AllocError>
+        ensures { IfOk result (λ rows. map deref_pair rows.items ≡ rows_of (option_copied app.entry) self.now.held) }
+    {
+        let mut rows = Vec::new(alloc);
+        for (key, held) in self.table.iter() {
+            if is_of(key, app) {
+                rows.push((key, held))?;
+            }
+        }
+        rows.sort_by_key(|row| row.0)?;
+        Ok(rows)
+    }
+}
+
+/// Whether a key is of that application. Each is, where none is given.
+fn is_of(key: &Key, app: Option<&App>) -> bool
+    ensures { result ≡ is_of (option_copied app.entry) key.now }
+{
+    match app {
+        Some(app) => key.app == *app,
+        None => true,
     }
 }

@@ -2,7 +2,8 @@
 use crate::{Held, Leases};
 use eu_base::{App, Fault, Id, Instance, Key, Moment, Rest, Stamp, Status};
 use eu_lease::Lease;
-use std::alloc::Global;
+use eu_model::Listed;
+use std::alloc::{AllocError, Global};
 use std::test::Fail;
 
 fn at(ms: u64) -> Result<Moment, Fault> {
@@ -132,5 +133,67 @@ fn none_has_expired_at_its_deadline(rt: HostRuntime) -> Result<(), Fail> {
     let leases = leases(rt.alloc(), ["i1"].as_slice())?;
     let keys = leases.expired_keys(rt.alloc(), at(10_000)?, 0)?;
     assert!(rt; keys.is_empty());
+    Ok(())
+}
+
+/// The ids, statuses and last updates of a listing.
+fn told(alloc: Global, listing: &[Listed]) -> Result<String, AllocError> {
+    let mut told = String::new(alloc);
+    for listed in listing {
+        let id = listed.instance.key.id.as_str();
+        let status = listed.instance.status.name();
+        let updated = listed.times.updated;
+        write!(told, "{id} {status} {updated} ")?;
+    }
+    Ok(told)
+}
+
+#[test]
+fn everything_is_listed_in_key_order(rt: HostRuntime) -> Result<(), Fail> {
+    let mut leases = leases(rt.alloc(), ["i3", "i1", "i10", "i2"].as_slice())?;
+    let third = key(rt.alloc(), "i3")?;
+    assert!(rt; leases.renew_as(&third, at(5)?, Status::Down, Status::Down, None));
+    let app = App::read(rt.alloc(), "a")?;
+    let all = leases.listed(rt.alloc(), None)?;
+    assert_eq!(rt;
+        told(rt.alloc(), all.as_slice())?.as_str(),
+        "i1 UP 0 i10 UP 0 i2 UP 0 i3 DOWN 10005 "
+    );
+    let of_app = leases.listed(rt.alloc(), Some(&app))?;
+    assert_eq!(rt;
+        told(rt.alloc(), of_app.as_slice())?.as_str(),
+        "i1 UP 0 i10 UP 0 i2 UP 0 i3 DOWN 10005 "
+    );
+    Ok(())
+}
+
+#[test]
+fn an_application_lists_its_own(rt: HostRuntime) -> Result<(), Fail> {
+    let mut leases = leases(rt.alloc(), ["i2", "i1"].as_slice())?;
+    let other = Key {
+        app: App::read(rt.alloc(), "AA")?,
+        id: Id::read(rt.alloc(), "i0")?,
+    };
+    leases.prepare_put(&other)?;
+    leases.put_prepared(other, held(rt.alloc(), "i0")?);
+    let (first, second) = (App::read(rt.alloc(), "A")?, App::read(rt.alloc(), "aa")?);
+    let nobody = App::read(rt.alloc(), "B")?;
+    let of_first = leases.listed(rt.alloc(), Some(&first))?;
+    assert_eq!(rt;
+        told(rt.alloc(), of_first.as_slice())?.as_str(),
+        "i1 UP 0 i2 UP 0 "
+    );
+    let of_second = leases.listed(rt.alloc(), Some(&second))?;
+    assert_eq!(rt;
+        told(rt.alloc(), of_second.as_slice())?.as_str(),
+        "i0 UP 0 "
+    );
+    let of_nobody = leases.listed(rt.alloc(), Some(&nobody))?;
+    assert!(rt; of_nobody.is_empty());
+    let all = leases.listed(rt.alloc(), None)?;
+    assert_eq!(rt;
+        told(rt.alloc(), all.as_slice())?.as_str(),
+        "i1 UP 0 i2 UP 0 i0 UP 0 "
+    );
     Ok(())
 }

@@ -51,6 +51,8 @@ pub data Said : Type 0 where
   Look : ℕ → Key → Said
   -- the counts are asked for
   Counts : ℕ → Said
+  -- the status page is asked for
+  Page : ℕ → Said
 
 -- what a line that was read says
 abbrev pub said_of : Line → Said
@@ -66,6 +68,7 @@ said_of (line.Update t) = Update t
 said_of (line.Evict t) = Evict t
 said_of (line.Look t k) = Look t k
 said_of (line.Counts t) = Counts t
+said_of (line.Page t) = Page t
 
 -- N, below 2^32
 unfoldable pub open_says : List (List ℕ) → Option Said
@@ -160,6 +163,7 @@ moment_says verb ws = do
       else if bytes_eq verb (codes "update") then Some (Update t.0)
       else if bytes_eq verb (codes "evict") then Some (Evict t.0)
       else if bytes_eq verb (codes "counts") then Some (Counts t.0)
+      else if bytes_eq verb (codes "page") then Some (Page t.0)
       else None
 
 -- the verb, which stands first, tells which line it is

@@ -104,6 +104,11 @@ pub enum Line {
         /// When.
         moment: Moment,
     },
+    /// The status page is asked for.
+    Page {
+        /// When.
+        moment: Moment,
+    },
 }
 
 /// What a line says, by its words. The first is its verb, and T is a moment in milliseconds.
@@ -114,7 +119,7 @@ pub enum Line {
 /// - `renew T APP ID DIRTY OVR SRC`, `set T APP ID STATUS DIRTY SRC`, `unset T APP ID STATUS DIRTY SRC`: DIRTY may be `-` for
 ///   none, as may the OVR of `renew` and the STATUS of `unset`.
 /// - `cancel T APP ID SRC`, `look T APP ID`.
-/// - `roll T`, `update T`, `evict T`, `counts T`.
+/// - `roll T`, `update T`, `evict T`, `counts T`, `page T`.
 ///
 /// APP and ID are names, STATUS and OVR statuses in capitals. SRC is `c` for a client, or `r` for a peer.
 ///
@@ -315,6 +320,9 @@ fn moment_line(verb: &[u8], words: &mut Words<'_>) -> Result<Line, LineError>
     }
     if is_text(verb, "counts") {
         return Ok(Line::Counts { moment });
+    }
+    if is_text(verb, "page") {
+        return Ok(Line::Page { moment });
     }
     Err(LineError::Bad)
 }

@@ -94,6 +94,7 @@ fn tell(text: &mut String, line: &Line) -> Result<(), AllocError> {
         Line::Evict { moment } => write!(text, "evict {}", moment.ms()),
         Line::Look { moment, key } => tell_key(text, "look", moment, key),
         Line::Counts { moment } => write!(text, "counts {}", moment.ms()),
+        Line::Page { moment } => write!(text, "page {}", moment.ms()),
         _ => tell_stamped(text, line),
     }
 }
@@ -151,6 +152,8 @@ fn lines_are_read(rt: HostRuntime) -> Result<(), Fail> {
         ("evict 5", "evict 5"),
         ("look 5 a i", "look 5 A i"),
         ("counts 0", "counts 0"),
+        ("page 00000000000000000007", "page 7"),
+        ("page 4611686018427387904", "page 4611686018427387904"),
     ];
     for (line, wanted) in cases {
         let told = told(rt.alloc(), line)?;
@@ -194,6 +197,13 @@ fn bad_lines_are_refused(rt: HostRuntime) {
         "evict 5 5",
         "look 5 A",
         "counts 5\r",
+        "page",
+        "page ",
+        "page -",
+        "page 5 A",
+        "page 5 ",
+        "page 4611686018427387905",
+        "Page 5",
     ];
     for line in cases {
         assert!(rt; told(rt.alloc(), line) == Err(LineError::Bad), "at {line}");

@@ -1,10 +1,10 @@
-use Rattle.std.proofs.Common.{Ok, ap, refl, string_bytes}
+use Rattle.std.proofs.Common.{Ok, refl, string_bytes}
 use Rattle.eu_model.specs.declared.commands.Command.TheVariants as command
-use Rattle.eu_model.specs.declared.views.Query.TheVariants as asked
-use Rattle.eu_model.specs.declared.views.View.TheVariants as seen
+use Rattle.eu_model.specs.View.{one, counts}
 use Rattle.eu_core.specs.Shown.{shown}
 use Rattle.eu_words.specs.Lines.{Said, newcomer_of, said_of}
-use Rattle.eu_server.proofs.Desks.{stays, told, sees, passes}
+use Rattle.eu_server.specs.Texts.{look_text, counts_text}
+use Rattle.eu_server.proofs.Desks.{stays, told, sees, pages, passes}
 use Rattle.eu_server.proofs.desk.answer_opened.Goals as goal
 
 pub returns-in-Register-clause-ok : goal.returns-in-Register-clause-ok
@@ -44,13 +44,18 @@ returns-in-Update-clause-ok g c =
 
 pub returns-in_ok-print_look-in-Look-clause-ok : goal.returns-in_ok-print_look-in-Look-clause-ok
 returns-in_ok-print_look-in-Look-clause-ok g c =
-    rw c.in-Look.is (sees g.C.Chooser.asks c.args.chooser.now c.args.registry.now (asked.One c.in-Look.key) c.in-Look.moment (string_bytes c.print_look.new.out)
-    (seen.One (shown c.look.result)) (λ s e. ap seen.One (c.look.ensures s e)) (rw c.requires at c.in_ok-print_look-in-Look.ensures))
+    rw c.in-Look.is (sees g.C.Chooser.asks c.args.chooser.now c.args.registry.now (λ s. one s c.in-Look.key c.in-Look.moment) look_text (string_bytes c.print_look.new.out)
+    (shown c.look.result) c.look.ensures (rw c.requires at c.in_ok-print_look-in-Look.ensures))
 
 pub returns-in_ok-print_counts-in-Counts-clause-ok : goal.returns-in_ok-print_counts-in-Counts-clause-ok
 returns-in_ok-print_counts-in-Counts-clause-ok g c =
-    rw c.in-Counts.is (sees g.C.Chooser.asks c.args.chooser.now c.args.registry.now asked.Counts c.in-Counts.moment (string_bytes c.print_counts.new.out)
-    (seen.Counts c.counts.result) (λ s e. ap seen.Counts (c.counts.ensures s e)) (rw c.requires at c.in_ok-print_counts-in-Counts.ensures))
+    rw c.in-Counts.is (sees g.C.Chooser.asks c.args.chooser.now c.args.registry.now counts counts_text (string_bytes c.print_counts.new.out)
+    c.counts.result c.counts.ensures (rw c.requires at c.in_ok-print_counts-in-Counts.ensures))
+
+pub returns-in-Page-clause-ok : goal.returns-in-Page-clause-ok
+returns-in-Page-clause-ok g c =
+    rw c.in-Page.is (pages g.C.Chooser.asks c.args.chooser.now c.args.registry.now c.in-Page.moment c.answer_page.result (string_bytes c.answer_page.new.out)
+    (rw c.requires at c.answer_page.ensures.text))
 
 pub returns-in-Evict-clause-ok : goal.returns-in-Evict-clause-ok
 returns-in-Evict-clause-ok g c =

@@ -1,0 +1,5 @@
+pub mod CaseLemmas
+pub mod DigitLemmas
+pub mod MemberLemmas
+pub mod RunLemmas
+pub mod TreeLemmas

@@ -1,0 +1,48 @@
+-- Members that are set, and trees whose numbers are all whole
+use Rattle.std.proofs.Common.{◌≡◌, ℕ, Bool, false, ◌||◌, List, [], ◌∷◌, ◌++◌, Option, Some, None, Ordering, Less, Equal, Greater, String, Global, string_bytes, rules, refl}
+use Rattle.std.specs.Ordering.{nat_cmp, match_ordering}
+use Rattle.std.specs.Cmp.Lexicographic.{slice_cmp}
+use Rattle.serde_json.specs.Data.{Data, Members, no_members, member, put, string}
+use Rattle.serde_json.specs.View.{items_of, view}
+use Rattle.serde_json.specs.declared.value.Value.{String as Text, the_lemmas}
+use Rattle.serde_json.specs.Written.{has_float, items_have_float, members_have_float}
+use Rattle.eu_base.specs.declared.instances.Instance.{Instance}
+use Rattle.eu_model.specs.declared.views.Times.{Times}
+use Rattle.eu_json.specs.Tree.{with_member, lease_tree}
+use Rattle.eu_json.proofs.MemberLemmas.{neither}
+
+pub view-String : (s : String Global) → view (Text s) ≡ string (string_bytes s)
+view-String s = search (rules, the_lemmas)
+
+-- a member that is set over equal members, to an equal value
+pub set_over : (name : List ℕ) (d t o p : Data) → d ≡ t → o ≡ p → with_member name d o ≡ with_member name t p
+set_over name d t o p value over = λ i. with_member name (value i) (over i)
+
+-- ---- what is set is whole
+
+put_at : (o : Ordering) (k l : List ℕ) (d e : Data) (ms rest : Members) → has_float d ≡ false → has_float e ≡ false → members_have_float ms ≡ false → members_have_float rest ≡ false
+    → members_have_float (match_ordering o (member k d (member l e ms)) (member l d ms) (member l e rest)) ≡ false
+put_at Less k l d e ms rest value here later more = rw (value, here, later) refl
+put_at Equal k l d e ms rest value here later more = rw (value, later) refl
+put_at Greater k l d e ms rest value here later more = rw (here, more) refl
+
+pub whole_put : (k : List ℕ) (d : Data) (ms : Members) → members_have_float ms ≡ false → has_float d ≡ false → members_have_float (put k d ms) ≡ false
+whole_put k d no_members whole value = rw value refl
+whole_put k d (member l e ms) whole value =
+    let parts = neither (has_float e) (members_have_float ms) whole in
+    put_at (slice_cmp nat_cmp k l) k l d e ms (put k d ms) value parts.0 parts.1 (whole_put k d ms parts.1 value)
+
+pub whole_lease : (i : Instance) (times : Option Times) → has_float (lease_tree i times) ≡ false
+whole_lease i None = refl
+whole_lease i (Some t) = refl
+
+-- ---- lists of trees
+
+neither_nor : (a b : Bool) → a ≡ false → b ≡ false → (a || b) ≡ false
+neither_nor a b first second = rw (first, second) refl
+
+pub whole_more : (ds : List Data) (d : Data) → items_have_float (items_of ds) ≡ false → has_float d ≡ false → items_have_float (items_of (ds ++ d ∷ [])) ≡ false
+whole_more [] d whole last = rw last refl
+whole_more (e ∷ ds) d whole last =
+    let parts = neither (has_float e) (items_have_float (items_of ds)) whole in
+    rw (parts.0) (whole_more ds d parts.1 last)

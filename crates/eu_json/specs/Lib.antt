@@ -1,0 +1,4 @@
+pub mod Members
+pub mod Fields
+pub mod Reading
+pub mod Tree

@@ -1,0 +1,142 @@
+//! An instance from JSON.
+ghost use Rattle.std.specs.Prelude.{◌≡◌, ◌⊎◌, ◌<◌, length, MatchResult, Some, None};
+ghost use Rattle.std.specs.Option.{option_map};
+ghost use Rattle.serde_json.specs.Read.{read};
+ghost use Rattle.serde_json.specs.View.{view};
+ghost use Rattle.eu_base.specs.Rest.{IsRest};
+ghost use Rattle.eu_json.specs.Fields.{Gives, Reads};
+ghost use Rattle.eu_json.specs.Reading.{instance_of, lease_member, of_object, rest_of, short};
+
+use crate::checks::{check_address, check_app, check_center, name_of};
+use crate::members::{take, without};
+use crate::numbers::{interval_in, secs_in, stamp_in};
+use crate::statuses::{overridden_at, status_in};
+use eu_base::{App, Fault, Id, Instance, Key, Moment, Rest, Status, has_fraction};
+use serde_json::Value;
+use std::alloc::Global;
+
+/// The JSON of a text. `NotJson` where it is none, `OutOfMemory`.
+fn parse(alloc: Global, text: &str) -> Result<Value, Fault>
+    ensures { MatchResult result (λ v. read text.now ≡ Some (view v)) (λ f. (f ≡ Fault.OutOfMemory) ⊎ ((f ≡ Fault.NotJson) × (read text.now ≡ None))) }
+{
+    match Value::from_str(alloc, text) {
+        Ok(body) => Ok(body),
+        Err(error) if error.is_memory() => Err(Fault::OutOfMemory),
+        Err(_) => Err(Fault::NotJson),
+    }
+}
+
+/// A member of the lease's information, where that is an object.
+fn lease_member<'v>(instance: &'v Value, name: &str) -> Option<&'v Value>
+    ensures { option_map (λ v. view v.now) result ≡ lease_member name.now (view instance.now) }
+{
+    instance.get("leaseInfo")?.get(name)
+}
+
+/// The id of that name. `TooLong` where it has more than 255 bytes, `OutOfMemory`.
+fn id_of(alloc: Global, name: &str) -> Result<Id, Fault>
+    requires { 0 < length name.now }
+    ensures { Gives (λ id. id) result (short name.now) }
+{
+    Id::read(alloc, name)
+}
+
+/// The members that the registry keeps as they came: all but those that it writes itself.
+fn rest_of(alloc: Global, instance: Value) -> Rest
+    requires { IsRest (view instance) }
+    ensures { result ≡ rest_of (view instance) }
+{
+    let mut rest = instance;
+    rest = without(rest, "leaseInfo");
+    rest = without(rest, "lastDirtyTimestamp");
+    rest = without(rest, "overriddenstatus");
+    rest = without(rest, "overriddenStatus");
+    rest = without(rest, "status");
+    rest = without(rest, "app");
+    rest = without(rest, "instanceId");
+    Rest::new(alloc, rest).unwrap()
+}
+
+/// The instance of an object whose numbers are all whole.
+#[tactic(auto, unfolding(crate::specs::Reading::of_object))]
+fn of_object(alloc: Global, instance: Value, app: &App, moment: Moment) -> Result<Instance, Fault>
+    requires { IsRest (view instance) }
+    ensures { Reads result (of_object app.now moment (view instance)) }
+{
+    let name = name_of(&instance)?;
+    check_address(&instance)?;
+    check_app(&instance, app)?;
+    check_center(&instance)?;
+    let id = id_of(alloc, name)?;
+    let dirty = stamp_in(moment, instance.get("lastDirtyTimestamp"))?;
+    let secs = secs_in(lease_member(&instance, "durationInSecs"))?;
+    let interval = interval_in(lease_member(&instance, "renewalIntervalInSecs"));
+    let status = status_in(Status::Up, instance.get("status"));
+    let overridden = status_in(Status::Unknown, overridden_at(&instance));
+    let app = app.copy(alloc)?;
+    let rest = rest_of(alloc, instance);
+    let key = Key { app, id };
+    Ok(Instance {
+        key,
+        status,
+        overridden,
+        dirty,
+        secs,
+        interval,
+        rest,
+    })
+}
+
+/// The instance that the body of a registration says for an application at a moment (`ApplicationResource.addInstance` and
+/// `InstanceInfo` in Eureka; JSON by RFC 8259).
+///
+/// The body is an object with a member `instance`, which is an object. Of a name that stands twice in one object the last
+/// value counts. A text is blank where its member is absent, isn't a text or has no byte. Of the members of `instance`
+///
+/// - `instanceId` names the lease, or `hostName` where that is blank;
+/// - `app` is `app`, whatever the case of its ASCII letters;
+/// - `status` is one of the five statuses, whatever the case of its ASCII letters: `Up` where it is absent or null, `Unknown`
+///   where it is anything else;
+/// - `overriddenStatus`, or `overriddenstatus` where that is absent, is read in the same way, and `Unknown` where it is absent
+///   or null;
+/// - `lastDirtyTimestamp` is a stamp, as a number or a text of 1 to 19 digits; absent or null it is the moment;
+/// - `leaseInfo`, where it is an object, has `durationInSecs`, the seconds that the lease lasts, as a number or a text of 1 to
+///   10 digits (`Instance::DEFAULT_SECS` where it is absent, null or not above 0), and `renewalIntervalInSecs`, the seconds
+///   between renewals (`Instance::DEFAULT_INTERVAL` where it isn't a whole number from 1 to 2^31 - 1);
+/// - every other member, `hostName`, `ipAddr` and `dataCenterInfo` too, is kept as it is given, in `rest`.
+///
+/// The first of these faults that holds is told:
+///
+/// - `NotJson`: the text isn't JSON, or nests deeper than 127, or isn't an object with a member `instance` that is one;
+/// - `NotWhole`: a number anywhere in the text has a fraction or an exponent, is `-0`, or fits neither a `u64` nor an `i64`;
+/// - `MissingId`: `instanceId` and `hostName` are blank;
+/// - `MissingHost`, `MissingIp`, `MissingApp`: `hostName`, `ipAddr`, `app` is blank;
+/// - `WrongApp`: `app` is another application;
+/// - `MissingCenter`: `dataCenterInfo` isn't an object;
+/// - `MissingCenterName`: its member `name` isn't a text;
+/// - `TooLong`: the id has more than 255 bytes;
+/// - `BadStamp`: `lastDirtyTimestamp` isn't a stamp, as above;
+/// - `BadDuration`: `durationInSecs` is neither of the two, or above 2,147,483.
+///
+/// `OutOfMemory` may come in place of any.
+pub fn read_instance(
+    alloc: Global,
+    text: &str,
+    app: &App,
+    moment: Moment,
+) -> Result<Instance, Fault>
+    ensures { Reads result (instance_of app.now moment text.now) }
+{
+    let body = parse(alloc, text)?;
+    let fraction = has_fraction(&body);
+    let Some(instance) = take(body, "instance") else {
+        return Err(Fault::NotJson);
+    };
+    if !instance.is_object() {
+        return Err(Fault::NotJson);
+    }
+    if fraction {
+        return Err(Fault::NotWhole);
+    }
+    of_object(alloc, instance, app, moment)
+}

@@ -1,0 +1,70 @@
+-- Stamps and statuses
+use Rattle.std.proofs.Common.{◌≡◌, ℕ, ◌<◌, ◌≤◌, ◌^◌, Bool, true, false, List, [], ◌∷◌, length, map, Option, Some, None, Result, Ok, Err, IfSome, IfNone, refl, sym, ◌∙◌, ap, arith, rules}
+use Rattle.std.proofs.lemmas.Bool.{and_parts, and_from, false_from_ne_true, ltb-true, lt-ltb}
+use Rattle.std.proofs.lemmas.Bool.Decides.{nat_tests}
+use Rattle.std.proofs.lemmas.Slice.Eq.{bytes_eq-Decides}
+use Rattle.std.proofs.lemmas.Str.Ascii.{lowercase-uppercase}
+use Rattle.std.proofs.lemmas.Str.Parse.{IsNumeralModel, numerals_by_value, tells_all_ascii_digits}
+use Rattle.std.specs.Bool.{Decides}
+use Rattle.std.specs.Char.{to_ascii_lowercase, to_ascii_uppercase}
+use Rattle.std.specs.Str.{all_ascii_digits, bytes_eq}
+use Rattle.std.specs.Str.Parse.{digits_value}
+use Rattle.std.specs.Result.{OkIff, result_ok}
+use Rattle.eu_base.specs.declared.times.Stamp.{Stamp}
+use Rattle.eu_routes.specs.Query.{is_stamp, stamp_of, number_of}
+
+pub digits : IsNumeralModel (λ ds. all_ascii_digits ds ≡ true) (digits_value 10)
+digits = numerals_by_value _ tells_all_ascii_digits
+
+-- what is a stamp, and what isn't
+pub some_stamp : (text : List ℕ) → 0 < length text → length text < 20 → all_ascii_digits text ≡ true → digits_value 10 text < 2 ^ 63 → stamp_of text ≡ Some (digits_value 10 text)
+unfolding stamp_of
+some_stamp text filled short all small =
+    let is : is_stamp text ≡ true = and_from _ _ (and_from _ _ (and_from _ _ (lt-ltb _ _ filled) (lt-ltb _ _ short)) all) (lt-ltb _ _ small) in
+    rw is refl
+
+pub no_stamp : (text : List ℕ) → (0 < length text → length text < 20 → all_ascii_digits text ≡ true → digits_value 10 text < 2 ^ 63 → ⊥) → stamp_of text ≡ None
+unfolding stamp_of
+no_stamp text other =
+    let is : is_stamp text ≡ false = false_from_ne_true _ (λ e.
+    let p = and_parts _ _ e in
+    let q = and_parts _ _ p.0 in
+    let r = and_parts _ _ q.0 in
+    other (ltb-true _ _ r.0) (ltb-true _ _ r.1) q.1 (ltb-true _ _ p.1)) in
+    rw is refl
+
+-- letters of either case
+upper_lower : (c : ℕ) → to_ascii_uppercase (to_ascii_lowercase c) ≡ to_ascii_uppercase c
+upper_lower c = grind (arith, nat_tests)
+
+raised : (text : List ℕ) → map to_ascii_uppercase (map to_ascii_lowercase text) ≡ map to_ascii_uppercase text
+raised [] = refl
+raised (c ∷ text) = rw (upper_lower c, raised text) refl
+
+lowered : (text : List ℕ) → map to_ascii_lowercase (map to_ascii_uppercase text) ≡ map to_ascii_lowercase text
+lowered [] = refl
+lowered (c ∷ text) = rw (lowercase-uppercase c, lowered text) refl
+
+pub same_letters : (text name : List ℕ) (r : Bool) → map to_ascii_uppercase name ≡ name → Decides r (map to_ascii_lowercase text ≡ map to_ascii_lowercase name) → r ≡ bytes_eq (map to_ascii_uppercase text) name
+same_letters text name r capitals same =
+    let decides : Decides r (map to_ascii_uppercase text ≡ name) = (
+      λ t. sym (raised text) ∙ ap (map to_ascii_uppercase) (same.0 t) ∙ raised name ∙ capitals,
+      λ e. same.1 (sym (lowered text) ∙ ap (map to_ascii_lowercase) e),
+    ) in
+    search (rules, bytes_eq-Decides)
+
+-- a text that was parsed as a number below 2^64, or wasn't
+pub unparsed : {E : Type 0} (text : List ℕ) (r : Result ℕ E) → OkIff r ((all_ascii_digits text ≡ true) × (0 < length text) × (digits_value 10 text < 2 ^ 64)) (digits_value 10 text) → result_ok r ≡ None → stamp_of text ≡ None
+unparsed text (Ok n) h e = cc
+unparsed text (Err fault) h e = no_stamp text (λ filled short all small. h (all, filled, omega arith))
+
+pub parsed : {E : Type 0} (text : List ℕ) (r : Result ℕ E) (n : ℕ) (o : Option Stamp) → OkIff r ((all_ascii_digits text ≡ true) × (0 < length text) × (digits_value 10 text < 2 ^ 64)) (digits_value 10 text) → result_ok r ≡ Some n → length text < 20
+    → IfSome o (λ s. s.value ≡ n) → IfNone o (2 ^ 63 ≤ n) → number_of o ≡ stamp_of text
+parsed text (Err fault) n o h e short some none = cc
+parsed text (Ok m) n None h e short some none =
+    let same : m ≡ n = cc in
+    sym (no_stamp text (λ filled less all small. absurd (omega (arith, h.1))))
+parsed text (Ok m) n (Some s) h e short some none =
+    let same : m ≡ n = cc in
+    let value : s.value ≡ digits_value 10 text = some ∙ sym same ∙ h.1 in
+    ap Some value ∙ sym (some_stamp text h.0.1 short h.0.0 (rw (← value) s.bound))

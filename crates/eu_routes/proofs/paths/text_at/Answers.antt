@@ -1,0 +1,13 @@
+use Rattle.std.proofs.Common.{◌∙◌}
+use Rattle.eu_routes.proofs.PathLemmas.{utf8_text, other_text}
+use Rattle.eu_routes.proofs.paths.text_at.Goals as goal
+
+pub returns-in-Ok : goal.returns-in-Ok
+returns-in-Ok c =
+    let bytes = c.percent_decode_str.ensures.bytes in
+    utf8_text c.args.segment.now _ (c.in-Ok.ensures.value ∙ bytes) (rw (← bytes) c.in-Ok.ensures.ok_only_if_utf8)
+
+pub returns-in-Err-Utf8 : goal.returns-in-Err-Utf8
+returns-in-Err-Utf8 c =
+    let bytes = c.percent_decode_str.ensures.bytes in
+    λ other. other_text c.args.segment.now (λ utf8. let h = c.in-Err-Utf8.ensures.utf8 (rw bytes utf8) in cc)

@@ -1,0 +1,5 @@
+pub mod Chain
+pub mod Table
+pub mod Path
+pub mod Query
+pub mod Route

@@ -1,0 +1,70 @@
+-- What a query says
+use Rattle.std.specs.Prelude.{ℕ, ◌^◌, Bool, ◌&&◌, List, [], ◌∷◌, length, Option, Some, None, Result, Ok, nat_lt, if◌then◌else◌}
+use Rattle.std.specs.Option.{option_map, ok_or}
+use Rattle.std.specs.Str.{bytes_eq, all_ascii_digits, str_to_ascii_uppercase}
+use Rattle.std.specs.Str.Lossy.{utf8_lossy}
+use Rattle.std.specs.Str.Parse.{digits_value}
+use Rattle.form_urlencoded.specs.Form.{decode, raw_pairs}
+use Rattle.eu_base.specs.declared.faults.Fault.{Fault}
+use Rattle.eu_base.specs.declared.faults.Fault.TheVariants.{BadValue}
+use Rattle.eu_base.specs.declared.statuses.Status.{Status}
+use Rattle.eu_base.specs.declared.times.Stamp.{Stamp}
+use Rattle.eu_base.specs.Status.{status_of}
+use Rattle.eu_routes.specs.Chain.{◌>>=◌}
+
+-- ---- pairs of a form
+
+-- the text that a name or a value stands for
+abbrev pub text_of : List ℕ → List ℕ
+text_of bytes = utf8_lossy (decode bytes)
+
+-- the value of the first pair of that name
+abbrev pub value_among : List ℕ → List (List ℕ × List ℕ) → Option (List ℕ)
+value_among name [] = None
+value_among name (pair ∷ pairs) = if bytes_eq (text_of pair.0) name then Some (text_of pair.1) else value_among name pairs
+
+-- the first value of that name in a query
+unfoldable pub value_at : List ℕ → List ℕ → Option (List ℕ)
+value_at name query = value_among name (raw_pairs query)
+
+-- ---- stamps and statuses
+
+-- 1 to 19 decimal digits, up to 2^63 - 1
+abbrev pub is_stamp : List ℕ → Bool
+is_stamp text = nat_lt 0 (length text) && nat_lt (length text) 20 && all_ascii_digits text && nat_lt (digits_value 10 text) (2 ^ 63)
+
+-- the number of a stamp's text
+unfoldable pub stamp_of : List ℕ → Option ℕ
+stamp_of text = if is_stamp text then Some (digits_value 10 text) else None
+
+-- one of the five statuses, in letters of either case
+unfoldable pub status_in : List ℕ → Option Status
+status_in text = status_of (str_to_ascii_uppercase text)
+
+-- the number of a stamp that may be absent
+abbrev pub number_of : Option Stamp → Option ℕ
+number_of stamp = option_map (λ s. s.value) stamp
+
+-- ---- values, each of which may be absent
+
+-- a stamp; an empty one is absent
+abbrev pub stamp_given : Option (List ℕ) → Result (Option ℕ) Fault
+stamp_given None = Ok None
+stamp_given (Some []) = Ok None
+stamp_given (Some (b ∷ text)) = do
+  number ← ok_or (stamp_of (b ∷ text)) BadValue
+  Ok (Some number)
+
+abbrev pub status_given : Option (List ℕ) → Result (Option Status) Fault
+status_given None = Ok None
+status_given (Some text) = do
+  status ← ok_or (status_in text) BadValue
+  Ok (Some status)
+
+-- the stamp of that name in a query
+unfoldable pub stamp_at : List ℕ → List ℕ → Result (Option ℕ) Fault
+stamp_at name query = stamp_given (value_at name query)
+
+-- the status of that name in a query
+unfoldable pub status_at : List ℕ → List ℕ → Result (Option Status) Fault
+status_at name query = status_given (value_at name query)

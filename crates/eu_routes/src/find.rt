@@ -1,0 +1,164 @@
+//! What each method asks of each page.
+ghost use Rattle.std.specs.Prelude.{◌≡◌};
+ghost use Rattle.eu_routes.specs.Route as spec;
+ghost use Rattle.eu_routes.specs.Route.{Reads};
+
+use crate::asks::Route;
+use crate::paths::{app_at, cut, key_at, path_of};
+use crate::queries::{stamp_at, status_at};
+use crate::table::{Page, Routes};
+use eu_base::Fault;
+use std::alloc::Global;
+
+/// The name of a stamp in a query.
+const STAMP: &str = "lastDirtyTimestamp";
+
+/// The name of a status in a query, where it is to override the instance's own.
+const STATUS: &str = "value";
+
+/// The name of a status in a query, where the client says that it overrides the instance's own.
+const OVERRIDDEN: &str = "overriddenstatus";
+
+#[tactic(auto, unfolding(crate::specs::Route::applications_ask))]
+fn ask_applications(method: &str) -> Result<Route, Fault>
+    ensures { Reads result (spec.applications_ask method.now) }
+{
+    match method {
+        "GET" => Ok(Route::All),
+        _ => Err(Fault::NoRoute),
+    }
+}
+
+#[tactic(auto, unfolding(crate::specs::Route::page_ask))]
+fn ask_page(method: &str) -> Result<Route, Fault>
+    ensures { Reads result (spec.page_ask method.now) }
+{
+    match method {
+        "GET" => Ok(Route::StatusPage),
+        _ => Err(Fault::NoRoute),
+    }
+}
+
+#[tactic(auto, unfolding(crate::specs::Route::listing_ask))]
+fn ask_listing(alloc: Global, segment: &str) -> Result<Route, Fault>
+    ensures { Reads result (spec.listing_ask segment.now) }
+{
+    if segment == "delta" {
+        return Ok(Route::Delta);
+    }
+    Ok(Route::OfApp(app_at(alloc, segment)?))
+}
+
+#[tactic(auto, unfolding(crate::specs::Route::application_ask))]
+fn ask_application(alloc: Global, method: &str, path: &str) -> Result<Route, Fault>
+    ensures { Reads result (spec.application_ask method.now path.now) }
+{
+    let (_, segment) = cut(path);
+    match method {
+        "GET" => ask_listing(alloc, segment),
+        "POST" => Ok(Route::Register(app_at(alloc, segment)?)),
+        _ => Err(Fault::NoRoute),
+    }
+}
+
+#[tactic(auto, unfolding(crate::specs::Route::renewal_ask))]
+fn ask_renewal(alloc: Global, path: &str, query: &str) -> Result<Route, Fault>
+    ensures { Reads result (spec.renewal_ask path.now query.now) }
+{
+    let key = key_at(alloc, path)?;
+    let dirty = stamp_at(alloc, query, STAMP)?;
+    let overridden = status_at(alloc, query, OVERRIDDEN)?;
+    Ok(Route::Renew {
+        key,
+        dirty,
+        overridden,
+    })
+}
+
+#[tactic(auto, unfolding(crate::specs::Route::lease_ask))]
+fn ask_lease(alloc: Global, method: &str, path: &str, query: &str) -> Result<Route, Fault>
+    ensures { Reads result (spec.lease_ask method.now path.now query.now) }
+{
+    match method {
+        "GET" => Ok(Route::One(key_at(alloc, path)?)),
+        "PUT" => ask_renewal(alloc, path, query),
+        "DELETE" => Ok(Route::Cancel(key_at(alloc, path)?)),
+        _ => Err(Fault::NoRoute),
+    }
+}
+
+#[tactic(auto, unfolding(crate::specs::Route::setting_ask))]
+fn ask_setting(alloc: Global, path: &str, query: &str) -> Result<Route, Fault>
+    ensures { Reads result (spec.setting_ask path.now query.now) }
+{
+    let key = key_at(alloc, path)?;
+    let Some(status) = status_at(alloc, query, STATUS)? else {
+        return Err(Fault::BadValue);
+    };
+    let dirty = stamp_at(alloc, query, STAMP)?;
+    Ok(Route::SetStatus { key, status, dirty })
+}
+
+#[tactic(auto, unfolding(crate::specs::Route::unsetting_ask))]
+fn ask_unsetting(alloc: Global, path: &str, query: &str) -> Result<Route, Fault>
+    ensures { Reads result (spec.unsetting_ask path.now query.now) }
+{
+    let key = key_at(alloc, path)?;
+    let status = status_at(alloc, query, STATUS)?;
+    let dirty = stamp_at(alloc, query, STAMP)?;
+    Ok(Route::UnsetStatus { key, status, dirty })
+}
+
+#[tactic(auto, unfolding(crate::specs::Route::status_ask))]
+fn ask_status(alloc: Global, method: &str, path: &str, query: &str) -> Result<Route, Fault>
+    ensures { Reads result (spec.status_ask method.now path.now query.now) }
+{
+    let (path, _) = cut(path);
+    match method {
+        "PUT" => ask_setting(alloc, path, query),
+        "DELETE" => ask_unsetting(alloc, path, query),
+        _ => Err(Fault::NoRoute),
+    }
+}
+
+impl Routes {
+    ghost use Rattle.eu_routes.specs.Route.{Reads, route_of};
+
+    /// What a request asks for, by its method, and by its target's parts before and behind the first `?`.
+    ///
+    /// A path begins with `/eureka/v2` or `/eureka`, which `http://` or `https://` and a host may precede (RFC 9112, section
+    /// 3.2.2), and may end with a slash more. Its segments are percent-decoded once the route is known; a name has 1 to 255 bytes
+    /// of UTF-8 then. Of a query, which is a form, the first pair of each name counts, and only the names of the route are looked
+    /// at: a stamp of 1 to 19 digits up to 2^63 - 1, where an empty one is absent, or a status in letters of either case.
+    ///
+    /// | Request | Asks for |
+    /// |---|---|
+    /// | POST apps/{app} | a registration |
+    /// | PUT apps/{app}/{id} with `lastDirtyTimestamp`, `overriddenstatus` | a renewal |
+    /// | DELETE apps/{app}/{id} | a cancellation |
+    /// | PUT apps/{app}/{id}/status with `value`, `lastDirtyTimestamp` | a status that overrides the own one |
+    /// | DELETE apps/{app}/{id}/status with `value`, `lastDirtyTimestamp` | no status to override the own one |
+    /// | GET apps, GET apps/{app}, GET apps/{app}/{id} | all, of an application, one |
+    /// | GET apps/delta | the changes |
+    /// | GET status | the page that tells how the registry is |
+    ///
+    /// The first that holds: `NoRoute` for any other request, `BadPath` where a segment is no name, `BadValue` where a stamp or
+    /// a status isn't one, or where `value` is missing from a PUT. `OutOfMemory` comes where memory is refused. The routes are
+    /// those of Eureka's `ApplicationsResource`, `ApplicationResource` and `InstanceResource`, and `status`, which is this
+    /// registry's own.
+    pub fn find(&self, alloc: Global, method: &str, path: &str, query: &str) -> Result<Route, Fault>
+        ensures { Reads result (route_of method.now path.now query.now) }
+    {
+        let path = path_of(path);
+        let Some(page) = self.page_at(path) else {
+            return Err(Fault::NoRoute);
+        };
+        match page {
+            Page::Applications => ask_applications(method),
+            Page::Application => ask_application(alloc, method, path),
+            Page::Lease => ask_lease(alloc, method, path, query),
+            Page::LeaseStatus => ask_status(alloc, method, path, query),
+            Page::StatusPage => ask_page(method),
+        }
+    }
+}

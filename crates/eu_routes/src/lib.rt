@@ -1,0 +1,15 @@
+//! Which call of the registry a request names: by its method, and by the path and the query of its target.
+#![tactic(auto)]
+
+mod asks;
+mod find;
+mod paths;
+mod queries;
+mod table;
+
+pub use asks::Route;
+pub use queries::{read_stamp, read_status};
+pub use table::Routes;
+
+#[cfg(test)]
+mod tests;

@@ -1,0 +1,136 @@
+//! The path of a target, and the names in its segments.
+ghost use Rattle.std.specs.Prelude.{◌≡◌, IfSome, IfNone, true, false, length, drop, IsAscii};
+ghost use Rattle.std.specs.Cow.{cow_str_bytes};
+ghost use Rattle.eu_routes.specs.Chain.{Gives};
+ghost use Rattle.eu_routes.specs.Path as spec;
+
+use eu_base::{App, Fault, Id, Key};
+use percent_encoding::{DecodeError, percent_decode_str};
+use std::alloc::Global;
+use std::borrow::CowStr;
+
+/// What follows a prefix at the front of a text, in letters of either case.
+fn after_prefix<'t>(text: &'t str, prefix: &str) -> Option<&'t str>
+    requires small { spec.IsSmall prefix.now }
+    requires ascii { IsAscii prefix.now }
+    ensures some { IfSome result (λ rest. (spec.begins_with prefix.now text.now ≡ true) × (rest.now ≡ drop (length prefix.now) text.now)) }
+    ensures none { IfNone result (spec.begins_with prefix.now text.now ≡ false) }
+{
+    let (front, rest) = text.split_at_checked(prefix.len())?;
+    if front.eq_ignore_ascii_case(prefix) {
+        Some(rest)
+    } else {
+        None
+    }
+}
+
+/// What a text has from its first slash on. Nothing where it has none.
+fn from_slash(text: &str) -> &str
+    ensures { result.now ≡ spec.from_slash text.now }
+{
+    match text.find('/') {
+        Some(place) => &text[place..],
+        None => "",
+    }
+}
+
+/// The target without the scheme and the host that it may begin with.
+#[tactic(auto, unfolding(crate::specs::Path::without_host))]
+fn without_host(target: &str) -> &str
+    ensures { result.now ≡ spec.without_host target.now }
+{
+    match after_prefix(target, "http://") {
+        Some(rest) => from_slash(rest),
+        None => match after_prefix(target, "https://") {
+            Some(rest) => from_slash(rest),
+            None => target,
+        },
+    }
+}
+
+/// The path that a target names: without a scheme and a host (RFC 9112, section 3.2.2), and without one slash at the end.
+#[tactic(auto, unfolding(crate::specs::Path::without_slash))]
+pub fn path_of(target: &str) -> &str
+    ensures { result.now ≡ spec.path_of target.now }
+{
+    let path = without_host(target);
+    path.strip_suffix('/').unwrap_or(path)
+}
+
+/// What stands before and behind the last slash of a path. Nothing stands before it where there is none.
+#[tactic(auto, unfolding(crate::specs::Path::parent, crate::specs::Path::last_segment))]
+pub fn cut(path: &str) -> (&str, &str)
+    ensures before { result.0.now ≡ spec.parent path.now }
+    ensures behind { result.1.now ≡ spec.last_segment path.now }
+{
+    match path.rsplit_once('/') {
+        Some((before, behind)) => (before, behind),
+        None => ("", path),
+    }
+}
+
+/// The text that a segment stands for. `BadPath` where it isn't UTF-8 once it is decoded; `OutOfMemory`.
+#[tactic(auto, unfolding(crate::specs::Path::text_at))]
+fn text_at(alloc: Global, segment: &str) -> Result<CowStr<'_, Global>, Fault>
+    ensures { Gives cow_str_bytes result (spec.text_at segment.now) }
+{
+    match percent_decode_str(segment).decode_utf8(alloc) {
+        Ok(text) => Ok(text),
+        Err(DecodeError::OutOfMemory) => Err(Fault::OutOfMemory),
+        Err(DecodeError::Utf8(_)) => Err(Fault::BadPath),
+    }
+}
+
+/// The application of that name. `BadPath` where it is no name; `OutOfMemory`.
+#[tactic(auto, unfolding(crate::specs::Path::app_of, crate::specs::Path::as_name))]
+fn app_of(alloc: Global, text: &str) -> Result<App, Fault>
+    ensures { Gives (λ a. a) result (spec.app_of text.now) }
+{
+    match App::read(alloc, text) {
+        Ok(app) => Ok(app),
+        Err(Fault::OutOfMemory) => Err(Fault::OutOfMemory),
+        Err(_) => Err(Fault::BadPath),
+    }
+}
+
+/// The id of that name. `BadPath` where it is no name; `OutOfMemory`.
+#[tactic(auto, unfolding(crate::specs::Path::as_name))]
+fn id_of(alloc: Global, text: &str) -> Result<Id, Fault>
+    ensures { Gives (λ i. i) result (spec.as_name text.now) }
+{
+    match Id::read(alloc, text) {
+        Ok(id) => Ok(id),
+        Err(Fault::OutOfMemory) => Err(Fault::OutOfMemory),
+        Err(_) => Err(Fault::BadPath),
+    }
+}
+
+/// The application that a segment names. `BadPath` where it names none; `OutOfMemory`.
+#[tactic(auto, unfolding(crate::specs::Path::app_at))]
+pub fn app_at(alloc: Global, segment: &str) -> Result<App, Fault>
+    ensures { Gives (λ a. a) result (spec.app_at segment.now) }
+{
+    let text = text_at(alloc, segment)?;
+    app_of(alloc, text.as_str())
+}
+
+/// The id that a segment names. `BadPath` where it names none; `OutOfMemory`.
+#[tactic(auto, unfolding(crate::specs::Path::id_at))]
+fn id_at(alloc: Global, segment: &str) -> Result<Id, Fault>
+    ensures { Gives (λ i. i) result (spec.id_at segment.now) }
+{
+    let text = text_at(alloc, segment)?;
+    id_of(alloc, text.as_str())
+}
+
+/// The lease that the last two segments of a path name. `BadPath` where one of them is no name; `OutOfMemory`.
+#[tactic(auto, unfolding(crate::specs::Path::key_at))]
+pub fn key_at(alloc: Global, path: &str) -> Result<Key, Fault>
+    ensures { Gives (λ k. k) result (spec.key_at path.now) }
+{
+    let (path, id) = cut(path);
+    let (_, app) = cut(path);
+    let app = app_at(alloc, app)?;
+    let id = id_at(alloc, id)?;
+    Ok(Key { app, id })
+}

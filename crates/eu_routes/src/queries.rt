@@ -1,0 +1,110 @@
+//! The values of a query.
+ghost use Rattle.std.specs.Prelude.{◌≡◌, ◌<◌, ◌^◌, IfOk, map, option_map};
+ghost use Rattle.std.specs.Cow.{cow_str_bytes};
+ghost use Rattle.std.specs.Str.{bytes_eq, str_to_ascii_uppercase};
+ghost use Rattle.eu_routes.specs.Chain.{Gives};
+ghost use Rattle.eu_routes.specs.Query as spec;
+
+use eu_base::{Fault, Stamp, Status};
+use form_urlencoded::{decode, raw_pairs};
+use std::alloc::{AllocError, Global};
+use std::borrow::CowStr;
+
+/// The most digits of a stamp.
+const MOST_DIGITS: usize = 19;
+
+/// The stamp of that text: 1 to 19 decimal digits, up to 2^63 - 1. None for any other text.
+#[tactic(auto, unfolding(crate::specs::Query::stamp_of))]
+pub fn read_stamp(text: &str) -> Option<Stamp>
+    ensures { spec.number_of result ≡ spec.stamp_of text.now }
+{
+    if text.len() > MOST_DIGITS || text.starts_with('+') {
+        return None;
+    }
+    Stamp::new(text.parse::<u64>().ok()?)
+}
+
+/// Whether a text is this one, which is in capitals, in letters of either case.
+fn is_name(text: &str, name: &str) -> bool
+    requires { str_to_ascii_uppercase name.now ≡ name.now }
+    ensures { result ≡ bytes_eq (str_to_ascii_uppercase text.now) name.now }
+{
+    text.eq_ignore_ascii_case(name)
+}
+
+/// The status of that name, in letters of either case. None for any other text.
+#[tactic(auto, unfolding(crate::specs::Query::status_in))]
+pub fn read_status(text: &str) -> Option<Status>
+    ensures { result ≡ spec.status_in text.now }
+{
+    if is_name(text, "UP") {
+        return Some(Status::Up);
+    }
+    if is_name(text, "DOWN") {
+        return Some(Status::Down);
+    }
+    if is_name(text, "STARTING") {
+        return Some(Status::Starting);
+    }
+    if is_name(text, "OUT_OF_SERVICE") {
+        return Some(Status::OutOfService);
+    }
+    if is_name(text, "UNKNOWN") {
+        return Some(Status::Unknown);
+    }
+    None
+}
+
+/// The value of the first pair of that name in a query, if one has it. A name or a value borrows the query where nothing in
+/// it is encoded.
+///
+/// The only fault is want of memory.
+#[tactic(auto, unfolding(crate::specs::Query::value_at))]
+fn value_at<'q>(
+    alloc: Global,
+    query: &'q str,
+    name: &str,
+) -> Result<Option<CowStr<'q, Global>>, AllocError>
+    ensures { IfOk result (λ value. option_map cow_str_bytes value ≡ spec.value_at name.now query.now) }
+{
+    for (pair_name, value) in raw_pairs(query.as_bytes()) {
+        if decode(alloc, pair_name)?.as_str() == name {
+            return Ok(Some(decode(alloc, value)?));
+        }
+    }
+    Ok(None)
+}
+
+/// The stamp of that name in a query. None where it has no value, or an empty one; `BadValue` for any other text;
+/// `OutOfMemory`.
+#[tactic(auto, unfolding(crate::specs::Query::stamp_at))]
+pub fn stamp_at(alloc: Global, query: &str, name: &str) -> Result<Option<Stamp>, Fault>
+    ensures { Gives spec.number_of result (spec.stamp_at name.now query.now) }
+{
+    let Some(value) = value_at(alloc, query, name)? else {
+        return Ok(None);
+    };
+    let text = value.as_str();
+    if text.is_empty() {
+        return Ok(None);
+    }
+    match read_stamp(text) {
+        Some(stamp) => Ok(Some(stamp)),
+        None => Err(Fault::BadValue),
+    }
+}
+
+/// The status of that name in a query. None where it has no value; `BadValue` for any text that is no status, an empty one
+/// too; `OutOfMemory`.
+#[tactic(auto, unfolding(crate::specs::Query::status_at))]
+pub fn status_at(alloc: Global, query: &str, name: &str) -> Result<Option<Status>, Fault>
+    ensures { Gives (λ s. s) result (spec.status_at name.now query.now) }
+{
+    let Some(value) = value_at(alloc, query, name)? else {
+        return Ok(None);
+    };
+    match read_status(value.as_str()) {
+        Some(status) => Ok(Some(status)),
+        None => Err(Fault::BadValue),
+    }
+}

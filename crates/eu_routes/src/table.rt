@@ -1,0 +1,80 @@
+//! The table of paths.
+ghost use Rattle.std.specs.Prelude.{◌≡◌, IfOk, map, option_map};
+ghost use Rattle.matchit.specs.Seek.{first};
+ghost use Rattle.eu_routes.specs.Table.{rows_for, table, page_of};
+
+use matchit::Router;
+use std::alloc::{AllocError, Global};
+
+/// What a path names.
+#[derive(Clone, Copy, Debug, PartialEq, Eq)]
+pub enum Page {
+    /// All applications.
+    Applications,
+    /// One application.
+    Application,
+    /// One lease.
+    Lease,
+    /// The status of a lease's instance.
+    LeaseStatus,
+    /// The page that tells how the registry is.
+    StatusPage,
+}
+
+/// Each page's path, under both prefixes.
+const PATHS: [(&str, Page); 10] = [
+    ("/eureka/v2/apps", Page::Applications),
+    ("/eureka/v2/apps/{app}", Page::Application),
+    ("/eureka/v2/apps/{app}/{id}", Page::Lease),
+    ("/eureka/v2/apps/{app}/{id}/status", Page::LeaseStatus),
+    ("/eureka/v2/status", Page::StatusPage),
+    ("/eureka/apps", Page::Applications),
+    ("/eureka/apps/{app}", Page::Application),
+    ("/eureka/apps/{app}/{id}", Page::Lease),
+    ("/eureka/apps/{app}/{id}/status", Page::LeaseStatus),
+    ("/eureka/status", Page::StatusPage),
+];
+
+/// A router of these paths. No two of them conflict, and the router reads each.
+///
+/// The only fault is want of memory.
+#[tactic(auto, unfolding(crate::specs::Table::rows_onto))]
+fn router_of(alloc: Global, paths: &[(&str, Page)]) -> Result<Router<Page>, AllocError>
+    ensures { IfOk result (λ router. router ≡ rows_for (map (λ p. (p.0.now, p.1)) paths.now)) }
+{
+    let mut router = Router::new(alloc);
+    for (path, page) in paths {
+        if router.insert(path, *page).is_err() {
+            return Err(AllocError);
+        }
+    }
+    Ok(router)
+}
+
+/// The routes of the registry's requests.
+#[derive(Drop)]
+pub struct Routes {
+    router: Router<Page>,
+    ghost built: { router ≡ rows_for table },
+}
+
+impl Routes {
+    /// The routes. They are built once, and serve any number of requests.
+    ///
+    /// The only fault is want of memory.
+    #[tactic(auto, unfolding(crate::specs::Table::table))]
+    pub fn new(alloc: Global) -> Result<Routes, AllocError> {
+        let router = router_of(alloc, &PATHS)?;
+        Ok(Routes { router })
+    }
+
+    /// The page that a path names, if it names one.
+    pub(crate) fn page_at(&self, path: &str) -> Option<Page>
+        ensures { result ≡ page_of path.now }
+    {
+        match self.router.at(path) {
+            Ok(found) => Some(*found.value),
+            Err(_) => None,
+        }
+    }
+}

@@ -4,7 +4,7 @@ set -euo pipefail
 top=$(cd "$(dirname "${BASH_SOURCE[0]}")/.." && pwd)
 text=$(mktemp)
 trap 'rm -f "$text"' EXIT
-for lines in 466000 1864134; do
+for lines in 466033 1864134; do
     awk -v n="$lines" 'BEGIN { print "open 1"; for (i = 0; i < n; i++) print "counts 0" }' > "$text"
     for _ in 1 2 3; do
         TIMEFORMAT="$lines lines: %R s, %U s of processor time"

@@ -8,3 +8,5 @@ pub mod CancelLemmas
 pub mod LookLemmas
 pub mod PassLemmas
 pub mod OnceLemmas
+pub mod StepLemmas
+pub mod StateLemmas

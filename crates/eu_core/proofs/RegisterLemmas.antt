@@ -1,6 +1,6 @@
 -- A registration that was written is an answer of the machine
 use Rattle.std.proofs.Common.{◌≡◌, ℕ, ◌^◌, Bool, true, false, refl, sym, ap, ◌∙◌, subst, arith}
-use Rattle.std.specs.Prelude.{cond, Option, Some, None, Result, Ok, Err, is_some, not, ◌==◌, IsSomeAnd, IsErrAnd, OnOk, OnErr, IfOk, IfErr}
+use Rattle.std.specs.Prelude.{cond, Option, Some, None, Result, Ok, Err, is_some, not, ◌==◌, IsErrAnd, OnOk, OnErr, IfOk, IfErr}
 use Rattle.eu_model.specs.declared.commands.Command.{Command}
 use Rattle.eu_model.specs.declared.commands.Reply.{Reply}
 use Rattle.std.proofs.lemmas.Bool.Decides.{nat_tests}

@@ -82,6 +82,19 @@ module _ (p : Plain) (k : Key) (dirty : Option Stamp) (overridden : Option Statu
       ap (λ (x : Change Listed). kept_renew_fault p x.counted) (change_of l false at e) ∙ ap (λ x. cond x (Some Exhausted) None) full in
       renew_refused k dirty overridden r t p Exhausted (rw f refl)
 
+  -- one that isn't counted may want memory
+  uncounted_memory : (c : Change Listed) → renewal p ≡ c → c.counted ≡ false → Answers p (Renew k dirty overridden r) t (Err OutOfMemory) p
+  uncounted_memory c e counted =
+      let f : kept_renew_fault p (renewal p).counted ≡ None =
+      ap (λ (x : Change Listed). kept_renew_fault p x.counted) e ∙ ap (λ b. cond (b && (p.since == 2 ^ 62)) (Some Exhausted) None) counted in
+      renew_refused k dirty overridden r t p OutOfMemory (rw f refl)
+
+  pub absent_memory : get p.leases k ≡ None → Answers p (Renew k dirty overridden r) t (Err OutOfMemory) p
+  absent_memory at = uncounted_memory (kept_renew None (get p.rows k.id) p.expected dirty overridden r t) (ap (λ o. kept_renew o (get p.rows k.id) p.expected dirty overridden r t) at) refl
+
+  pub unknown_memory : (l : Listed) → get p.leases k ≡ Some l → is_status (ruled l) Unknown ≡ true → Answers p (Renew k dirty overridden r) t (Err OutOfMemory) p
+  unknown_memory l at e = uncounted_memory _ (change_of l true at e) refl
+
   -- the reply to a renewal that gives a lease this status, and the row that it brings
   abbrev pub reply_of : Listed → Status → Reply
   reply_of l status = renew_reply dirty (record l.instance { status = status }) r

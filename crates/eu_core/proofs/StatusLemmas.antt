@@ -18,7 +18,6 @@ use Rattle.eu_model.specs.Record.{renewed}
 use Rattle.eu_model.specs.Change.{Change, uncounted, stamped, in_status, out_of_override, up_after}
 use Rattle.eu_model.specs.Plain.{Plain, listed}
 use Rattle.eu_model.specs.Answers.{Answers}
-use Rattle.eu_model.specs.Maps.{with_value}
 use Rattle.eu_model.specs.Kept.{raised, kept, kept_expired, kept_seen, kept_one, kept_set_status, kept_unset_status, after}
 use Rattle.eu_model.proofs.RaiseLemmas.{both_ways}
 use Rattle.eu_model.proofs.StatusLemmas.{sets, set_answers, unsets, unset_answers}

@@ -4,3 +4,5 @@ pub mod Registry
 pub mod Shown
 pub mod Pass
 pub mod Evicts
+pub mod Stepped
+pub mod State

@@ -2,12 +2,18 @@
 #![tactic(auto)]
 
 mod joins;
+mod lots;
 mod overrides;
 mod pass;
+mod prepare;
 mod registry;
 mod statuses;
+mod step;
 
 pub use registry::Registry;
+pub use step::Stepped;
 
+#[cfg(test)]
+mod step_tests;
 #[cfg(test)]
 mod tests;

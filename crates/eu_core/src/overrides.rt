@@ -1,10 +1,13 @@
 //! The override rows, by the ids of instances.
 ghost use Rattle.std.specs.Prelude.{◌≡◌, ◌<◌, IsSome, IsOk, IfOk, None};
 ghost use Rattle.std.specs.FinMap as map;
+ghost use Rattle.std.specs.Prelude.{map as all};
+ghost use Rattle.std.specs.Map.Iter.{deref_pair};
 ghost use Rattle.eu_core.specs.Rows.{with_put, with_row};
 
 use crate::statuses::is_status;
 use eu_base::{Id, Status};
+use eu_model::Rows;
 use indexmap::IndexMap;
 use std::alloc::{AllocError, Global};
 use std::marker::Model;
@@ -42,6 +45,30 @@ impl Overrides {
         ensures { result ≡ map.get self.now.rows id.now }
     {
         self.table.get(id).copied()
+    }
+
+    /// The rows, in the order of their ids. `OutOfMemory`.
+    pub fn listed(&self, alloc: Global) -> Result<Rows, AllocError>
+        ensures { IfOk result (λ rows. rows ≡ map.entries self.now.rows) }
+    {
+        let sorted = self.sorted(alloc)?;
+        let mut rows = Vec::with_capacity(alloc, sorted.len())?;
+        for row in &sorted {
+            rows.push((row.0.copy(alloc)?, *row.1))?;
+        }
+        Ok(Rows::new(rows))
+    }
+
+    /// The same, not copied.
+    fn sorted(&self, alloc: Global) -> Result<Vec<(&Id, &Status)>, AllocError>
+        ensures { IfOk result (λ rows. all deref_pair rows.items ≡ map.entries self.now.rows) }
+    {
+        let mut rows = Vec::new(alloc);
+        for (id, status) in self.table.iter() {
+            rows.push((id, status))?;
+        }
+        rows.sort_by_key(|row| row.0)?;
+        Ok(rows)
     }
 
     /// Takes all memory that the row of an id wants, and gives what is to be put: nothing, where there is no row, or where the id

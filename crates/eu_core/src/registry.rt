@@ -1,5 +1,5 @@
 //! The registry.
-ghost use Rattle.std.specs.Prelude.{◌≡◌, ◌≢◌, ℕ, Bool, false, OnOk, OnErr, None, Ok, List, IfOk, IfErr, IsOk};
+ghost use Rattle.std.specs.Prelude.{◌≡◌, ◌≢◌, ℕ, Bool, false, replicate, OnOk, OnErr, Option, None, Some, Ok, Err, List, IfOk, IfErr, IsOk};
 ghost use Rattle.std.specs.Option.{option_copied};
 ghost use Rattle.std.specs.FinMap as map;
 ghost use Rattle.eu_model.specs.Change.{renew_reply};
@@ -7,21 +7,24 @@ ghost use Rattle.eu_model.specs.Machine.{opening};
 ghost use Rattle.eu_model.specs.Plain.{plain};
 ghost use Rattle.eu_model.specs.Answers.{Answers, IsRefusal, Shows};
 ghost use Rattle.eu_model.specs.View.{counts, one, listing};
-ghost use Rattle.eu_model.specs.Kept.{after, kept_join_fault, kept_one};
+ghost use Rattle.eu_model.specs.Kept.{after, kept_join_fault, kept_one, kept_renew};
 ghost use Rattle.eu_model.specs.Evict.{extra_time};
+ghost use Rattle.eu_base.specs.declared.statuses.Status.{Status};
 ghost use Rattle.eu_core.specs.Evicts.{Draws};
 ghost use Rattle.eu_core.specs.Joins.{IsRead, joined_by};
 ghost use Rattle.eu_core.specs.Shown.{shown};
+ghost use Rattle.eu_core.specs.State.{state_of};
+ghost use Rattle.eu_core.specs.Stepped.{instance_at};
 
 use crate::joins::{HeldPart, held_part, join_held, join_new};
 use crate::overrides::Overrides;
-use crate::pass::run_pass;
+use crate::pass::{Passed, run_pass};
 use crate::statuses::{brought, is_status, told};
 use eu_base::{App, Config, Fault, Instance, Key, Moment, Stamp, Status};
 use eu_clock::Chooser;
 use eu_lease::override_rule;
 use eu_meter::{Rate, Threshold};
-use eu_model::{Command, Counts, Keys, Listed, Reply, Times};
+use eu_model::{Command, Counts, Keys, Listed, Listing, Reply, State, Times};
 use eu_store::{Held, Leases, MOST_LEASES};
 use std::alloc::{AllocError, Global};
 use std::marker::Model;
@@ -351,10 +354,29 @@ impl Registry {
         ensures err { OnErr result (self.new ≡ self.old) }
         ensures unasked { OnErr result (chooser.new ≡ chooser.old) }
     {
+        let passed = self.pass(alloc, moment, 0, chooser)?;
+        Ok(Reply::Evicted(Keys::new(passed.victims)))
+    }
+
+    /// Evicts as `evict` does, and hands back the victims with so many replies that tell them.
+    pub(crate) fn pass<C: Chooser>(
+        &mut self,
+        alloc: Global,
+        moment: Moment,
+        replies: u32,
+        chooser: &mut C,
+    ) -> Result<Passed, Fault>
+        ensures answers { IfOk result (λ v. Answers self.old Command.Evict moment (Ok (Reply.Evicted v.victims.items)) self.new) }
+        ensures drawn { IfOk result (λ v. Draws C.asks self.old moment chooser.old v.victims.items chooser.new) }
+        ensures replies { IfOk result (λ v. v.replies.items ≡ replicate replies (Reply.Evicted v.victims.items)) }
+        ensures refused { IfErr result (λ f. Answers self.old Command.Evict moment (Err f) self.old) }
+        ensures err { OnErr result (self.new ≡ self.old) }
+        ensures unasked { OnErr result (chooser.new ≡ chooser.old) }
+    {
         let config = self.threshold.config();
         let permitted = self.threshold.permitted(self.rate.last());
         let extra = extra_time(&config, self.previous, moment);
-        let victims = run_pass(
+        let passed = run_pass(
             alloc,
             &mut self.leases,
             &mut self.rows,
@@ -362,10 +384,11 @@ impl Registry {
             permitted,
             moment,
             extra,
+            replies,
             chooser,
         )?;
         self.previous = Some(moment);
-        Ok(Reply::Evicted(Keys::new(victims)))
+        Ok(passed)
     }
 
     /// The instance and the moments of a lease, where it is visible at the moment
@@ -389,6 +412,78 @@ impl Registry {
         ensures { IfOk result (λ leases. Shows self.now (listing (option_copied app.entry)) leases.items) }
     {
         self.leases.listed(alloc, app)
+    }
+
+    /// The instance that is held under that key. Takes no memory.
+    pub(crate) fn held(&self, key: &Key) -> Option<&Instance>
+        ensures { option_copied result ≡ instance_at self.now key.now }
+    {
+        match self.leases.get(key) {
+            Some(held) => Some(held.instance()),
+            None => None,
+        }
+    }
+
+    /// The registry as plain data: settings, number expected, leases in key order, override rows in the order of their ids, the
+    /// counts of renewals and the previous pass. `OutOfMemory`.
+    pub fn plain(&self, alloc: Global) -> Result<State, AllocError>
+        ensures { IfOk result (λ s. s ≡ state_of self.now) }
+    {
+        let leases = Listing::new(self.leases.listed(alloc, None)?);
+        let rows = self.rows.listed(alloc)?;
+        let mut rate = self.rate;
+        let last = rate.last();
+        Ok(State {
+            config: self.threshold.config(),
+            expected: self.threshold.expected(),
+            leases,
+            rows,
+            last,
+            since: rate.roll(),
+            previous: self.previous,
+        })
+    }
+
+    /// Whether a lease of that key can be registered: `Full` or `Exhausted` where the machine has that fault. Takes no memory.
+    pub(crate) fn check_join(&self, key: &Key) -> Result<(), Fault>
+        ensures ok { OnOk result (kept_join_fault self.now key.now ≡ None) }
+        ensures refused { IfErr result (λ f. kept_join_fault self.now key.now ≡ Some f) }
+    {
+        if self.leases.get(key).is_some() {
+            return Ok(());
+        }
+        if self.leases.len() == MOST_LEASES {
+            return Err(Fault::Full);
+        }
+        let mut threshold = self.threshold;
+        threshold.joined()
+    }
+
+    /// The reply that a renewal is given, if it isn't refused. `Exhausted` where the machine has that fault, else `OutOfMemory`.
+    pub(crate) fn renewal_reply(
+        &self,
+        alloc: Global,
+        key: &Key,
+        dirty: Option<Stamp>,
+        replicated: bool,
+    ) -> Result<Reply, Fault>
+        ensures reply { IfOk result (λ reply. (overridden : Option Status) (t : ℕ) → reply ≡ (kept_renew (map.get self.now.leases key.now) (map.get self.now.rows key.now.id) self.now.expected dirty overridden replicated t).reply) }
+        ensures memory { OnOk result ((overridden : Option Status) (t : ℕ) → Answers self.now (Command.Renew key.now dirty overridden replicated) t (Err Fault.OutOfMemory) self.now) }
+        ensures refused { IfErr result (λ f. (overridden : Option Status) (t : ℕ) → Answers self.now (Command.Renew key.now dirty overridden replicated) t (Err f) self.now) }
+    {
+        let row = self.rows.get(&key.id);
+        let Some(lease) = self.leases.get(key) else {
+            return Ok(Reply::NotFound);
+        };
+        let own = lease.instance().status;
+        let ruled = override_rule(own, row, Some(own), replicated);
+        if is_status(ruled, Status::Unknown) {
+            return Ok(Reply::NotFound);
+        }
+        let mut rate = self.rate;
+        rate.count()?;
+        let reply = renew_reply(alloc, lease.instance(), ruled, dirty, replicated)?;
+        Ok(reply)
     }
 
     /// What is held under that key, where it is visible at the moment.

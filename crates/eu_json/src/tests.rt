@@ -1,4 +1,6 @@
 //! Instances that are read and written, by bodies as clients send them.
+ghost use Rattle.std.specs.Prelude.{◌<◌};
+
 use crate::{application_value, applications_value, held_value, instance_value, read_instance};
 use eu_base::{App, Fault, Instance, Moment, Status};
 use eu_model::{Listed, Times};
@@ -51,84 +53,110 @@ fn with(alloc: Global, members: &str) -> Result<Instance, Fault> {
     read(alloc, text.as_str())
 }
 
-/// The body of an instance with an id of 256 bytes and these members.
-fn with_long_id(alloc: Global, members: &str) -> Result<Instance, Fault> {
-    let id = "x".repeat(alloc, 256)?;
-    let text = format!(in alloc; r#"{{"instance":{{"instanceId":"{id}",{members}}}}}"#)?;
-    read(alloc, text.as_str())
+/// The members of an instance with which nothing is wrong: their names and their JSON.
+const SOUND: [(&str, &str); 8] = [
+    ("instanceId", r#""i1""#),
+    ("hostName", r#""h""#),
+    ("ipAddr", r#""x""#),
+    ("app", r#""a""#),
+    ("dataCenterInfo", r#"{"name":"MyOwn"}"#),
+    ("lastDirtyTimestamp", "5"),
+    ("leaseInfo", r#"{"durationInSecs":90}"#),
+    ("countryId", "1"),
+];
+
+/// The faults in the order in which they are told, each with the members that make it. `NotJson` stands beside `NotWhole`
+/// alone, since it has no instance: `what_is_no_instance_is_refused` has that pair.
+const WRONG: [(Fault, &[(&str, &str)]); 11] = [
+    (Fault::NotWhole, &[("countryId", "1.5")]),
+    (
+        Fault::MissingId,
+        &[("instanceId", r#""""#), ("hostName", "null")],
+    ),
+    (Fault::MissingHost, &[("hostName", r#""""#)]),
+    (Fault::MissingIp, &[("ipAddr", "7")]),
+    (Fault::MissingApp, &[("app", r#""""#)]),
+    (Fault::WrongApp, &[("app", r#""b""#)]),
+    (Fault::MissingCenter, &[("dataCenterInfo", "[]")]),
+    (
+        Fault::MissingCenterName,
+        &[("dataCenterInfo", r#"{"name":null}"#)],
+    ),
+    (Fault::TooLong, &[("instanceId", ID_OF_256_BYTES)]),
+    (Fault::BadStamp, &[("lastDirtyTimestamp", "-1")]),
+    (
+        Fault::BadDuration,
+        &[("leaseInfo", r#"{"durationInSecs":2147484}"#)],
+    ),
+];
+
+const ID_OF_256_BYTES: &str =
+    r#""xxxxxxxxxxxxxxxxxxxxxxxxxxxxxxxxxxxxxxxxxxxxxxxxxxxxxxxxxxxxxxxxxxxxxxxxxxxxxxxxxxxxxxxxxxxxxxxxxxxxxxxxxxxxxxxxxxxxxxxxxxxxxxxxxxxxxxxxxxxxxxxxxxxxxxxxxxxxxxxxxxxxxxxxxxxxxxxxxxxxxxxxxxxxxxxxxxxxxxxxxxxxxxxxxxxxxxxxxxxxxxxxxxxxxxxxxxxxxxxxxxxxxxxxxxxxxxxx""#;
+
+/// The JSON of the member of that name.
+fn json_of<'t>(members: &[(&str, &'t str)], name: &str) -> Option<&'t str> {
+    for (own, json) in members {
+        if *own == name {
+            return Some(*json);
+        }
+    }
+    None
 }
 
-/// Each body has its fault and those that are told after it.
+/// Whether two faults are made by one member: then no body has both.
+fn exclude(first: &[(&str, &str)], second: &[(&str, &str)]) -> bool {
+    for (name, _) in first {
+        if json_of(second, name).is_some() {
+            return true;
+        }
+    }
+    false
+}
+
+/// The body of an instance that is sound but for these members.
+fn body_with(
+    alloc: Global,
+    first: &[(&str, &str)],
+    second: &[(&str, &str)],
+) -> Result<String, AllocError> {
+    let mut members = Vec::new(alloc);
+    for (name, sound) in &SOUND {
+        let json = json_of(first, name)
+            .or(json_of(second, name))
+            .unwrap_or(*sound);
+        members.push(format!(in alloc; r#""{name}":{json}"#)?)?;
+    }
+    let members = members.join(alloc, ",")?;
+    format!(in alloc; r#"{{"instance":{{{members}}}}}"#)
+}
+
+/// The first later fault beside which the fault at that place isn't told.
+fn hides(alloc: Global, place: usize) -> Result<Option<Fault>, AllocError>
+    requires { place < 11 }
+{
+    let (fault, members) = &WRONG[place];
+    for (later, others) in &WRONG[place + 1..] {
+        let body = body_with(alloc, members, others)?;
+        if !exclude(members, others) && read(alloc, body.as_str()).err() != Some(*fault) {
+            return Ok(Some(*later));
+        }
+    }
+    Ok(None)
+}
+
 #[test]
-fn the_first_fault_is_told(rt: HostRuntime) -> Result<(), Fail> {
-    let blank = [
-        (
-            Fault::NotJson,
-            r#"{"Instance":{"instanceId":"","hostName":null,"ipAddr":7,"x":1.5}}"#,
-        ),
-        (
-            Fault::NotWhole,
-            r#"{"instance":{"instanceId":"","hostName":null,"ipAddr":7,"x":1.5}}"#,
-        ),
-        (
-            Fault::MissingId,
-            r#"{"instance":{"instanceId":"","hostName":null,"ipAddr":7,"lastDirtyTimestamp":-1}}"#,
-        ),
-    ];
-    for (fault, text) in blank {
-        assert!(rt; read(rt.alloc(), text).err() == Some(fault), "at {text}");
-    }
-    let long = [
-        (
-            Fault::MissingHost,
-            r#""ipAddr":7,"dataCenterInfo":[],"lastDirtyTimestamp":-1,"leaseInfo":{"durationInSecs":2147484}"#,
-        ),
-        (
-            Fault::MissingIp,
-            r#""hostName":"h","ipAddr":7,"dataCenterInfo":[],"lastDirtyTimestamp":-1,"leaseInfo":{"durationInSecs":2147484}"#,
-        ),
-        (
-            Fault::MissingApp,
-            r#""hostName":"h","ipAddr":"x","app":"","dataCenterInfo":[],"lastDirtyTimestamp":-1,"leaseInfo":{"durationInSecs":2147484}"#,
-        ),
-        (
-            Fault::WrongApp,
-            r#""hostName":"h","ipAddr":"x","app":"b","dataCenterInfo":[],"lastDirtyTimestamp":-1,"leaseInfo":{"durationInSecs":2147484}"#,
-        ),
-        (
-            Fault::MissingCenter,
-            r#""hostName":"h","ipAddr":"x","app":"A","dataCenterInfo":[],"lastDirtyTimestamp":-1,"leaseInfo":{"durationInSecs":2147484}"#,
-        ),
-        (
-            Fault::MissingCenterName,
-            r#""hostName":"h","ipAddr":"x","app":"A","dataCenterInfo":{"name":null},"lastDirtyTimestamp":-1,"leaseInfo":{"durationInSecs":2147484}"#,
-        ),
-        (
-            Fault::TooLong,
-            r#""hostName":"h","ipAddr":"x","app":"A","dataCenterInfo":{"name":""},"lastDirtyTimestamp":-1,"leaseInfo":{"durationInSecs":2147484}"#,
-        ),
-    ];
-    for (fault, members) in long {
+fn the_first_of_two_faults_is_told(rt: HostRuntime) -> Result<(), Fail> {
+    let sound = body_with(rt.alloc(), &[], &[])?;
+    assert!(rt; read(rt.alloc(), sound.as_str()).is_ok());
+    for place in 0..WRONG.len() {
+        let (fault, members) = &WRONG[place];
+        let alone = body_with(rt.alloc(), members, &[])?;
         assert!(rt;
-            with_long_id(rt.alloc(), members).err() == Some(fault),
-            "at {members}"
+            read(rt.alloc(), alone.as_str()).err() == Some(*fault),
+            "at {fault:?}"
         );
-    }
-    let short = [
-        (
-            Fault::BadStamp,
-            r#","lastDirtyTimestamp":-1,"leaseInfo":{"durationInSecs":2147484}"#,
-        ),
-        (
-            Fault::BadDuration,
-            r#","leaseInfo":{"durationInSecs":2147484}"#,
-        ),
-    ];
-    for (fault, members) in short {
-        assert!(rt;
-            with(rt.alloc(), members).err() == Some(fault),
-            "at {members}"
-        );
+        let hidden_by = hides(rt.alloc(), place)?;
+        assert!(rt; hidden_by.is_none(), "{fault:?} beside {hidden_by:?}");
     }
     Ok(())
 }

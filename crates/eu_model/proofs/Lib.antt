@@ -16,4 +16,7 @@ pub mod EvictLemmas
 pub mod PassLemmas
 pub mod RunLemmas
 pub mod RaiseLemmas
+pub mod HeldLemmas
+pub mod AccountLemmas
 pub mod LawLemmas
+pub mod DeterminedLemmas

@@ -1,5 +1,5 @@
 -- Nothing but the plain form decides what may happen next, and what is so of every eviction pass
-use Rattle.std.specs.Prelude.{◌≡◌, ℕ, ◌≤◌, true, Some, List, [], length, Contains}
+use Rattle.std.specs.Prelude.{◌≡◌, ℕ, ◌+◌, ◌≤◌, true, Some, List, [], length, Contains}
 use Rattle.std.specs.FinMap.{get, len}
 use Rattle.eu_base.specs.declared.names.Key.{Key}
 use Rattle.eu_model.specs.declared.commands.Command.{Command}
@@ -11,6 +11,7 @@ use Rattle.eu_model.specs.Record.{Record, is_expired}
 use Rattle.eu_model.specs.Marks.{last}
 use Rattle.eu_model.specs.Meter.{threshold, share}
 use Rattle.eu_model.specs.Machine.{Machine}
+use Rattle.eu_model.specs.Delta.{added_by, removed_by}
 use Rattle.eu_model.specs.Evict.{extra_time}
 use Rattle.eu_model.specs.Step.{Step}
 use Rattle.eu_model.specs.Run.{fault}
@@ -53,3 +54,11 @@ abbrev pub PreservationForbids : Type 0
 PreservationForbids =
     (s : Machine) (t : ℕ) (victims : List Key) (new : Machine) → Step s Evict t (Evicted victims) new
     → s.config.preservation ≡ true → last s.marks ≤ threshold s.config s.expected → victims ≡ []
+
+-- ---- accounts
+
+-- what a step leaves held is what was held, with what came by it, less what went
+abbrev pub LeasesAreAccounted : Type 0
+LeasesAreAccounted =
+    (s : Machine) (c : Command) (t : ℕ) (reply : Reply) (new : Machine) → Step s c t reply new
+    → len new.leases + removed_by c reply ≡ len s.leases + added_by c reply

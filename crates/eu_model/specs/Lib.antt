@@ -10,8 +10,11 @@ pub mod Step
 pub mod Run
 pub mod Delta
 pub mod Plain
+pub mod Runs
 pub mod View
 pub mod Answers
 pub mod Law
 pub mod Kept
 pub mod PlainCode
+pub mod Owned
+pub mod State

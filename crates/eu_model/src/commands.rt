@@ -1,7 +1,10 @@
 //! Commands and replies.
+ghost use Rattle.std.specs.Prelude.{◌≡◌, true, IfOk, IsOk};
+ghost use Rattle.eu_model.specs.Owned.{owns_nothing};
 
 use crate::Keys;
 use eu_base::{Instance, Key, Moment, Stamp, Status};
+use std::alloc::{AllocError, Global};
 
 /// What changes a registry. Each is one step of the lease machine.
 #[derive(Debug, Drop)]
@@ -66,6 +69,131 @@ pub enum Command {
     Evict,
 }
 
+impl Command {
+    /// The same command once more. Takes memory for its key or its instance alone.
+    pub fn copy(&self, alloc: Global) -> Result<Command, AllocError>
+        ensures { IfOk result (λ c. c ≡ self.now) }
+    {
+        match self {
+            Command::Register {
+                instance,
+                replicated,
+            } => copy_register(alloc, instance, *replicated),
+            Command::Renew {
+                key,
+                dirty,
+                overridden,
+                replicated,
+            } => copy_renew(alloc, key, *dirty, *overridden, *replicated),
+            Command::Cancel { key, replicated } => copy_cancel(alloc, key, *replicated),
+            Command::SetStatus {
+                key,
+                status,
+                dirty,
+                replicated,
+            } => copy_set_status(alloc, key, *status, *dirty, *replicated),
+            Command::UnsetStatus {
+                key,
+                status,
+                dirty,
+                replicated,
+            } => copy_unset_status(alloc, key, *status, *dirty, *replicated),
+            Command::Adopt { instance } => copy_adopt(alloc, instance),
+            Command::Roll => Ok(Command::Roll),
+            Command::Update => Ok(Command::Update),
+            Command::Evict => Ok(Command::Evict),
+        }
+    }
+}
+
+/// A registration of a copy of the instance.
+fn copy_register(
+    alloc: Global,
+    instance: &Instance,
+    replicated: bool,
+) -> Result<Command, AllocError>
+    ensures { IfOk result (λ c. c ≡ Command.Register instance.now replicated) }
+{
+    let instance = instance.copy(alloc)?;
+    Ok(Command::Register {
+        instance,
+        replicated,
+    })
+}
+
+/// A renewal under a copy of the key.
+fn copy_renew(
+    alloc: Global,
+    key: &Key,
+    dirty: Option<Stamp>,
+    overridden: Option<Status>,
+    replicated: bool,
+) -> Result<Command, AllocError>
+    ensures { IfOk result (λ c. c ≡ Command.Renew key.now dirty overridden replicated) }
+{
+    let key = key.copy(alloc)?;
+    Ok(Command::Renew {
+        key,
+        dirty,
+        overridden,
+        replicated,
+    })
+}
+
+/// A cancel under a copy of the key.
+fn copy_cancel(alloc: Global, key: &Key, replicated: bool) -> Result<Command, AllocError>
+    ensures { IfOk result (λ c. c ≡ Command.Cancel key.now replicated) }
+{
+    let key = key.copy(alloc)?;
+    Ok(Command::Cancel { key, replicated })
+}
+
+/// A status set under a copy of the key.
+fn copy_set_status(
+    alloc: Global,
+    key: &Key,
+    status: Status,
+    dirty: Option<Stamp>,
+    replicated: bool,
+) -> Result<Command, AllocError>
+    ensures { IfOk result (λ c. c ≡ Command.SetStatus key.now status dirty replicated) }
+{
+    let key = key.copy(alloc)?;
+    Ok(Command::SetStatus {
+        key,
+        status,
+        dirty,
+        replicated,
+    })
+}
+
+/// An override taken back under a copy of the key.
+fn copy_unset_status(
+    alloc: Global,
+    key: &Key,
+    status: Option<Status>,
+    dirty: Option<Stamp>,
+    replicated: bool,
+) -> Result<Command, AllocError>
+    ensures { IfOk result (λ c. c ≡ Command.UnsetStatus key.now status dirty replicated) }
+{
+    let key = key.copy(alloc)?;
+    Ok(Command::UnsetStatus {
+        key,
+        status,
+        dirty,
+        replicated,
+    })
+}
+
+/// An adoption of a copy of the instance.
+fn copy_adopt(alloc: Global, instance: &Instance) -> Result<Command, AllocError>
+    ensures { IfOk result (λ c. c ≡ Command.Adopt instance.now) }
+{
+    let instance = instance.copy(alloc)?;
+    Ok(Command::Adopt { instance })
+}
+
 /// What a command is answered.
 #[derive(Debug, Drop)]
 pub enum Reply {
@@ -88,6 +216,31 @@ pub enum Reply {
     Expected(u64),
     /// The leases that a pass took out.
     Evicted(Keys),
+}
+
+impl Reply {
+    /// The same reply once more. Takes memory for a `Conflict` and for an `Evicted` alone.
+    pub fn copy(&self, alloc: Global) -> Result<Reply, AllocError>
+        ensures same { IfOk result (λ r. r ≡ self.now) }
+        ensures memory { owns_nothing self.now ≡ true → IsOk result }
+    {
+        match self {
+            Reply::Registered { fresh } => Ok(Reply::Registered { fresh: *fresh }),
+            Reply::Done => Ok(Reply::Done),
+            Reply::NotFound => Ok(Reply::NotFound),
+            Reply::Stale => Ok(Reply::Stale),
+            Reply::Conflict(held) => {
+                let held = held.copy(alloc)?;
+                Ok(Reply::Conflict(held))
+            }
+            Reply::Last(renewals) => Ok(Reply::Last(*renewals)),
+            Reply::Expected(clients) => Ok(Reply::Expected(*clients)),
+            Reply::Evicted(victims) => {
+                let victims = victims.copy(alloc)?;
+                Ok(Reply::Evicted(victims))
+            }
+        }
+    }
 }
 
 /// A command that was accepted, with its reply.

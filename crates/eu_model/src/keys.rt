@@ -1,7 +1,8 @@
 //! Lists of keys.
-ghost use Rattle.std.specs.Prelude.{◌≡◌};
+ghost use Rattle.std.specs.Prelude.{◌≡◌, IfOk};
 
 use eu_base::Key;
+use std::alloc::{AllocError, Global};
 use std::marker::Model;
 
 /// Some keys, in their order. Contracts see the list.
@@ -32,5 +33,16 @@ impl Keys {
         ensures { result.now ≡ self.now }
     {
         self.keys.as_slice()
+    }
+
+    /// The same keys once more.
+    pub fn copy(&self, alloc: Global) -> Result<Keys, AllocError>
+        ensures { IfOk result (λ k. k ≡ self.now) }
+    {
+        let mut keys = Vec::with_capacity(alloc, self.keys.len())?;
+        for key in &self.keys {
+            keys.push(key.copy(alloc)?)?;
+        }
+        Ok(Keys { keys })
     }
 }

@@ -1,5 +1,5 @@
 //! Laws of the lease machine, without code.
-ghost use Rattle.eu_model.specs.Law.{StepsAlike, FaultsAlike, ViewsAlike, EachIsHeld, VictimsHaveExpired, PassesKeepTheShare, PreservationForbids};
+ghost use Rattle.eu_model.specs.Law.{StepsAlike, FaultsAlike, ViewsAlike, EachIsHeld, VictimsHaveExpired, PassesKeepTheShare, PreservationForbids, LeasesAreAccounted};
 
 /// A law without code: what a registry may do next, and what is seen of it, depends on its plain form alone; and each
 /// plain form is that of some machine.
@@ -17,4 +17,10 @@ pub fn passes_are_safe()
     ensures expired { VictimsHaveExpired }
     ensures share { PassesKeepTheShare }
     ensures preservation { PreservationForbids }
+{}
+
+/// A law without code, over every step of the machine: the leases held after it and those that went by it are the leases held
+/// before and those that came.
+pub fn leases_are_accounted()
+    ensures { LeasesAreAccounted }
 {}

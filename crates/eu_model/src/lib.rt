@@ -7,12 +7,18 @@ mod commands;
 mod keys;
 mod law;
 mod listings;
+mod rows;
+mod states;
+mod tallies;
 mod views;
 
 pub use commands::{Command, Entry, Reply};
 pub use keys::Keys;
-pub use law::{passes_are_safe, plain_form_decides};
+pub use law::{leases_are_accounted, passes_are_safe, plain_form_decides};
 pub use listings::Listing;
+pub use rows::Rows;
+pub use states::State;
+pub use tallies::Tally;
 pub use views::{Counts, Listed, Query, Times, View};
 
 #[cfg(test)]

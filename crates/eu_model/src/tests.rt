@@ -1,7 +1,27 @@
 //! Lists of keys and of leases.
-use crate::{Keys, Listed, Listing, Times};
-use eu_base::{App, Id, Instance, Key, Rest, Status};
+use crate::{Command, Keys, Listed, Listing, Reply, Rows, Tally, Times};
+use eu_base::{App, Fault, Id, Instance, Key, Rest, Stamp, Status};
+use std::alloc::Global;
 use std::test::Fail;
+
+fn key(alloc: Global) -> Result<Key, Fault> {
+    Ok(Key {
+        app: App::read(alloc, "a")?,
+        id: Id::read(alloc, "i1")?,
+    })
+}
+
+fn instance(alloc: Global) -> Result<Instance, Fault> {
+    Ok(Instance {
+        key: key(alloc)?,
+        status: Status::Up,
+        overridden: Status::Unknown,
+        dirty: 7,
+        secs: 90,
+        interval: 30,
+        rest: Rest::of_host(alloc, "h")?,
+    })
+}
 
 #[test]
 fn keys_are_shown(rt: HostRuntime) -> Result<(), Fail> {
@@ -41,5 +61,112 @@ fn listings_are_shown(rt: HostRuntime) -> Result<(), Fail> {
     let listing = Listing::new(leases);
     assert_eq!(rt; listing.as_slice().len(), 1);
     assert_eq!(rt; listing.as_slice()[0].instance.key.id.as_str(), "i1");
+    Ok(())
+}
+
+#[test]
+fn rows_are_shown(rt: HostRuntime) -> Result<(), Fail> {
+    let mut list = Vec::new(rt.alloc());
+    list.push((Id::read(rt.alloc(), "i1")?, Status::Down))?;
+    let rows = Rows::new(list);
+    assert_eq!(rt; rows.as_slice().len(), 1);
+    assert_eq!(rt; rows.as_slice()[0].0.as_str(), "i1");
+    assert_eq!(rt; rows.as_slice()[0].1.name(), "DOWN");
+    Ok(())
+}
+
+#[test]
+fn keys_are_copied(rt: HostRuntime) -> Result<(), Fail> {
+    let mut list = Vec::new(rt.alloc());
+    list.push(key(rt.alloc())?)?;
+    list.push(Key {
+        app: App::read(rt.alloc(), "b")?,
+        id: Id::read(rt.alloc(), "i2")?,
+    })?;
+    let keys = Keys::new(list).copy(rt.alloc())?;
+    assert_eq!(rt; keys.as_slice().len(), 2);
+    assert_eq!(rt; keys.as_slice()[0].app.as_str(), "A");
+    assert_eq!(rt; keys.as_slice()[1].id.as_str(), "i2");
+    Ok(())
+}
+
+#[test]
+fn replies_are_copied(rt: HostRuntime) -> Result<(), Fail> {
+    let reply = Reply::Conflict(instance(rt.alloc())?).copy(rt.alloc())?;
+    let held = match reply {
+        Reply::Conflict(held) => Some(held),
+        _ => None,
+    };
+    assert!(rt; held.is_some_and(|held| held.dirty == 7));
+    let fresh = matches!(
+        Reply::Registered { fresh: true }.copy(rt.alloc())?,
+        Reply::Registered { fresh: true }
+    );
+    assert!(rt; fresh);
+    let last = matches!(Reply::Last(4).copy(rt.alloc())?, Reply::Last(4));
+    assert!(rt; last);
+    Ok(())
+}
+
+#[test]
+fn renewals_are_copied(rt: HostRuntime) -> Result<(), Fail> {
+    let command = Command::Renew {
+        key: key(rt.alloc())?,
+        dirty: Stamp::new(9),
+        overridden: Some(Status::Down),
+        replicated: true,
+    };
+    let stamp = match command.copy(rt.alloc())? {
+        Command::Renew {
+            key: _,
+            dirty: Some(stamp),
+            overridden: Some(Status::Down),
+            replicated: true,
+        } => stamp.value,
+        _ => 0,
+    };
+    assert_eq!(rt; stamp, 9);
+    Ok(())
+}
+
+#[test]
+fn registrations_are_copied(rt: HostRuntime) -> Result<(), Fail> {
+    let command = Command::Register {
+        instance: instance(rt.alloc())?,
+        replicated: false,
+    };
+    let secs = match command.copy(rt.alloc())? {
+        Command::Register {
+            instance,
+            replicated: false,
+        } => instance.secs,
+        _ => 0,
+    };
+    assert_eq!(rt; secs, 90);
+    Ok(())
+}
+
+#[test]
+fn what_is_done_is_counted(rt: HostRuntime) -> Result<(), Fail> {
+    let alloc = rt.alloc();
+    let key = Key {
+        app: App::read(alloc, "a")?,
+        id: Id::read(alloc, "i1")?,
+    };
+    let mut keys = Vec::new(alloc);
+    keys.push(key.copy(alloc)?)?;
+    let victims = Reply::Evicted(Keys::new(keys));
+    let gone = Tally::of(&Command::Evict, &victims);
+    assert!(rt; gone.steps == 1 && gone.removed == 1 && gone.counted == 0 && gone.added == 0);
+    let renewal = Command::Renew {
+        key,
+        dirty: None,
+        overridden: None,
+        replicated: false,
+    };
+    let stale = Tally::of(&renewal, &Reply::Stale);
+    assert!(rt; stale.counted == 1 && stale.removed == 0 && stale.added == 0);
+    assert!(rt; Tally::of(&renewal, &Reply::NotFound).counted == 0);
+    assert!(rt; Tally::nothing().steps == 0);
     Ok(())
 }

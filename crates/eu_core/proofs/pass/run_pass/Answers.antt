@@ -17,16 +17,16 @@ front_of n m out xs rest e long = e ∙ ap (λ k. take n (take k (xs ++ rest))) 
 pub returns-clause-expired : goal.returns-clause-expired
 returns-clause-expired g c =
     let keys = due c.args.permitted c.args.leases.now.held c.args.moment c.args.extra in
-    let shuffled = c.choose.new.items in
-    let moved = subst (λ (l : List Key). IsPermutation l shuffled) (c.deref_mut.ensures.value ∙ c.in_ok-keys.ensures) c.choose.ensures.permutation in
+    let shuffled = c.draw_all.new.keys in
+    let moved = subst (λ (l : List Key). IsPermutation l shuffled) (c.deref_mut.ensures.value ∙ c.in_ok-keys.ensures) c.draw_all.ensures.permutation in
     let all = All-permutation (Contains keys) keys shuffled moved (All-contains_itself keys) in
     let kept = front_of _ c.in_ok-keys.keys.len c.truncate.new.self.items shuffled (drop (length shuffled) c.in_ok-keys.keys.items) c.truncate.ensures.items (omega arith) in
     subst (λ (l : List Key). All (Contains keys) l) (sym kept) (All-take (Contains keys) _ shuffled all)
 
 pub returns-clause-once : goal.returns-clause-once
 returns-clause-once g c =
-    let shuffled = c.choose.new.items in
+    let shuffled = c.draw_all.new.keys in
     let apart = subst (λ (l : List Key). IsDistinct key_eq l) (sym (c.deref_mut.ensures.value ∙ c.in_ok-keys.ensures)) (IsDistinct-due c.args.permitted c.args.leases.now.held c.args.moment c.args.extra) in
-    let moved = c.choose.ensures.distinct key_eq key_eq-flips apart in
+    let moved = c.draw_all.ensures.distinct key_eq key_eq-flips apart in
     let kept = front_of _ c.in_ok-keys.keys.len c.truncate.new.self.items shuffled (drop (length shuffled) c.in_ok-keys.keys.items) c.truncate.ensures.items (omega arith) in
     subst (λ (l : List Key). IsDistinct key_eq l) (sym kept) (IsDistinct-take _ shuffled moved)

@@ -1,5 +1,5 @@
 use Rattle.std.proofs.Common.{◌≡◌, ap, sym, ◌∙◌, refl, subst}
-use Rattle.std.specs.Prelude.{None, Some, true, not, is_some}
+use Rattle.std.specs.Prelude.{None, true, not, is_some}
 use Rattle.std.specs.FinMap.{get}
 use Rattle.eu_model.specs.Change.{one_more}
 use Rattle.eu_model.specs.Plain.{Plain}

@@ -1,4 +1,3 @@
-use Rattle.std.proofs.Common.{IfOk, subst}
 use Rattle.std.specs.Option.{option_copied}
 use Rattle.eu_core.proofs.LookLemmas.{lists}
 use Rattle.eu_core.proofs.registry.Registry.list.Goals as goal

@@ -1,0 +1,78 @@
+//! `eu_bench`: the reading and the routing of requests, and listings, over memory, to be timed.
+//!
+//! - `eu_bench heartbeats N` reads the requests of standard input N times, and prints how many of them have a route.
+//! - `eu_bench pieces K` reads them once, at most K bytes at a time, and prints how many there are and how many bytes their
+//!   bodies have, or the number of the first fault.
+//! - `eu_bench listing N` registers N instances, and prints how long the JSON of all is.
+#![tactic(auto)]
+
+mod heartbeats;
+mod listing;
+mod pieces;
+#[cfg(test)]
+mod tests;
+
+use anyhow::{Context, bail};
+use eu_base::Fault;
+use heartbeats::count_routed;
+use listing::listing_text;
+use pieces::{Pieces, Totals, count_requests};
+use std::io::Read;
+use std::rt::Env;
+use std::{env, io};
+
+/// The words that the program takes.
+const USAGE: &str = "eu_bench heartbeats N | pieces K | listing N, with K above 0";
+
+/// All bytes of standard input.
+fn input<R: Input + AllocGlobal>(rt: &R) -> io::Result<Vec<u8>> {
+    let mut text = Vec::new(rt.alloc());
+    rt.reader().read_to_end(&mut text)?;
+    Ok(text)
+}
+
+/// Prints what the reading of requests came to.
+fn print_totals(rt: &impl Print, totals: Result<Totals, Fault>) -> io::Result<()> {
+    match totals {
+        Ok(totals) => {
+            let Totals { requests, bytes } = totals;
+            println!(rt; "{requests} requests with bodies of {bytes} bytes")
+        }
+        Err(fault) => {
+            let number = fault.number();
+            println!(rt; "fault {number}")
+        }
+    }
+}
+
+/// Does what the words say.
+fn run<R: Input + Print + AllocGlobal>(rt: &R, task: &str, number: u32) -> anyhow::Result<()> {
+    match task {
+        "heartbeats" => {
+            let routed = count_routed(rt.alloc(), input(rt)?.as_slice(), number)?;
+            println!(rt; "{routed} with a route")?;
+        }
+        "pieces" if number > 0 => {
+            let text = input(rt)?;
+            let mut reader = Pieces::new(text.as_slice(), number as usize);
+            print_totals(rt, count_requests(rt.alloc(), &mut reader))?;
+        }
+        "listing" => {
+            let len = listing_text(rt.alloc(), number)?.len();
+            println!(rt; "{len} bytes")?;
+        }
+        _ => bail!("{USAGE}"),
+    }
+    Ok(())
+}
+
+fn main(rt: HostRuntime) -> anyhow::Result<()> {
+    let words = env::args(&rt)?.collect::<Vec<String>>(rt.alloc())?;
+    match words.as_slice() {
+        [_, task, number] => {
+            let number = number.parse::<u32>().context(USAGE)?;
+            run(&rt, task.as_str(), number)
+        }
+        _ => bail!("{USAGE}"),
+    }
+}

@@ -1,0 +1,18 @@
+//! The journal of a book.
+ghost use Rattle.std.specs.Prelude.{◌≡◌, ◌++◌, ◌∷◌, [], ◌<◌, vec_len, vec_capacity};
+
+use eu_model::{Entry, State};
+
+/// The most entries that a journal keeps.
+pub const MOST_ENTRIES: usize = 65_536;
+
+/// What was told to a registry: its entries are a run of the lease machine from the base.
+#[derive(Debug, Drop)]
+pub struct Journal {
+    /// What the registry was before the first entry.
+    pub base: State,
+    /// The number of the first entry.
+    pub first: u64,
+    /// The commands that were accepted, with their replies, in their order.
+    pub entries: Vec<Entry>,
+}

@@ -1,0 +1,17 @@
+use Rattle.std.proofs.Common.{◌≡◌, map, ap, ◌∙◌}
+use Rattle.std.specs.FinMap.{entries}
+use Rattle.eu_model.specs.declared.states.State.{State}
+use Rattle.eu_core.specs.Registry.{plain_of}
+use Rattle.eu_core.specs.State.{state_of}
+use Rattle.eu_core.proofs.StateLemmas.{filter_true}
+use Rattle.eu_core.proofs.registry.Registry.plain.Goals as goal
+
+pub returns : goal.returns
+returns c =
+    let p = plain_of c.self.inside in
+    let leases = c.new-leases.ensures ∙ c.in_ok-listed.ensures ∙ ap (map (λ e. e.1)) (filter_true (entries p.leases)) in
+    let whole : ◌≡◌ {A = State}
+    (record { config = c.config.result; expected = c.expected.result; leases = c.new-leases.result; rows = c.in_ok-rows.rows; last = c.last-last.result; since = c.roll.result; previous = p.previous })
+    (state_of p) =
+    λ i. record { config = c.config.ensures i; expected = c.expected.ensures.value i; leases = leases i; rows = c.in_ok-rows.ensures i; last = c.last-last.ensures i; since = c.roll.ensures.value i; previous = p.previous } in
+    whole ∙ ap state_of c.self.view_is

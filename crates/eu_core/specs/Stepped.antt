@@ -1,0 +1,77 @@
+-- What a step gives: so many equal replies, and so many copies of the instance that is held after it
+use Rattle.std.specs.Prelude.{◌≡◌, ℕ, nat_lt, if◌then◌else◌, List, [], length, replicate, Option, Some, None, Ok, All}
+use Rattle.std.specs.Option.{option_map}
+use Rattle.std.specs.FinMap.{get}
+use Rattle.eu_base.specs.declared.names.Key.{Key}
+use Rattle.eu_base.specs.declared.instances.Instance.{Instance}
+use Rattle.eu_model.specs.declared.commands.Command.{Command}
+use Rattle.eu_model.specs.declared.commands.Command.TheVariants.{Register, Renew, Cancel, SetStatus, UnsetStatus, Adopt, Roll, Update, Evict}
+use Rattle.eu_model.specs.declared.commands.Reply.{Reply}
+use Rattle.eu_model.specs.declared.commands.Reply.TheVariants.{Evicted}
+use Rattle.eu_model.specs.Plain.{Plain}
+use Rattle.eu_model.specs.Answers.{Answers}
+use Rattle.eu_choice.specs.Front.{Asks}
+use Rattle.eu_core.specs.Evicts.{Draws}
+
+-- the key of the lease that a command names
+abbrev pub key_of : Command → Option Key
+key_of (Register n replicated) = Some n.key
+key_of (Renew k dirty overridden replicated) = Some k
+key_of (Cancel k replicated) = Some k
+key_of (SetStatus k status dirty replicated) = Some k
+key_of (UnsetStatus k suggested dirty replicated) = Some k
+key_of (Adopt n) = Some n.key
+key_of Roll = None
+key_of Update = None
+key_of Evict = None
+
+-- the instance that is held under a key
+abbrev pub instance_at : Plain → Key → Option Instance
+instance_at p k = option_map (λ l. l.instance) (get p.leases k)
+
+-- the instance that is held under the key of a command; none, where it names no key
+abbrev pub held_under : Plain → Option Key → Option Instance
+held_under p None = None
+held_under p (Some k) = instance_at p k
+
+abbrev pub instance_held : Plain → Command → Option Instance
+instance_held p c = held_under p (key_of c)
+
+-- so many copies, where there is one
+abbrev pub copies_of : {X : Type 0} → ℕ → Option X → List X
+copies_of m None = []
+copies_of m (Some x) = replicate m x
+
+-- a step that leads from old to new, with n equal replies and m copies of the instance that is held after it
+pub record Acts (old : Plain) (c : Command) (t : ℕ) (n m : ℕ) (replies : List Reply) (instances : List Instance) (new : Plain) : Type 0 where
+  pub reply : Reply
+  pub answers : Answers old c t (Ok reply) new
+  pub replies_are : replies ≡ replicate n reply
+  pub instances_are : instances ≡ copies_of m (instance_held new c)
+
+-- a pass has its victims drawn; no other command asks the chooser
+abbrev pub Chooses : {S : Type 0} → Asks S → Plain → S → Command → ℕ → Reply → S → Type 0
+Chooses asks old x Evict t reply x' = (victims : List Key) × (reply ≡ Evicted victims) × Draws asks old t x victims x'
+Chooses asks old x _ t reply x' = x' ≡ x
+
+-- the same with the chooser before and after
+pub record Steps {S : Type 0} (asks : Asks S) (old : Plain) (x : S) (c : Command) (t : ℕ) (n m : ℕ) (replies : List Reply) (instances : List Instance) (new : Plain) (x' : S) : Type 0 where
+  pub acts : Acts old c t n m replies instances new
+  pub chooses : Chooses asks old x c t acts.reply x'
+
+-- ---- on the way to a step
+
+-- instances that are alike but for statuses, stamp, duration and interval: a step on a lease changes no more of its instance
+pub record AreAlike (i j : Instance) : Type 0 where
+  pub key : i.key ≡ j.key
+  pub rest : i.rest ≡ j.rest
+
+-- so many instances that are like this one, where there is one
+abbrev pub AreOf : ℕ → List Instance → Option Instance → Type 0
+AreOf m instances None = instances ≡ []
+AreOf m instances (Some i) = (length instances ≡ m) × All (λ j. AreAlike j i) instances
+
+-- the instance that a registration keeps, but for statuses and duration: the held one, where its stamp is strictly greater
+abbrev pub taken : Option Instance → Instance → Instance
+taken None n = n
+taken (Some h) n = if nat_lt n.dirty h.dirty then h else n

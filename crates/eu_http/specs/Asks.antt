@@ -1,0 +1,77 @@
+-- What a request asks of the registry
+use Rattle.std.specs.Prelude.{ℕ, Bool, List, [], ◌∷◌, Option, Some, None, Result, Ok, Err, map, if◌then◌else◌, string_bytes}
+use Rattle.std.specs.Option.{option_map}
+use Rattle.std.specs.Str.{is_utf8}
+use Rattle.eu_base.specs.declared.faults.Fault.{Fault}
+use Rattle.eu_base.specs.declared.faults.Fault.TheVariants.{NotJson}
+use Rattle.eu_base.specs.declared.names.Key.{Key}
+use Rattle.eu_base.specs.declared.statuses.Status.{Status}
+use Rattle.eu_model.specs.declared.commands.Command.TheVariants as command
+use Rattle.eu_model.specs.declared.views.Query.{Query}
+use Rattle.eu_model.specs.declared.views.Query.TheVariants as query
+use Rattle.eu_json.specs.Fields.{Fields, fields_of}
+use Rattle.eu_json.specs.Reading.{instance_of}
+use Rattle.eu_routes.specs.Route as route
+use Rattle.eu_routes.specs.Query.{number_of}
+use Rattle.eu_routes.specs.Chain.{◌>>=◌, Gives}
+use Rattle.eu_framing.specs.declared.request.Request.{Request}
+use Rattle.eu_framing.specs.Target as target
+use Rattle.eu_http.specs.declared.exchange.Ask.{Ask}
+use Rattle.eu_http.specs.declared.exchange.Ask.TheVariants.{Do, See}
+use Rattle.eu_http.specs.declared.exchange.Asked.{Asked}
+use Rattle.eu_http.specs.declared.exchange.Asked.TheVariants as asked
+
+-- an ask as a request says it: an instance by its fields, a stamp by its number
+pub data Said : Type 0 where
+  Register : Fields → Bool → Said
+  Renew : Key → Option ℕ → Option Status → Bool → Said
+  Cancel : Key → Bool → Said
+  SetStatus : Key → Status → Option ℕ → Bool → Said
+  UnsetStatus : Key → Option Status → Option ℕ → Bool → Said
+  Look : Query → Said
+  -- no request says any other
+  Other : Said
+
+abbrev pub said_by : Ask → Said
+said_by (Do (command.Register instance replicated)) = Register (fields_of instance) replicated
+said_by (Do (command.Renew key dirty overridden replicated)) = Renew key (number_of dirty) overridden replicated
+said_by (Do (command.Cancel key replicated)) = Cancel key replicated
+said_by (Do (command.SetStatus key status dirty replicated)) = SetStatus key status (number_of dirty) replicated
+said_by (Do (command.UnsetStatus key status dirty replicated)) = UnsetStatus key status (number_of dirty) replicated
+said_by (Do other) = Other
+said_by (See q) = Look q
+
+-- the instance that a body says, for an application at a moment
+abbrev pub instance_in : List ℕ → ℕ → List ℕ → Result Fields Fault
+instance_in app moment body = if is_utf8 body then instance_of app moment body else Err NotJson
+
+-- what a status page shows
+abbrev pub for_page : Option (List Said)
+for_page = Some (Look query.Counts ∷ Look query.All ∷ [])
+
+-- what is asked for a route, by a body at a moment; nothing, where it is forbidden
+abbrev pub asks_for : route.Asked → Bool → List ℕ → ℕ → Result (Option (List Said)) Fault
+asks_for (route.Register app) replicated body moment = instance_in app moment body >>= λ fields. Ok (Some (Register fields replicated ∷ []))
+asks_for (route.Renew key dirty overridden) replicated body moment = Ok (Some (Renew key dirty overridden replicated ∷ []))
+asks_for (route.Cancel key) replicated body moment = Ok (Some (Cancel key replicated ∷ []))
+asks_for (route.SetStatus key status dirty) replicated body moment = Ok (Some (SetStatus key status dirty replicated ∷ []))
+asks_for (route.UnsetStatus key status dirty) replicated body moment = Ok (Some (UnsetStatus key status dirty replicated ∷ []))
+asks_for route.All replicated body moment = Ok (Some (Look query.All ∷ []))
+asks_for (route.OfApp app) replicated body moment = Ok (Some (Look (query.OfApp app) ∷ []))
+asks_for (route.One key) replicated body moment = Ok (Some (Look (query.One key) ∷ []))
+asks_for route.Delta replicated body moment = Ok None
+asks_for route.StatusPage replicated body moment = Ok for_page
+
+-- what a request asks at a moment, or its first fault
+abbrev pub asks_of : Request → ℕ → Result (Option (List Said)) Fault
+asks_of request moment = do
+  asked ← route.route_of (string_bytes request.method) (target.path_of (string_bytes request.target)) (target.query_of (string_bytes request.target))
+  asks_for asked request.replicated request.body.items moment
+
+abbrev pub saids : Asked → Option (List Said)
+saids asked.Forbidden = None
+saids (asked.Asks asks) = Some (map said_by asks.items)
+
+-- it is what the request asks; where memory ran out, nothing is known
+abbrev pub Says : Result Asked Fault → Result (Option (List Said)) Fault → Type 0
+Says = Gives saids

@@ -1,0 +1,181 @@
+-- What a request is answered
+use Rattle.std.specs.Prelude.{ℕ, Bool, ◌||◌, List, [], ◌∷◌, ◌++◌, Option, Some, None, Result, Ok, Err, codes, if◌then◌else◌, ◌==◌, string_bytes}
+use Rattle.std.specs.Fmt.{decimal}
+use Rattle.std.specs.Str.{bytes_eq}
+use Rattle.serde_json.specs.Written.{compact_text}
+use Rattle.eu_base.specs.declared.faults.Fault.{Fault}
+use Rattle.eu_base.specs.declared.faults.Fault.TheVariants as faults
+use Rattle.eu_base.specs.Fault.{fault_number}
+use Rattle.eu_model.specs.declared.commands.Reply.{Reply}
+use Rattle.eu_model.specs.declared.commands.Reply.TheVariants as reply
+use Rattle.eu_model.specs.declared.views.Counts.{Counts}
+use Rattle.eu_model.specs.declared.views.Listed.{Listed}
+use Rattle.eu_model.specs.declared.views.View.TheVariants as seen
+use Rattle.eu_json.specs.Tree.{held_tree, application_tree, applications_tree}
+use Rattle.eu_page.specs.Page.{shown_page}
+use Rattle.eu_routes.specs.Path.{path_of, parent}
+use Rattle.eu_framing.specs.declared.request.Request.{Request}
+use Rattle.eu_framing.specs.Target as target
+use Rattle.eu_http.specs.declared.exchange.Answer.{Answer}
+use Rattle.eu_http.specs.declared.exchange.Answer.TheVariants.{Did, Saw}
+use Rattle.eu_http.specs.declared.exchange.Outcome.{Outcome}
+use Rattle.eu_http.specs.declared.exchange.Outcome.TheVariants.{Refused, Forbidden, Answers}
+use Rattle.eu_http.specs.declared.wanted.Wanted.{Wanted}
+use Rattle.eu_http.specs.declared.wanted.Wanted.TheVariants as wanted
+use Rattle.eu_http.specs.declared.response.Content.{Content as Made}
+use Rattle.eu_http.specs.declared.response.Content.TheVariants as made
+use Rattle.eu_http.specs.declared.response.Response.{Response as Draft}
+use Rattle.eu_http.specs.Text.{Response, Content, Nothing, Json, Plain, bare, print}
+
+-- ---- refusals
+
+-- the status of a request that was refused; what the registry itself refuses is 503
+abbrev pub status_of : Fault → ℕ
+status_of faults.NoRoute = 404
+status_of faults.BodyTooLong = 413
+status_of faults.BadEncoding = 415
+status_of faults.HeadTooLong = 431
+status_of faults.TooLong = 400
+status_of faults.NotJson = 400
+status_of faults.MissingId = 400
+status_of faults.MissingHost = 400
+status_of faults.MissingIp = 400
+status_of faults.MissingApp = 400
+status_of faults.WrongApp = 400
+status_of faults.MissingCenter = 400
+status_of faults.MissingCenterName = 400
+status_of faults.NotWhole = 400
+status_of faults.BadStamp = 400
+status_of faults.BadDuration = 400
+status_of faults.BadBatch = 400
+status_of faults.BadHead = 400
+status_of faults.BadLength = 400
+status_of faults.BadChunk = 400
+status_of faults.BadPath = 400
+status_of faults.BadValue = 400
+status_of fault = 503
+
+-- `{"fault":N}`
+abbrev pub fault_text : Fault → List ℕ
+fault_text fault = codes "{\"fault\":" ++ (decimal (fault_number fault) ++ codes "}")
+
+abbrev pub telling : ℕ → Fault → Response
+telling status fault = record { status = status; content = Json (fault_text fault) }
+
+-- a fault of the request: there is no such place, or what is wrong with it
+abbrev pub refused : Fault → Response
+refused fault = if status_of fault == 404 then bare 404 else telling (status_of fault) fault
+
+-- ---- replies
+
+abbrev pub not_found : Response
+not_found = bare 404
+
+-- what was done; a conflict tells the instance that is held. Of what no request asks for there is nothing to tell
+abbrev pub did : Reply → Response
+did (reply.Registered fresh) = bare 204
+did reply.Done = bare 200
+did reply.NotFound = not_found
+did reply.Stale = not_found
+did (reply.Conflict instance) = record { status = 409; content = Json (compact_text (held_tree instance None)) }
+did other = not_found
+
+-- ---- views
+
+abbrev pub one : Option Listed → Response
+one None = not_found
+one (Some l) = record { status = 200; content = Json (compact_text (held_tree l.instance (Some l.times))) }
+
+-- an application that holds no lease isn't there
+abbrev pub of_app : List Listed → Response
+of_app [] = not_found
+of_app (l ∷ ls) = record { status = 200; content = Json (compact_text (application_tree (l ∷ ls))) }
+
+abbrev pub all : List Listed → Response
+all ls = record { status = 200; content = Json (compact_text (applications_tree ls)) }
+
+-- the status page
+unfoldable pub page : Counts → List Listed → Response
+page c ls = record { status = 200; content = Plain (shown_page c ls) }
+
+-- ---- answers
+
+abbrev pub is_apps : List ℕ → Bool
+is_apps path = bytes_eq path (codes "/eureka/apps") || bytes_eq path (codes "/eureka/v2/apps")
+
+abbrev pub is_status : List ℕ → Bool
+is_status path = bytes_eq path (codes "/eureka/status") || bytes_eq path (codes "/eureka/v2/status")
+
+-- which view a path names, if it names one
+abbrev pub shown_at : List ℕ → Wanted
+shown_at path =
+    if is_apps path then wanted.All
+    else if is_status path then wanted.Page
+    else if is_apps (parent path) then wanted.OfApp
+    else wanted.One
+
+-- GET looks, and every other method does something
+abbrev pub wanted_by : List ℕ → List ℕ → Wanted
+wanted_by method path = if bytes_eq method (codes "GET") then shown_at (path_of path) else wanted.Change
+
+-- an answer that isn't of the kind that was wanted is none
+abbrev pub told_change : List (Result Answer Fault) → Response
+told_change (Ok (Did r) ∷ []) = did r
+told_change other = not_found
+
+abbrev pub told_one : List (Result Answer Fault) → Response
+told_one (Ok (Saw (seen.One l)) ∷ []) = one l
+told_one other = not_found
+
+abbrev pub told_app : List (Result Answer Fault) → Response
+told_app (Ok (Saw (seen.OfApp ls)) ∷ []) = of_app ls
+told_app other = not_found
+
+abbrev pub told_all : List (Result Answer Fault) → Response
+told_all (Ok (Saw (seen.All ls)) ∷ []) = all ls
+told_all other = not_found
+
+abbrev pub told_counts : Counts → List (Result Answer Fault) → Response
+told_counts c (Ok (Saw (seen.All ls)) ∷ []) = page c ls
+told_counts c other = not_found
+
+abbrev pub told_page : List (Result Answer Fault) → Response
+told_page (Ok (Saw (seen.Counts c)) ∷ answers) = told_counts c answers
+told_page other = not_found
+
+abbrev pub answered : Wanted → List (Result Answer Fault) → Response
+answered wanted.Change answers = told_change answers
+answered wanted.One answers = told_one answers
+answered wanted.OfApp answers = told_app answers
+answered wanted.All answers = told_all answers
+answered wanted.Page answers = told_page answers
+
+-- the first fault of the registry
+abbrev pub first_fault : List (Result Answer Fault) → Option Fault
+first_fault [] = None
+first_fault (Ok a ∷ rest) = first_fault rest
+first_fault (Err fault ∷ rest) = Some fault
+
+-- a fault of the registry comes before all answers
+abbrev pub told : Option Fault → Wanted → List (Result Answer Fault) → Response
+told None w answers = answered w answers
+told (Some fault) w answers = telling 503 fault
+
+-- what a request is answered, by what came of it
+abbrev pub response_to : Request → Outcome → Response
+response_to request (Refused fault) = refused fault
+response_to request Forbidden = bare 403
+response_to request (Answers answers) = told (first_fault answers.items) (wanted_by (string_bytes request.method) (target.path_of (string_bytes request.target))) answers.items
+
+-- the bytes of the response
+abbrev pub response : Request → Outcome → Bool → List ℕ
+response request outcome close = print (response_to request outcome) close
+
+-- a response as it is made
+abbrev pub content_of : Made → Content
+content_of made.Nothing = Nothing
+content_of (made.Json text) = Json (string_bytes text)
+content_of (made.Plain text) = Plain (string_bytes text)
+
+abbrev pub response_of : Draft → Response
+response_of draft = record { status = draft.status; content = content_of draft.content }

@@ -1,0 +1,19 @@
+//! What requests of HTTP ask of a registry, and the bytes of the responses.
+//!
+//! `asks` says what a request asks at a moment, or why it asks nothing, and `answer` writes the response for what came of it.
+//! Requests are read by `eu_framing`.
+#![tactic(auto)]
+
+mod answers;
+mod exchange;
+mod requests;
+mod response;
+mod text;
+mod wanted;
+
+pub use answers::answer;
+pub use exchange::{Answer, Ask, Asked, Outcome};
+pub use requests::asks;
+
+#[cfg(test)]
+mod tests;

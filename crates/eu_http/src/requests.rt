@@ -1,0 +1,113 @@
+//! What a request asks.
+ghost use Rattle.std.specs.Prelude.{◌≡◌, ◌∷◌, [], Some, IfOk};
+ghost use Rattle.eu_http.specs.Asks as spec;
+ghost use Rattle.eu_routes.specs.Chain.{Gives};
+ghost use Rattle.eu_json.specs.Fields.{fields_of};
+ghost use Rattle.eu_routes.specs.Route.{asked_of};
+
+use crate::exchange::{Ask, Asked};
+use eu_base::{App, Fault, Instance, Moment};
+use eu_framing::Request;
+use eu_json::read_instance;
+use eu_model::{Command, Query};
+use eu_routes::{Route, Routes};
+use std::alloc::{AllocError, Global};
+
+/// The instance that a body says.
+fn instance_in(alloc: Global, app: &App, moment: Moment, body: &[u8]) -> Result<Instance, Fault>
+    ensures { Gives fields_of result (spec.instance_in app.now moment body.now) }
+{
+    match str::from_utf8(body) {
+        Ok(text) => read_instance(alloc, text, app, moment),
+        Err(_) => Err(Fault::NotJson),
+    }
+}
+
+/// That one ask.
+fn just(alloc: Global, ask: Ask) -> Result<Asked, AllocError>
+    ensures { IfOk result (λ asked. spec.saids asked ≡ Some (spec.said_by ask ∷ [])) }
+{
+    let mut asks = Vec::new(alloc);
+    asks.push(ask)?;
+    Ok(Asked::Asks(asks))
+}
+
+/// What a status page shows.
+fn for_page(alloc: Global) -> Result<Asked, AllocError>
+    ensures { IfOk result (λ asked. spec.saids asked ≡ spec.for_page) }
+{
+    let mut asks = Vec::new(alloc);
+    asks.push(Ask::See(Query::Counts))?;
+    asks.push(Ask::See(Query::All))?;
+    Ok(Asked::Asks(asks))
+}
+
+/// What is asked for a route.
+fn asks_for(alloc: Global, route: Route, request: &Request, moment: Moment) -> Result<Asked, Fault>
+    ensures { spec.Says result (spec.asks_for (asked_of route) request.now.replicated request.now.body.items moment) }
+{
+    let replicated = request.replicated;
+    let ask = match route {
+        Route::Register(app) => {
+            let instance = instance_in(alloc, &app, moment, &request.body)?;
+            Ask::Do(Command::Register {
+                instance,
+                replicated,
+            })
+        }
+        Route::Renew {
+            key,
+            dirty,
+            overridden,
+        } => Ask::Do(Command::Renew {
+            key,
+            dirty,
+            overridden,
+            replicated,
+        }),
+        Route::Cancel(key) => Ask::Do(Command::Cancel { key, replicated }),
+        Route::SetStatus { key, status, dirty } => Ask::Do(Command::SetStatus {
+            key,
+            status,
+            dirty,
+            replicated,
+        }),
+        Route::UnsetStatus { key, status, dirty } => Ask::Do(Command::UnsetStatus {
+            key,
+            status,
+            dirty,
+            replicated,
+        }),
+        Route::All => Ask::See(Query::All),
+        Route::OfApp(app) => Ask::See(Query::OfApp(app)),
+        Route::One(key) => Ask::See(Query::One(key)),
+        Route::Delta => return Ok(Asked::Forbidden),
+        Route::StatusPage => return Ok(for_page(alloc)?),
+    };
+    Ok(just(alloc, ask)?)
+}
+
+/// What a request asks of the registry at a moment (`ApplicationResource`, `InstanceResource` and `ApplicationsResource` in
+/// Eureka).
+///
+/// A command is replicated where the request is. A registration's instance is the one that the body says, for the path's
+/// application, at that moment. Of other requests the body isn't looked at. The first of these faults that holds is told:
+///
+/// - `NoRoute`: no route has that path and method;
+/// - `BadPath`: a segment of the path is no name;
+/// - `BadValue`: a value of the query is no stamp, or no status, or one that is needed is missing;
+/// - `NotJson`: the body of a registration isn't UTF-8;
+/// - the faults of `eu_json::read_instance`.
+///
+/// `OutOfMemory` may come in place of any.
+pub fn asks(
+    alloc: Global,
+    routes: &Routes,
+    request: &Request,
+    moment: Moment,
+) -> Result<Asked, Fault>
+    ensures { spec.Says result (spec.asks_of request.now moment) }
+{
+    let route = routes.find(alloc, &request.method, request.path(), request.query())?;
+    asks_for(alloc, route, request, moment)
+}

@@ -1,0 +1,166 @@
+//! A response, before it is written.
+ghost use Rattle.std.specs.Prelude.{◌≡◌, false, IfOk, None, option_map, string_bytes};
+ghost use Rattle.serde_json.specs.View.{view};
+ghost use Rattle.serde_json.specs.Written.{has_float, compact_text};
+ghost use Rattle.eu_http.specs.Response as spec;
+ghost use Rattle.eu_http.specs.Text as text;
+
+use eu_base::Fault;
+use eu_json::{application_value, applications_value, held_value};
+use eu_model::{Counts, Listed, Reply};
+use eu_page::{page_of, status_page};
+use http::StatusCode;
+use serde_json::Value;
+use std::alloc::{AllocError, Global};
+
+/// What follows the head of a response.
+#[derive(Debug, Drop)]
+pub enum Content {
+    Nothing,
+    /// The text of a JSON value.
+    Json(String),
+    /// Plain text.
+    Plain(String),
+}
+
+/// A response.
+#[derive(Drop)]
+pub struct Response {
+    pub status: StatusCode,
+    pub content: Content,
+}
+
+/// A response without content.
+pub fn bare(status: StatusCode) -> Response
+    ensures { spec.response_of result ≡ text.bare status }
+{
+    Response {
+        status,
+        content: Content::Nothing,
+    }
+}
+
+/// The status of a request that was refused.
+fn status_of(fault: Fault) -> StatusCode
+    ensures { result ≡ spec.status_of fault }
+{
+    match fault {
+        Fault::NoRoute => StatusCode::NOT_FOUND,
+        Fault::BodyTooLong => StatusCode::PAYLOAD_TOO_LARGE,
+        Fault::BadEncoding => StatusCode::UNSUPPORTED_MEDIA_TYPE,
+        Fault::HeadTooLong => StatusCode::REQUEST_HEADER_FIELDS_TOO_LARGE,
+        Fault::TooLong
+        | Fault::NotJson
+        | Fault::MissingId
+        | Fault::MissingHost
+        | Fault::MissingIp
+        | Fault::MissingApp
+        | Fault::WrongApp
+        | Fault::MissingCenter
+        | Fault::MissingCenterName
+        | Fault::NotWhole
+        | Fault::BadStamp
+        | Fault::BadDuration
+        | Fault::BadBatch
+        | Fault::BadHead
+        | Fault::BadLength
+        | Fault::BadChunk
+        | Fault::BadPath
+        | Fault::BadValue => StatusCode::BAD_REQUEST,
+        _ => StatusCode::SERVICE_UNAVAILABLE,
+    }
+}
+
+/// A response that tells a fault's number.
+pub fn telling(alloc: Global, status: StatusCode, fault: Fault) -> Result<Response, AllocError>
+    ensures { IfOk result (λ r. spec.response_of r ≡ spec.telling status fault) }
+{
+    let number = fault.number();
+    let text = format!(in alloc; "{{\"fault\":{number}}}")?;
+    Ok(Response {
+        status,
+        content: Content::Json(text),
+    })
+}
+
+/// The response to a request that was refused.
+pub fn refused(alloc: Global, fault: Fault) -> Result<Response, AllocError>
+    ensures { IfOk result (λ r. spec.response_of r ≡ spec.refused fault) }
+{
+    match status_of(fault) {
+        StatusCode::NOT_FOUND => Ok(bare(StatusCode::NOT_FOUND)),
+        status => telling(alloc, status, fault),
+    }
+}
+
+/// A response with the text of a JSON value.
+fn with_json(alloc: Global, status: StatusCode, value: &Value) -> Result<Response, AllocError>
+    requires { has_float (view value.now) ≡ false }
+    ensures { IfOk result (λ r. spec.response_of r ≡ record { status = status; content = text.Json (compact_text (view value.now)) }) }
+{
+    let text = value.to_string(alloc)?;
+    Ok(Response {
+        status,
+        content: Content::Json(text),
+    })
+}
+
+/// The response to a command.
+pub fn did(alloc: Global, reply: &Reply) -> Result<Response, AllocError>
+    ensures { IfOk result (λ r. spec.response_of r ≡ spec.did reply.now) }
+{
+    match reply {
+        Reply::Registered { fresh: _ } => Ok(bare(StatusCode::NO_CONTENT)),
+        Reply::Done => Ok(bare(StatusCode::OK)),
+        Reply::Conflict(instance) => {
+            let value = held_value(alloc, instance, None)?;
+            with_json(alloc, StatusCode::CONFLICT, &value)
+        }
+        _ => Ok(bare(StatusCode::NOT_FOUND)),
+    }
+}
+
+/// The response of one lease, if there is one.
+pub fn one(alloc: Global, seen: Option<&Listed>) -> Result<Response, AllocError>
+    ensures { IfOk result (λ r. spec.response_of r ≡ spec.one (option_map (λ l. l.now) seen.entry)) }
+{
+    match seen {
+        Some(listed) => {
+            let value = held_value(alloc, &listed.instance, Some(listed.times))?;
+            with_json(alloc, StatusCode::OK, &value)
+        }
+        None => Ok(bare(StatusCode::NOT_FOUND)),
+    }
+}
+
+/// The response of what an application holds.
+pub fn of_app(alloc: Global, held: &[Listed]) -> Result<Response, AllocError>
+    ensures { IfOk result (λ r. spec.response_of r ≡ spec.of_app held.now) }
+{
+    if held.is_empty() {
+        return Ok(bare(StatusCode::NOT_FOUND));
+    }
+    let value = application_value(alloc, held)?;
+    with_json(alloc, StatusCode::OK, &value)
+}
+
+/// The response of all that is held.
+pub fn all(alloc: Global, held: &[Listed]) -> Result<Response, AllocError>
+    ensures { IfOk result (λ r. spec.response_of r ≡ spec.all held.now) }
+{
+    let value = applications_value(alloc, held)?;
+    with_json(alloc, StatusCode::OK, &value)
+}
+
+/// The response of a status page.
+#[tactic(auto, unfolding(crate::specs::Response::page))]
+pub fn page(alloc: Global, counts: &Counts, held: &[Listed]) -> Result<Response, AllocError>
+    ensures { IfOk result (λ r. spec.response_of r ≡ spec.page counts.now held.now) }
+{
+    let page = page_of(alloc, counts, held)?;
+    let text = status_page(alloc, &page)?;
+    Ok(Response {
+        status: StatusCode::OK,
+        content: Content::Plain(text),
+    })
+}

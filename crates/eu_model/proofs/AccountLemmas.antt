@@ -1,0 +1,111 @@
+-- A list of entries with one more at its end, and the leases that a step adds and removes
+use Rattle.std.proofs.Common.{◌≡◌, ℕ, ◌+◌, ◌≤◌, List, [], ◌∷◌, ◌++◌, length, refl, sym, ap, ◌∙◌, subst, true, false, arith, All, Contains}
+use Rattle.std.specs.Prelude.{Bool, cond, not, Option, Some, None, Result, Ok, is_some}
+use Rattle.std.specs.Option.{option_map}
+use Rattle.std.specs.FinMap.{FinMap, get, insert, remove, len, contains_key, len-insert, len-remove}
+use Rattle.eu_base.specs.declared.names.Key.{Key}
+use Rattle.eu_base.specs.Key.{key_cmp, key_eq}
+use Rattle.eu_base.proofs.KeyLemmas.{keys_total, keys_exact}
+use Rattle.eu_model.specs.declared.commands.Command.{Command}
+use Rattle.eu_model.specs.declared.commands.Command.TheVariants.{Register, Renew, Cancel, SetStatus, UnsetStatus, Adopt, Roll, Update, Evict}
+use Rattle.eu_model.specs.declared.commands.Entry.{Entry}
+use Rattle.eu_model.specs.declared.commands.Reply.{Reply}
+use Rattle.eu_model.specs.declared.commands.Reply.TheVariants.{Registered, Done, NotFound, Stale, Conflict, Last, Expected, Evicted}
+use Rattle.eu_model.specs.declared.tallies.Tally.{Tally}
+use Rattle.eu_model.specs.Answers.{Answers, IsAnswer}
+use Rattle.eu_model.specs.Delta.{counted_by, added_by, removed_by, delta, nothing, plus, tally_of}
+use Rattle.eu_model.specs.Machine.{Machine}
+use Rattle.eu_model.specs.Plain.{Plain, plain, listed}
+use Rattle.eu_model.specs.Run.{Run, fault}
+use Rattle.eu_model.specs.Runs.{Runs, IsNumbered}
+use Rattle.eu_model.specs.Step.{Step}
+use Rattle.eu_model.proofs.HeldLemmas.{leases_are_accounted}
+use Rattle.eu_model.proofs.MapLemmas.{len-map_values}
+use Rattle.eu_model.proofs.RaiseLemmas.{raise}
+use Rattle.eu_model.proofs.RunLemmas.{run_push}
+
+tally_eq : (a b : Tally) → a.steps ≡ b.steps → a.counted ≡ b.counted → a.added ≡ b.added → a.removed ≡ b.removed → a ≡ b
+tally_eq a b steps counted added removed i = record { steps = steps i; counted = counted i; added = added i; removed = removed i }
+
+pub tally_push : (es : List Entry) (e : Entry) → tally_of (es ++ (e ∷ [])) ≡ plus (tally_of es) (delta e.command e.reply)
+tally_push [] e = tally_eq _ _ refl (omega (arith)) (omega (arith)) (omega (arith))
+tally_push (d ∷ es) e =
+    let one = delta d.command d.reply in
+    let more = delta e.command e.reply in
+    ap (plus one) (tally_push es e)
+    ∙ tally_eq (plus one (plus (tally_of es) more)) (plus (plus one (tally_of es)) more) (omega (arith)) (omega (arith)) (omega (arith)) (omega (arith))
+
+pub steps_are : (es : List Entry) → (tally_of es).steps ≡ length es
+steps_are [] = refl
+steps_are (e ∷ es) = ap (λ n. 1 + n) (steps_are es) ∙ omega (arith)
+
+pub numbered_push : (first : ℕ) (es : List Entry) (e : Entry) → IsNumbered first es → e.number ≡ first + length es → IsNumbered first (es ++ (e ∷ []))
+numbered_push first [] e numbered is = (is ∙ omega (arith), tt)
+numbered_push first (d ∷ es) e numbered is = (numbered.0, numbered_push (first + 1) es e numbered.1 (is ∙ omega (arith)))
+
+pub runs_push : (p : Plain) (es : List Entry) (q : Plain) (e : Entry) (new : Plain)
+    → Runs p es q → Answers q e.command e.moment (Ok e.reply) new → Runs p (es ++ (e ∷ [])) new
+unfolding Answers IsAnswer
+runs_push p es q e new runs answers =
+    let step = answers runs.to runs.ends in
+    record {
+      from = runs.from;
+      to = step.1.0;
+      begins = runs.begins;
+      ends = step.1.2;
+      run = run_push runs.from es runs.to e step.1.0 runs.run step.0 step.1.1;
+    }
+
+pub counted_at_most_one : (c : Command) (r : Reply) → counted_by c r ≤ 1
+counted_at_most_one (Renew k dirty overridden replicated) (Registered fresh) = omega (arith)
+counted_at_most_one (Renew k dirty overridden replicated) Done = omega (arith)
+counted_at_most_one (Renew k dirty overridden replicated) NotFound = omega (arith)
+counted_at_most_one (Renew k dirty overridden replicated) Stale = omega (arith)
+counted_at_most_one (Renew k dirty overridden replicated) (Conflict i) = omega (arith)
+counted_at_most_one (Renew k dirty overridden replicated) (Last n) = omega (arith)
+counted_at_most_one (Renew k dirty overridden replicated) (Expected n) = omega (arith)
+counted_at_most_one (Renew k dirty overridden replicated) (Evicted victims) = omega (arith)
+counted_at_most_one (Register n replicated) r = omega (arith)
+counted_at_most_one (Adopt n) r = omega (arith)
+counted_at_most_one (Cancel k replicated) r = omega (arith)
+counted_at_most_one (SetStatus k status dirty replicated) r = omega (arith)
+counted_at_most_one (UnsetStatus k suggested dirty replicated) r = omega (arith)
+counted_at_most_one Roll r = omega (arith)
+counted_at_most_one Update r = omega (arith)
+counted_at_most_one Evict r = omega (arith)
+
+joined_at_most_one : (c : Command) (fresh : Bool) → added_by c (Registered fresh) ≤ 1
+joined_at_most_one (Register n replicated) true = omega (arith)
+joined_at_most_one (Register n replicated) false = omega (arith)
+joined_at_most_one (Adopt n) true = omega (arith)
+joined_at_most_one (Adopt n) false = omega (arith)
+joined_at_most_one (Renew k dirty overridden replicated) fresh = omega (arith)
+joined_at_most_one (Cancel k replicated) fresh = omega (arith)
+joined_at_most_one (SetStatus k status dirty replicated) fresh = omega (arith)
+joined_at_most_one (UnsetStatus k suggested dirty replicated) fresh = omega (arith)
+joined_at_most_one Roll fresh = omega (arith)
+joined_at_most_one Update fresh = omega (arith)
+joined_at_most_one Evict fresh = omega (arith)
+
+pub added_at_most_one : (s : Machine) (c : Command) (t : ℕ) (r : Reply) (new : Machine) → Step s c t r new → added_by c r ≤ 1
+added_at_most_one s (Register n replicated) t r new step = subst (λ r. added_by (Register n replicated) r ≤ 1) (sym step.0) (joined_at_most_one (Register n replicated) _)
+added_at_most_one s (Adopt n) t r new step = subst (λ r. added_by (Adopt n) r ≤ 1) (sym step.0) (joined_at_most_one (Adopt n) _)
+added_at_most_one s (Renew k dirty overridden replicated) t r new step = omega (arith)
+added_at_most_one s (Cancel k replicated) t r new step = omega (arith)
+added_at_most_one s (SetStatus k status dirty replicated) t r new step = omega (arith)
+added_at_most_one s (UnsetStatus k suggested dirty replicated) t r new step = omega (arith)
+added_at_most_one s Roll t r new step = omega (arith)
+added_at_most_one s Update t r new step = omega (arith)
+added_at_most_one s Evict t r new step = omega (arith)
+
+-- what an answer does to the leases, seen as plain forms
+pub answer_accounts : (p : Plain) (c : Command) (t : ℕ) (r : Reply) (new : Plain) → Answers p c t (Ok r) new
+    → (len new.leases + removed_by c r ≡ len p.leases + added_by c r) × (added_by c r ≤ 1)
+unfolding Answers IsAnswer
+answer_accounts p c t r new answers =
+    let from = raise p in
+    let answer = answers from.0 from.1 in
+    let to = answer.1.0 in
+    let before = sym (len-map_values key_cmp listed from.0.leases) ∙ ap (λ q. len q.leases) from.1 in
+    let after = sym (len-map_values key_cmp listed to.leases) ∙ ap (λ q. len q.leases) answer.1.2 in
+    (omega (arith, leases_are_accounted from.0 c t r to answer.1.1, before, after), added_at_most_one from.0 c t r to answer.1.1)

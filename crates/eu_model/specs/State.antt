@@ -1,0 +1,17 @@
+-- Registries as plain data
+use Rattle.std.specs.Prelude.{map}
+use Rattle.std.specs.FinMap.{from_entries}
+use Rattle.eu_model.specs.declared.states.State.{State}
+use Rattle.eu_model.specs.Plain.{Plain}
+
+-- the plain form of a state: each lease stands under the key of its instance
+abbrev pub plain_of_state : State → Plain
+plain_of_state s = record {
+  config = s.config;
+  leases = from_entries (map (λ l. (l.instance.key, l)) s.leases);
+  rows = from_entries s.rows;
+  expected = s.expected;
+  last = s.last;
+  since = s.since;
+  previous = s.previous;
+}

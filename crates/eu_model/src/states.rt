@@ -1,0 +1,23 @@
+//! A registry as plain data.
+
+use crate::{Listing, Rows};
+use eu_base::{Config, Moment};
+
+/// A registry as plain data: what decides its next steps, and what is seen of it.
+#[derive(Debug, Drop)]
+pub struct State {
+    /// The settings.
+    pub config: Config,
+    /// The clients that are expected to send renewals.
+    pub expected: u64,
+    /// The leases that are held, in key order.
+    pub leases: Listing,
+    /// The override rows, in the order of their ids.
+    pub rows: Rows,
+    /// The renewals of the last whole minute.
+    pub last: u64,
+    /// The renewals since then.
+    pub since: u64,
+    /// The moment of the previous eviction pass, if there was one.
+    pub previous: Option<Moment>,
+}

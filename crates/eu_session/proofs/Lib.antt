@@ -1,0 +1,4 @@
+mod ChainLemmas
+mod FaultLemmas
+mod SessionLemmas
+mod TurnLemmas

@@ -1,0 +1,200 @@
+-- A session, one request after another.
+use Rattle.std.proofs.Common.{◌≡◌, ◌⊎◌, ⊎_elim, inl, inr, ℕ, ◌+◌, ◌<◌, ◌≤◌, Bool, true, false, ◌||◌, eqb, List, [], ◌∷◌, ◌++◌, flat_map, Option, Some, None, Result, Ok, Err, refl, sym, subst, ap, ◌∙◌, append-nil, length-append, arith}
+use Rattle.std.proofs.KnownBytes.{Appends-nil, Appends-trans, Keeps-refl, prepend_known-nil}
+use Rattle.std.proofs.lemmas.Bool.{false≢true, cases_lt}
+use Rattle.std.proofs.lemmas.List.Concat.{flat_map-append}
+use Rattle.std.specs.Io.KnownBytes.{Appends}
+use Rattle.eu_base.specs.declared.faults.Fault.{Fault}
+use Rattle.eu_base.specs.declared.faults.Fault.TheVariants as faults
+use Rattle.eu_framing.specs.declared.request.Request.{Request}
+use Rattle.eu_framing.specs.Next.{FindsNext}
+use Rattle.eu_framing.specs.Stream.{pending, Between, IsOutside}
+use Rattle.eu_http.specs.declared.exchange.Answer.{Answer}
+use Rattle.eu_http.specs.declared.exchange.Ask.{Ask}
+use Rattle.eu_http.specs.Response.{response}
+use Rattle.eu_session.specs.declared.faults.SessionFault.{SessionFault}
+use Rattle.eu_session.specs.declared.faults.SessionFault.TheVariants.{Read, Write, OutOfMemory}
+use Rattle.eu_session.specs.Turn.{Turn, text_of, refusal, is_last, State, Breaks, Step}
+use Rattle.eu_session.specs.Session.{IsOpen, GoesOn, Ends, Session}
+use Rattle.eu_session.specs.Steps.{IsInside, Comes, AnswersTo, RefusesBy}
+use Rattle.eu_session.proofs.ChainLemmas.{chain_push, all_push}
+use Rattle.eu_session.proofs.FaultLemmas.{fault_differs, by_number}
+
+neither : (a b : Bool) → (a || b) ≡ false → (a ≡ false) × (b ≡ false)
+neither true b e = absurd (false≢true (sym e))
+neither false b e = (refl, e)
+
+before_last : (n : ℕ) → eqb n 99 ≡ false → n < 100 → n + 1 < 100
+before_last n e few = ⊎_elim (λ (h : n < 99). omega arith) (λ (h : 99 ≤ n). let is : n ≡ 99 = omega arith in absurd (false≢true (sym (rw is at e)))) (cases_lt n 99)
+
+-- the fault that was met in place of a request
+abbrev Met : Bool → Option (List ℕ) → Fault → Type 0
+Met failed left fault = IsOutside failed fault ⊎ Breaks left fault
+
+inside_breaks : (failed : Bool) (left : Option (List ℕ)) (fault : Fault) → Met failed left fault → IsInside fault → Breaks left fault
+inside_breaks failed left fault (inl (inl memory)) inside = absurd (inside.0 memory)
+inside_breaks failed left fault (inl (inr read)) inside = absurd (inside.1 read.0)
+inside_breaks failed left fault (inr breaks) inside = breaks
+
+no_bytes : (left : Option (List ℕ)) (fault : Fault) → Breaks left fault → ¬ (fault ≡ faults.Read)
+no_bytes None fault (bytes, x) = fault_differs bytes fault x
+no_bytes (Some bytes) fault x = fault_differs bytes fault x
+
+read_failed : (failed : Bool) (left : Option (List ℕ)) (fault : Fault) → Met failed left fault → fault ≡ faults.Read → failed ≡ true
+read_failed failed left fault (inl (inl memory)) e = absurd (by_number fault faults.OutOfMemory memory refl e)
+read_failed failed left fault (inl (inr read)) e = read.1
+read_failed failed left fault (inr breaks) e = absurd (no_bytes left fault breaks e)
+
+texts_more : (ts : List Turn) (t : Turn) → flat_map text_of ts ++ text_of t ≡ flat_map text_of (ts ++ t ∷ [])
+texts_more ts t = sym (flat_map-append text_of ts (t ∷ []) ∙ ap (λ (x : List ℕ). flat_map text_of ts ++ x) (append-nil (text_of t)))
+
+module _ {D C : Type 0} (asked : D → Ask → ℕ → Result Answer Fault → D → Type 0) (tells : C → ℕ → C → Type 0) where
+  -- the state with these bytes to come
+  abbrev state_with : D → C → Option (List ℕ) → State D C
+  state_with desk clock l = record { left = l; desk = desk; clock = clock }
+
+  pub goes_start : (l : Option (List ℕ)) (desk : D) (clock : C) (held : Option (List ℕ))
+      → GoesOn asked tells 0 (record { left = l; desk = desk; clock = clock }) (record { left = pending [] l; desk = desk; clock = clock }) held held
+  goes_start l desk clock held = record {
+    turns = [];
+    chain = ap (state_with desk clock) (prepend_known-nil l);
+    count = refl;
+    few = omega arith;
+    each = tt;
+    written = Appends-nil held;
+  }
+
+  step_of : (l l' : Option (List ℕ)) (request : Request) (close : Bool) (desk desk' : D) (clock clock' : C) (c : Comes asked tells request desk clock desk' clock') → Between l l' (FindsNext (Some request))
+      → Step asked tells (record { left = l; desk = desk; clock = clock }) (record { request = request; moment = c.moment; outcome = c.outcome; close = close }) (record { left = l'; desk = desk'; clock = clock' })
+  step_of l l' request close desk desk' clock clock' c reads = record { reads = reads; told = c.told; comes = c.comes }
+
+  pub goes_more : (old : State D C) (l l' : Option (List ℕ)) (request : Request) (close : Bool) (desk desk' : D) (clock clock' : C) (before held held' : Option (List ℕ)) (n : ℕ)
+      → GoesOn asked tells n old (record { left = l; desk = desk; clock = clock }) before held → Between l l' (FindsNext (Some request))
+      → (c : Comes asked tells request desk clock desk' clock') × Appends held held' (response request c.outcome close) → close ≡ is_last n request → close ≡ false
+      → GoesOn asked tells (n + 1) old (record { left = l'; desk = desk'; clock = clock' }) before held'
+  goes_more old l l' request close desk desk' clock clock' before held held' n g reads x is open_ =
+      let t : Turn = record { request = request; moment = x.0.moment; outcome = x.0.outcome; close = close } in
+      let none = neither request.closes (eqb n 99) (sym is ∙ open_) in
+      record {
+        turns = g.turns ++ t ∷ [];
+        chain = chain_push (Step asked tells) old g.turns _ t _ g.chain (step_of l l' request close desk desk' clock clock' x.0 reads);
+        count = omega (arith, length-append g.turns (t ∷ []), g.count);
+        few = before_last n none.1 g.few;
+        each = all_push IsOpen g.turns t g.each (record { request = none.0; response = open_ });
+        written = subst (Appends before held') (texts_more g.turns t) (Appends-trans before held held' _ _ g.written x.1);
+      }
+
+  pub session_ended : (old : State D C) (l rest : Option (List ℕ)) (buffer : List ℕ) (desk : D) (clock : C) (before held : Option (List ℕ)) (n : ℕ) (failed_reader failed_writer : Bool)
+      → GoesOn asked tells n old (record { left = l; desk = desk; clock = clock }) before held → Between l (pending buffer rest) (FindsNext None)
+      → Session asked tells old (record { left = rest; desk = desk; clock = clock }) before held failed_reader failed_writer (Ok n)
+  session_ended old l rest buffer desk clock before held n failed_reader failed_writer g ends = record {
+    n = n;
+    last = record { left = l; desk = desk; clock = clock };
+    held = held;
+    goes_on = g;
+    ahead = buffer;
+    ends = inl (refl, record { ends = ends; untouched = record { desk_is = refl; clock_is = refl }; written = Keeps-refl held });
+  }
+
+  pub session_closed : (old : State D C) (l rest : Option (List ℕ)) (buffer : List ℕ) (request : Request) (close : Bool) (desk desk' : D) (clock clock' : C) (before held held' : Option (List ℕ)) (n : ℕ) (failed_reader failed_writer : Bool)
+      → GoesOn asked tells n old (record { left = l; desk = desk; clock = clock }) before held → Between l (pending buffer rest) (FindsNext (Some request))
+      → (c : Comes asked tells request desk clock desk' clock') × Appends held held' (response request c.outcome close) → close ≡ is_last n request → close ≡ true
+      → Session asked tells old (record { left = rest; desk = desk'; clock = clock' }) before held' failed_reader failed_writer (Ok (n + 1))
+  session_closed old l rest buffer request close desk desk' clock clock' before held held' n failed_reader failed_writer g reads x is closed =
+      record {
+        n = n;
+        last = record { left = l; desk = desk; clock = clock };
+        held = held;
+        goes_on = g;
+        ahead = buffer;
+        ends = inr (
+          refl,
+          inl (record {
+            turn = record { request = request; moment = x.0.moment; outcome = x.0.outcome; close = close };
+            step = step_of l (pending buffer rest) request close desk desk' clock clock' x.0 reads;
+            last = sym is ∙ closed;
+            close = closed;
+            written = x.1;
+          }),
+        );
+      }
+
+  pub session_refused : (old : State D C) (l rest : Option (List ℕ)) (buffer : List ℕ) (fault : Fault) (desk : D) (clock : C) (before held held' : Option (List ℕ)) (n : ℕ) (failed_reader failed_writer : Bool)
+      → GoesOn asked tells n old (record { left = l; desk = desk; clock = clock }) before held → Met failed_reader l fault → IsInside fault × Appends held held' (refusal fault)
+      → Session asked tells old (record { left = rest; desk = desk; clock = clock }) before held' failed_reader failed_writer (Ok (n + 1))
+  session_refused old l rest buffer fault desk clock before held held' n failed_reader failed_writer g met x = record {
+    n = n;
+    last = record { left = l; desk = desk; clock = clock };
+    held = held;
+    goes_on = g;
+    ahead = buffer;
+    ends = inr (
+      refl,
+      inr (record {
+        fault = fault;
+        breaks = inside_breaks failed_reader l fault met x.0;
+        untouched = record { desk_is = refl; clock_is = refl };
+        written = x.1;
+      }),
+    );
+  }
+
+  ends_answering : (l l' : Option (List ℕ)) (request : Request) (close : Bool) (desk desk' : D) (clock clock' : C) (held held' : Option (List ℕ)) (n : ℕ) (failed_reader failed_writer : Bool) (e : SessionFault)
+      → Between l l' (FindsNext (Some request)) → AnswersTo asked tells request close desk clock held desk' clock' held' failed_writer (Err e) → close ≡ is_last n request
+      → Ends asked tells n (record { left = l; desk = desk; clock = clock }) (record { left = l'; desk = desk'; clock = clock' }) held held' failed_reader failed_writer (Err e)
+  ends_answering l l' request close desk desk' clock clock' held held' n failed_reader failed_writer Read reads x is = absurd x
+  ends_answering l l' request close desk desk' clock clock' held held' n failed_reader failed_writer Write reads x is = (
+    x.0,
+    inl (record {
+      turn = record { request = request; moment = x.1.moment; outcome = x.1.outcome; close = close };
+      step = step_of l l' request close desk desk' clock clock' x.1 reads;
+      close = is;
+      len = x.2;
+      written = x.3;
+    }),
+  )
+  ends_answering l l' request close desk desk' clock clock' held held' n failed_reader failed_writer OutOfMemory reads (keeps, inl x) is =
+      (keeps, inr (inl (record { request = request; moment = x.0; reads = reads; told = x.1; desk_is = x.2 })))
+  ends_answering l l' request close desk desk' clock clock' held held' n failed_reader failed_writer OutOfMemory reads (keeps, inr x) is =
+      (keeps, inr (inr (record { request = request; moment = x.moment; outcome = x.outcome; close = close }, step_of l l' request close desk desk' clock clock' x reads)))
+
+  pub session_lost : (old : State D C) (l rest : Option (List ℕ)) (buffer : List ℕ) (request : Request) (close : Bool) (desk desk' : D) (clock clock' : C) (before held held' : Option (List ℕ)) (n : ℕ) (failed_reader failed_writer : Bool) (e : SessionFault)
+      → GoesOn asked tells n old (record { left = l; desk = desk; clock = clock }) before held → Between l (pending buffer rest) (FindsNext (Some request))
+      → AnswersTo asked tells request close desk clock held desk' clock' held' failed_writer (Err e) → close ≡ is_last n request
+      → Session asked tells old (record { left = rest; desk = desk'; clock = clock' }) before held' failed_reader failed_writer (Err e)
+  session_lost old l rest buffer request close desk desk' clock clock' before held held' n failed_reader failed_writer e g reads x is = record {
+    n = n;
+    last = record { left = l; desk = desk; clock = clock };
+    held = held;
+    goes_on = g;
+    ahead = buffer;
+    ends = ends_answering l (pending buffer rest) request close desk desk' clock clock' held held' n failed_reader failed_writer e reads x is;
+  }
+
+  ends_refusing : (l l' : Option (List ℕ)) (fault : Fault) (desk : D) (clock : C) (held held' : Option (List ℕ)) (n : ℕ) (failed_reader failed_writer : Bool) (e : SessionFault)
+      → Met failed_reader l fault → RefusesBy fault held held' failed_writer (Err e)
+      → Ends asked tells n (record { left = l; desk = desk; clock = clock }) (record { left = l'; desk = desk; clock = clock }) held held' failed_reader failed_writer (Err e)
+  ends_refusing l l' fault desk clock held held' n failed_reader failed_writer Read met x = (read_failed failed_reader l fault met x.0, record { desk_is = refl; clock_is = refl }, x.1)
+  ends_refusing l l' fault desk clock held held' n failed_reader failed_writer Write met x = (
+    x.1,
+    inr (record {
+      fault = fault;
+      breaks = inside_breaks failed_reader l fault met x.0;
+      untouched = record { desk_is = refl; clock_is = refl };
+      len = x.2;
+      written = x.3;
+    }),
+  )
+  ends_refusing l l' fault desk clock held held' n failed_reader failed_writer OutOfMemory met x = (x, inl (record { desk_is = refl; clock_is = refl }))
+
+  pub session_unrefused : (old : State D C) (l rest : Option (List ℕ)) (buffer : List ℕ) (fault : Fault) (desk : D) (clock : C) (before held held' : Option (List ℕ)) (n : ℕ) (failed_reader failed_writer : Bool) (e : SessionFault)
+      → GoesOn asked tells n old (record { left = l; desk = desk; clock = clock }) before held → Met failed_reader l fault → RefusesBy fault held held' failed_writer (Err e)
+      → Session asked tells old (record { left = rest; desk = desk; clock = clock }) before held' failed_reader failed_writer (Err e)
+  session_unrefused old l rest buffer fault desk clock before held held' n failed_reader failed_writer e g met x = record {
+    n = n;
+    last = record { left = l; desk = desk; clock = clock };
+    held = held;
+    goes_on = g;
+    ahead = buffer;
+    ends = ends_refusing l (pending buffer rest) fault desk clock held held' n failed_reader failed_writer e met x;
+  }

@@ -1,0 +1,5 @@
+pub mod Fault
+pub mod Chain
+pub mod Turn
+pub mod Session
+pub mod Steps

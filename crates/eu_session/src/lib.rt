@@ -1,0 +1,17 @@
+//! Sessions of HTTP: requests in, responses out, over anything that answers what they ask.
+#![tactic(auto)]
+
+mod desk;
+mod faults;
+mod session;
+mod turn;
+
+pub use desk::Desk;
+pub use faults::SessionFault;
+pub use session::serve_session;
+
+/// The most requests of a session.
+pub const MAX_REQUESTS: u32 = 100;
+
+#[cfg(test)]
+mod tests;

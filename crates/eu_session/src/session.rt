@@ -1,0 +1,80 @@
+//! A session: one request after the other.
+ghost use Rattle.std.specs.Prelude.{◌≡◌, OnOk};
+ghost use Rattle.eu_session.specs.Session.{Session};
+ghost use Rattle.eu_session.specs.Turn as spec;
+
+use crate::turn::{answer_request, refuse};
+use crate::{Desk, MAX_REQUESTS, SessionFault};
+use eu_clock::Clock;
+use eu_framing::{Request, read_request};
+use eu_routes::Routes;
+use eu_stream::{Sink, Source};
+use std::alloc::Global;
+
+/// Whether a session ends with the request, which comes after `n` others.
+fn is_last(request: &Request, n: u32) -> bool
+    ensures { result ≡ spec.is_last n request.now }
+{
+    request.closes || n == MAX_REQUESTS - 1
+}
+
+/// Serves a session of HTTP/1.1 (RFC 9112, section 9), and tells how many requests there were.
+///
+/// Requests are read one after another, as `eu_framing::read_request` reads them. Once one is whole, the clock is asked for the
+/// moment, once, and what the request asks then (`eu_http::asks`) is put to the desk, each ask once, in order. The response
+/// (`eu_http::answer`) is written in one piece and flushed before the next request is read. A fault of the desk, its
+/// `OutOfMemory` too, is told in the response, and the session goes on. Of a request that is refused or forbidden the desk is
+/// asked nothing.
+///
+/// The session ends
+///
+/// - with a request that asks for that: one of HTTP/1.0, or with a field `Connection: close`;
+/// - with the 100th request;
+/// - where the bytes begin with no request, by a fault of `read_request` other than the two below. That is answered, without
+///   the clock or the desk being asked, and counts as a request;
+/// - where the bytes end before a request.
+///
+/// In the first three cases the last response says `Connection: close`. Faults end it early:
+///
+/// - `Read`: a read failed. The responses to the requests before are written, and nothing else, and nothing else was asked.
+/// - `Write`: a write or a flush failed. The responses before that one are written, and some front of it, all of it only where
+///   the flush failed. What the last request asks was asked, once.
+/// - `OutOfMemory`: the session itself found no memory. The responses to the requests before are written, and nothing else.
+///   Of the last request all that it asks was asked, once, or nothing.
+///
+/// Bytes that were read behind the last request are lost.
+pub fn serve_session<D: Desk, C: Clock, R: Source, W: Sink>(
+    alloc: Global,
+    routes: &Routes,
+    desk: &mut D,
+    clock: &mut C,
+    reader: &mut R,
+    writer: &mut W,
+) -> Result<u32, SessionFault>
+    ensures session { Session D.asked C.tells
+        (record { left = R.remaining reader.old; desk = desk.old; clock = clock.old })
+        (record { left = R.remaining reader.new; desk = desk.new; clock = clock.new })
+        (W.contents writer.old) (W.contents writer.new) (R.failed reader.new) (W.failed writer.new) result }
+    ensures sound_writer { OnOk result (W.failed writer.new ≡ W.failed writer.old) }
+    ensures same_reader { R.stream reader.new ≡ R.stream reader.old }
+    ensures same_writer { W.stream writer.new ≡ W.stream writer.old }
+{
+    let mut buffer = Vec::new(alloc);
+    for n in 0..MAX_REQUESTS {
+        match read_request(alloc, reader, &mut buffer) {
+            Ok(None) => return Ok(n),
+            Ok(Some(request)) => {
+                let close = is_last(&request, n);
+                answer_request(alloc, routes, desk, clock, writer, &request, close)?;
+                if close {
+                    return Ok(n + 1);
+                }
+            }
+            Err(fault) => {
+                refuse(alloc, writer, fault)?;
+                return Ok(n + 1);
+            }
+        }
+    }
+    Ok(MAX_REQUESTS)
+}

@@ -89,7 +89,7 @@ module _ (a : Account) (kept : IsKept a) where
 
 -- ---- refused
 
-differs : (m n : ℕ) → m ≢ n → eqb m n ≡ false
+pub differs : (m n : ℕ) → m ≢ n → eqb m n ≡ false
 differs m n ne = elim (eqb_tells m n) [ inl same ↦ absurd (ne same.1) | inr apart ↦ apart.0 ]
 
 -- of a refusal that the registry makes

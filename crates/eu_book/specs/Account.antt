@@ -85,10 +85,6 @@ pub record Applies {S : Type 0} (asks : Asks S) (old : Account) (x : S) (pass : 
 abbrev pub fault_of : Account → Machine → Command → ℕ → Option Fault
 fault_of a s c t = if length a.entries == most_entries then Some Exhausted else fault s c t
 
--- want of memory may come in place of any
-abbrev pub IsRefusal : Option Fault → Fault → Type 0
-IsRefusal first f = (f ≡ OutOfMemory) ⊎ (first ≡ Some f)
-
--- of each machine of that plain form
+-- a command is refused by this fault, of each machine of that plain form: by its first one, or for want of memory in place of any
 abbrev pub Refuses : Account → Command → ℕ → Fault → Type 0
-Refuses a c t f = (s : Machine) → plain s ≡ a.state → IsRefusal (fault_of a s c t) f
+Refuses a c t f = (s : Machine) → plain s ≡ a.state → (f ≡ OutOfMemory) ⊎ (fault_of a s c t ≡ Some f)

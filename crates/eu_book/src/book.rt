@@ -1,5 +1,5 @@
 //! The book.
-ghost use Rattle.std.specs.Prelude.{◌≡◌, ◌+◌, ◌<◌, ◌^◌, List, ℕ, replicate, IfOk, IfErr, OnErr};
+ghost use Rattle.std.specs.Prelude.{◌≡◌, ◌+◌, ◌<◌, ◌^◌, replicate, IfOk, IfErr, OnErr};
 ghost use Rattle.eu_model.specs.Answers.{Shows};
 ghost use Rattle.eu_model.specs.Delta.{plus};
 ghost use Rattle.eu_core.specs.State.{state_of};
@@ -71,7 +71,7 @@ impl Book {
         }
     }
 
-    /// Tells the registry a command at a moment, for the pass of that number.
+    /// Tells the registry a command at a moment. `pass` is the number of who asks: it is only noted in the entry.
     ///
     /// The registry answers as the call does that the command names (`Registry`), and the command with its reply is one entry
     /// more of the journal. Only an eviction pass asks the chooser.
@@ -112,7 +112,7 @@ impl Book {
         })
     }
 
-    /// What a query sees at a moment. `OutOfMemory`.
+    /// What a query sees at a moment; the book stays as it is. `AllocError` where no memory is left.
     pub fn read(&self, alloc: Global, query: &Query, moment: Moment) -> Result<View, AllocError>
         ensures { IfOk result (λ v. Shows self.now.state (λ s. view s query.now moment) v) }
     {
@@ -128,6 +128,13 @@ impl Book {
             Query::All => View::All(Listing::new(self.registry.list(alloc, None)?)),
             Query::Counts => View::Counts(self.registry.counts()),
         })
+    }
+
+    /// The registry as it is, to be looked at.
+    pub fn registry(&self) -> &Registry
+        ensures { result.now ≡ self.now.state }
+    {
+        &self.registry
     }
 
     /// What the registry was told. Its entries are a run of the lease machine from the base to the registry as it is, numbered
@@ -148,7 +155,7 @@ impl Book {
         self.totals
     }
 
-    /// The registry as it is, as plain data (`Registry::plain`). `OutOfMemory`.
+    /// The registry as it is, as plain data (`Registry::plain`). `AllocError` where no memory is left.
     pub fn state(&self, alloc: Global) -> Result<State, AllocError>
         ensures { IfOk result (λ s. s ≡ state_of self.now.state) }
     {

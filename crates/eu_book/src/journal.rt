@@ -1,5 +1,4 @@
 //! The journal of a book.
-ghost use Rattle.std.specs.Prelude.{◌≡◌, ◌++◌, ◌∷◌, [], ◌<◌, vec_len, vec_capacity};
 
 use eu_model::{Entry, State};
 

@@ -160,6 +160,7 @@ fn what_is_held_is_read(rt: HostRuntime) -> Result<(), Fail> {
     };
     assert!(rt; first.instance.key.id.as_str() == "i1");
     assert!(rt; second.instance.key.id.as_str() == "i3" && second.times.registered == 0);
+    assert!(rt; book.registry().counts().held == 2);
     Ok(())
 }
 

@@ -1,5 +1,5 @@
 //! Lists of keys that are drawn from, each in the same way.
-ghost use Rattle.std.specs.Prelude.{◌≡◌, ◌<◌, ◌≤◌, Bool, [], length, replicate, swap, take, vec_capacity, All, IfOk, IsPermutation};
+ghost use Rattle.std.specs.Prelude.{◌≡◌, ◌<◌, ◌≤◌, Bool, [], length, replicate, swap, take, vec_capacity, IfOk, IsPermutation};
 ghost use Rattle.std.specs.List.{IsDistinct};
 ghost use Rattle.eu_choice.specs.Front.{shuffled, state_after};
 ghost use Rattle.eu_base.specs.declared.names.Key.{Key};

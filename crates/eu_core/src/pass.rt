@@ -9,7 +9,6 @@ ghost use Rattle.eu_model.specs.Maps.{without};
 use crate::lots::{draw_all, evictions, lots};
 use crate::overrides::Overrides;
 use eu_base::{Config, Key, Moment};
-use eu_choice::choose;
 use eu_clock::Chooser;
 use eu_meter::evict_limit;
 use eu_model::Reply;

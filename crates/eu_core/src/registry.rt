@@ -425,7 +425,7 @@ impl Registry {
     }
 
     /// The registry as plain data: settings, number expected, leases in key order, override rows in the order of their ids, the
-    /// counts of renewals and the previous pass. `OutOfMemory`.
+    /// counts of renewals and the previous pass. `AllocError` where no memory is left.
     pub fn plain(&self, alloc: Global) -> Result<State, AllocError>
         ensures { IfOk result (λ s. s ≡ state_of self.now) }
     {

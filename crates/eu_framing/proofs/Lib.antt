@@ -5,4 +5,7 @@ pub mod BodyLemmas
 pub mod ChunkLemmas
 pub mod TrailerLemmas
 pub mod RequestLemmas
+pub mod HeadLawLemmas
+pub mod TrailerLawLemmas
+pub mod ChunkLawLemmas
 pub mod LawLemmas

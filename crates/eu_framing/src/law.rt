@@ -1,11 +1,11 @@
 //! What the definition of the next request decides.
-ghost use Rattle.eu_framing.specs.Law.{OneMessage, HeadIsWhole, FieldsAreGood, LengthIsWhole};
+ghost use Rattle.eu_framing.specs.Law.{OneMessage, WholeIsFaultless, EndIsAlone, OneFault};
 
-/// A law without code: bytes begin with one request at most; where they do, its head isn't also too long, broken or cut, and its
-/// fields have no fault; and a body with a length isn't also cut.
+/// A law without code: bytes begin with one request at most; where they do, they have no fault; where they end before one,
+/// they have neither; and they have one fault at most, but where the definition names two.
 pub fn one_request_at_most()
     ensures one { OneMessage }
-    ensures head { HeadIsWhole }
-    ensures fields { FieldsAreGood }
-    ensures length { LengthIsWhole }
+    ensures whole { WholeIsFaultless }
+    ensures end { EndIsAlone }
+    ensures fault { OneFault }
 {}

@@ -1,5 +1,5 @@
 -- Texts that are written one behind the other
-use Rattle.std.proofs.Common.{◌≡◌, ℕ, List, [], ◌∷◌, ◌++◌, refl, ap, sym, ◌∙◌}
+use Rattle.std.proofs.Common.{◌≡◌, ℕ, List, ◌++◌, ◌∙◌}
 use Rattle.std.proofs.lemmas.List.{append_assoc}
 
 -- five parts, each behind what was written before

@@ -1,6 +1,5 @@
 -- What a request asks of the registry
 use Rattle.std.specs.Prelude.{ℕ, Bool, List, [], ◌∷◌, Option, Some, None, Result, Ok, Err, map, if◌then◌else◌, string_bytes}
-use Rattle.std.specs.Option.{option_map}
 use Rattle.std.specs.Str.{is_utf8}
 use Rattle.eu_base.specs.declared.faults.Fault.{Fault}
 use Rattle.eu_base.specs.declared.faults.Fault.TheVariants.{NotJson}

@@ -120,7 +120,10 @@ fn response_to(alloc: Global, request: &Request, outcome: &Outcome) -> Result<Re
 }
 
 /// The bytes of the response to a request, for what came of it (`ApplicationResource`, `InstanceResource` and
-/// `ApplicationsResource` in Eureka; RFC 9112, section 4).
+/// `ApplicationsResource` in Eureka; RFC 9112, section 4). `close` says that the connection ends: the response has
+/// `Connection: close` then.
+///
+/// Statuses and contents are those of `docs/FORMATS.md`. `AllocError` where no memory is left.
 pub fn answer(
     alloc: Global,
     request: &Request,

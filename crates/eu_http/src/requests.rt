@@ -48,13 +48,10 @@ fn asks_for(alloc: Global, route: Route, request: &Request, moment: Moment) -> R
 {
     let replicated = request.replicated;
     let ask = match route {
-        Route::Register(app) => {
-            let instance = instance_in(alloc, &app, moment, &request.body)?;
-            Ask::Do(Command::Register {
-                instance,
-                replicated,
-            })
-        }
+        Route::Register(app) => Ask::Do(Command::Register {
+            instance: instance_in(alloc, &app, moment, &request.body)?,
+            replicated,
+        }),
         Route::Renew {
             key,
             dirty,

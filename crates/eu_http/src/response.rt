@@ -1,5 +1,5 @@
 //! A response, before it is written.
-ghost use Rattle.std.specs.Prelude.{◌≡◌, false, IfOk, None, option_map, string_bytes};
+ghost use Rattle.std.specs.Prelude.{◌≡◌, false, IfOk, None, option_map};
 ghost use Rattle.serde_json.specs.View.{view};
 ghost use Rattle.serde_json.specs.Written.{has_float, compact_text};
 ghost use Rattle.eu_http.specs.Response as spec;

@@ -52,7 +52,7 @@ fn push_close(text: &mut String, close: bool) -> Result<(), AllocError>
     }
 }
 
-/// The text of a response. `OutOfMemory`.
+/// The text of a response. `AllocError` where no memory is left.
 pub fn print(alloc: Global, response: &Response, close: bool) -> Result<String, AllocError>
     ensures { IfOk result (λ text. string_bytes text ≡ spec.print (response_of response.now) close) }
 {

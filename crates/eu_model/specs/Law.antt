@@ -57,7 +57,7 @@ PreservationForbids =
 
 -- ---- accounts
 
--- what a step leaves held is what was held, with what came by it, less what went
+-- as many leases are held after a step as before, with those that came by it and without those that went
 abbrev pub LeasesAreAccounted : Type 0
 LeasesAreAccounted =
     (s : Machine) (c : Command) (t : ℕ) (reply : Reply) (new : Machine) → Step s c t reply new

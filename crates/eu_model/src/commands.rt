@@ -70,7 +70,7 @@ pub enum Command {
 }
 
 impl Command {
-    /// The same command once more. Takes memory for its key or its instance alone.
+    /// The same command once more. Takes memory for its key or its instance alone; `AllocError` where none is left.
     pub fn copy(&self, alloc: Global) -> Result<Command, AllocError>
         ensures { IfOk result (λ c. c ≡ self.now) }
     {
@@ -219,7 +219,7 @@ pub enum Reply {
 }
 
 impl Reply {
-    /// The same reply once more. Takes memory for a `Conflict` and for an `Evicted` alone.
+    /// The same reply once more. Takes memory for a `Conflict` and for an `Evicted` alone; `AllocError` where none is left.
     pub fn copy(&self, alloc: Global) -> Result<Reply, AllocError>
         ensures same { IfOk result (λ r. r ≡ self.now) }
         ensures memory { owns_nothing self.now ≡ true → IsOk result }
@@ -246,7 +246,7 @@ impl Reply {
 /// A command that was accepted, with its reply.
 #[derive(Debug, Drop)]
 pub struct Entry {
-    /// The number of the pass that asked.
+    /// The number of who asked; it means nothing to the registry, and is no eviction pass.
     pub pass: u64,
     /// The number of the step, from 0.
     pub number: u64,

@@ -35,7 +35,7 @@ impl Keys {
         self.keys.as_slice()
     }
 
-    /// The same keys once more.
+    /// The same keys once more. `AllocError` where no memory is left.
     pub fn copy(&self, alloc: Global) -> Result<Keys, AllocError>
         ensures { IfOk result (λ k. k ≡ self.now) }
     {

@@ -19,8 +19,8 @@ pub fn passes_are_safe()
     ensures preservation { PreservationForbids }
 {}
 
-/// A law without code, over every step of the machine: the leases held after it and those that went by it are the leases held
-/// before and those that came.
+/// A law without code, over every step of the machine: as many leases are held after it as before, with those that came by it
+/// and without those that went.
 pub fn leases_are_accounted()
     ensures { LeasesAreAccounted }
 {}

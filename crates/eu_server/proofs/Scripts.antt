@@ -1,15 +1,15 @@
 -- A desk runs a script as the lease machine does
-use Rattle.std.proofs.Common.{◌≡◌, ℕ, Bool, List, Option, None, Result, sym, ◌∙◌}
+use Rattle.std.proofs.Common.{◌≡◌, ℕ, Bool, List, Option, None, Result, sym, subst, ◌∙◌}
 use Rattle.eu_base.specs.declared.settings.Config.{Config}
 use Rattle.eu_lines.specs.declared.faults.ScriptFault.{ScriptFault}
 use Rattle.eu_lines.specs.Script.{Outcome}
 use Rattle.eu_server.specs.declared.desk.Desk.{Desk}
-use Rattle.eu_server.specs.Desk.{DeskAnswers, DeskRefuses, Keeps}
+use Rattle.eu_server.specs.Desk.{DeskAnswers, DeskRefuses, HoldsRun, Keeps}
 use Rattle.eu_server.specs.Script.{Ran, Answers, Refuses, ScriptRuns}
 use Rattle.eu_server.proofs.Alike.{outcome}
 
 module _ {C : Type 0} (config : Config) (asks : C → ℕ → ℕ × C) where
-  -- the desk has these settings, and keeps the plain form of this run
+  -- the desk has these settings, and keeps the account of this run
   abbrev IsAt : Desk → Option Ran → Type 0
   IsAt d s = (d.config ≡ config) × Keeps d s
 
@@ -24,7 +24,7 @@ module _ {C : Type 0} (config : Config) (asks : C → ℕ → ℕ × C) where
 
   -- what a desk before the registry is opened does with a script
   pub runs : (d d' : Desk) (x x' : C) (left : Option (List ℕ)) (failed_reader failed_writer : Bool) (read : List ℕ) (result : Result (Unit {0}) ScriptFault) (out : List ℕ)
-      → d.config ≡ config → d.registry ≡ None → Outcome (DeskAnswers asks) DeskRefuses d x d' x' left failed_reader failed_writer read result out
+      → d.config ≡ config → d.book ≡ None → Outcome (DeskAnswers asks) DeskRefuses d x d' x' left failed_reader failed_writer read result out
       → ScriptRuns config asks x x' left failed_reader failed_writer read result out
   runs d d' x x' left failed_reader failed_writer read result out same closed p =
-      outcome (DeskAnswers asks) DeskRefuses (Answers config asks) Refuses IsAt both bad d d' None x x' left failed_reader failed_writer read result out (same, sym closed) p
+      outcome (DeskAnswers asks) DeskRefuses (Answers config asks) Refuses IsAt both bad d d' None x x' left failed_reader failed_writer read result out (same, subst (λ b. HoldsRun b None) (sym closed) tt) p

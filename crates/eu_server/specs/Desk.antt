@@ -1,21 +1,29 @@
--- A desk, which keeps the plain form of a registry, against the lease machine
-use Rattle.std.specs.Prelude.{◌≡◌, ℕ, Bool, true, false, List, Option, Some}
-use Rattle.std.specs.Option.{option_map}
-use Rattle.eu_model.specs.Plain.{Plain, plain}
+-- A desk, which keeps the account of a book, against the lease machine
+use Rattle.std.specs.Prelude.{◌≡◌, ℕ, Bool, true, false, List, Option, Some, None}
+use Rattle.eu_book.specs.Account.{Account}
+use Rattle.eu_model.specs.Plain.{plain}
 use Rattle.eu_server.specs.declared.desk.Desk.{Desk}
+use Rattle.eu_server.specs.Script.{Ran, Answers, Refuses, SaysClosed, SaysOpened, Tells}
 use Rattle.eu_words.specs.Lines.{Said}
-use Rattle.eu_words.specs.Lines.Said.{Renew, SetStatus, UnsetStatus}
-use Rattle.eu_server.specs.Script.{Ran, Answers, Refuses, SaysClosed, SaysUnasked, SaysOpened}
+use Rattle.eu_words.specs.Lines.Said.{Register, Renew, Cancel, SetStatus, UnsetStatus, Adopt, Roll, Update, Evict}
 
--- what is kept of a run
-abbrev pub kept_of : Ran → Plain
-kept_of r = plain r.machine
+-- the account is that of this run: it has the entries, and the plain form of the machine
+pub record Holds (a : Account) (r : Ran) : Type 0 where
+  pub entries : a.entries ≡ r.entries
+  pub state : a.state ≡ plain r.machine
 
--- the desk keeps the plain form of this run's machine; None where none is open
+-- the same; None where none is open
+abbrev pub HoldsRun : Option Account → Option Ran → Type 0
+HoldsRun None None = Unit {0}
+HoldsRun (Some a) (Some r) = Holds a r
+HoldsRun None (Some r) = ⊥
+HoldsRun (Some a) None = ⊥
+
+-- the desk keeps the account of this run
 abbrev pub Keeps : Desk → Option Ran → Type 0
-Keeps d s = option_map kept_of s ≡ d.registry
+Keeps d s = HoldsRun d.book s
 
--- From each run whose plain form the desk keeps, the line is answered so, and the plain form after is kept
+-- From each run whose account the desk keeps, the line is answered so, and the account of the run after is kept
 abbrev pub DeskAnswers : {C : Type 0} → (C → ℕ → ℕ × C) → Desk → C → List ℕ → List ℕ → Desk → C → Type 0
 DeskAnswers asks d x line out d' x' =
     (d'.config ≡ d.config)
@@ -25,21 +33,34 @@ DeskAnswers asks d x line out d' x' =
 abbrev pub DeskRefuses : {C : Type 0} → Desk → C → List ℕ → Type 0
 DeskRefuses d x line = (s : Option Ran) → Keeps d s → Refuses s x line
 
--- before the registry is open, what a line says is answered so, and the plain form of the run that it begins is kept
+-- before the registry is open, what a line says is answered so, and the account of the run that it begins is kept
 abbrev pub ClosedAnswers : Desk → Said → List ℕ → Desk → Type 0
-ClosedAnswers d said out d' = (next : Ran) × SaysClosed d.config said out next × (d' ≡ record d { registry = Some (kept_of next) })
+ClosedAnswers d said out d' = (next : Ran) × SaysClosed d.config said out next × (d'.config ≡ d.config) × Keeps d' (Some next)
 
--- from each run of that plain form, an open registry and a chooser answer what a line says so, and both are the others after
-abbrev pub OpenedAnswers : {C : Type 0} → (C → ℕ → ℕ × C) → Plain → C → Said → List ℕ → Plain → C → Type 0
-OpenedAnswers asks p x said out q x' = (r : Ran) → kept_of r ≡ p → (next : Ran) × SaysOpened asks said r x out next x' × (kept_of next ≡ q)
+-- from each run of that account, an open book and a chooser answer what a line says so, and both are the others after
+abbrev pub OpenedAnswers : {C : Type 0} → (C → ℕ → ℕ × C) → Account → C → Said → List ℕ → Account → C → Type 0
+OpenedAnswers asks a x said out b x' = (r : Ran) → Holds a r → (next : Ran) × SaysOpened asks said r x out next x' × Holds b next
 
--- the same, where no word is asked
-abbrev pub UnaskedAnswers : Plain → Said → List ℕ → Plain → Type 0
-UnaskedAnswers p said out q = (r : Ran) → kept_of r ≡ p → (next : Ran) × SaysUnasked said r out next × (kept_of next ≡ q)
+-- from each run of that account, a book and a chooser do what a line tells, and both are the others after
+abbrev pub Told : {C : Type 0} → (C → ℕ → ℕ × C) → Account → C → Said → List ℕ → Account → C → Type 0
+Told asks a x said out b x' = (r : Ran) → Holds a r → (next : Ran) × Tells asks said r x out next x' × Holds b next
 
--- what is said has a stamp that may be absent
+-- what is said tells a command whose stamp may be absent
 abbrev pub is_stamped : Said → Bool
 is_stamped (Renew t k dirty overridden replicated) = true
 is_stamped (SetStatus t k status dirty replicated) = true
 is_stamped (UnsetStatus t k status dirty replicated) = true
 is_stamped _ = false
+
+-- what is said tells a command
+abbrev pub commands : Said → Bool
+commands (Register t n replicated) = true
+commands (Renew t k dirty overridden replicated) = true
+commands (Cancel t k replicated) = true
+commands (SetStatus t k status dirty replicated) = true
+commands (UnsetStatus t k status dirty replicated) = true
+commands (Adopt t n) = true
+commands (Roll t) = true
+commands (Update t) = true
+commands (Evict t) = true
+commands _ = false

@@ -1,14 +1,17 @@
 -- What the lines of a script do to a registry, and what they print
-use Rattle.std.specs.Prelude.{◌≡◌, ◌⊎◌, ℕ, Bool, true, false, not, IsTrue, List, [], ◌∷◌, ◌++◌, Option, Some, None, Result, codes, refl}
+use Rattle.std.specs.Prelude.{◌≡◌, ◌⊎◌, ℕ, Bool, true, false, not, IsTrue, List, [], ◌∷◌, ◌++◌, ◌==◌, length, Option, Some, None, Result, codes, if◌then◌else◌, refl}
 use Rattle.eu_base.specs.declared.faults.Fault.{Fault}
+use Rattle.eu_base.specs.declared.faults.Fault.TheVariants.{Exhausted}
 use Rattle.eu_base.specs.declared.instances.Instance.{Instance}
 use Rattle.eu_base.specs.declared.settings.Config.{Config}
 use Rattle.eu_base.specs.declared.times.Stamp.{Stamp}
+use Rattle.eu_book.specs.Account.{most_entries}
 use Rattle.eu_lines.specs.declared.faults.ScriptFault.{ScriptFault}
 use Rattle.eu_lines.specs.Script.{Outcome}
 use Rattle.eu_model.specs.declared.commands.Command.{Command}
 use Rattle.eu_model.specs.declared.commands.Command.TheVariants as command
 use Rattle.eu_model.specs.declared.commands.Entry.{Entry}
+use Rattle.eu_model.specs.declared.commands.Reply.{Reply}
 use Rattle.eu_model.specs.declared.commands.Reply.TheVariants.{Evicted}
 use Rattle.eu_model.specs.Machine.{Machine, opening}
 use Rattle.eu_model.specs.Run.{Run, fault}
@@ -40,37 +43,36 @@ GoesOn r e next =
     (next.config ≡ r.config) × (next.opened ≡ r.opened) × (next.entries ≡ r.entries ++ e ∷ [])
     × (fault r.machine e.command e.moment ≡ None) × Step r.machine e.command e.moment e.reply next.machine
 
--- A command at a moment, asked in the run r: one that is answered prints its reply, and is the next entry of the run; one that is
--- refused prints the fault's number, and changes nothing
-abbrev pub Does : Ran → Command → ℕ → List ℕ → Ran → Type 0
-Does r c t out next =
-    ((e : Entry) × (e.command ≡ c) × (e.moment ≡ t) × GoesOn r e next × (out ≡ reply_text e.reply))
-    ⊎ ((f : Fault) × (fault r.machine c t ≡ Some f) × (out ≡ refused_text f) × (next ≡ r))
+-- a run has so many entries at most
+abbrev pub is_full : Ran → Bool
+is_full r = length r.entries == most_entries
+
+-- why a command is refused in a run, if it is: there is no room for its entry, or the machine refuses it
+abbrev pub refusal_in : Ran → Command → ℕ → Option Fault
+refusal_in r c t = if is_full r then Some Exhausted else fault r.machine c t
+
+-- what is said tells the registry this command at this moment
+abbrev pub Commands : Said → Command → ℕ → Type 0
+Commands (Register t n replicated) c moment = (moment ≡ t) × (i : Instance) × (newcomer_of i ≡ n) × (c ≡ command.Register i replicated)
+Commands (Renew t k dirty overridden replicated) c moment =
+    (moment ≡ t) × (stamp : Option Stamp) × (number_of stamp ≡ dirty) × (c ≡ command.Renew k stamp overridden replicated)
+Commands (Cancel t k replicated) c moment = (moment ≡ t) × (c ≡ command.Cancel k replicated)
+Commands (SetStatus t k status dirty replicated) c moment =
+    (moment ≡ t) × (stamp : Option Stamp) × (number_of stamp ≡ dirty) × (c ≡ command.SetStatus k status stamp replicated)
+Commands (UnsetStatus t k status dirty replicated) c moment =
+    (moment ≡ t) × (stamp : Option Stamp) × (number_of stamp ≡ dirty) × (c ≡ command.UnsetStatus k status stamp replicated)
+Commands (Adopt t n) c moment = (moment ≡ t) × (i : Instance) × (newcomer_of i ≡ n) × (c ≡ command.Adopt i)
+Commands (Roll t) c moment = (moment ≡ t) × (c ≡ command.Roll)
+Commands (Update t) c moment = (moment ≡ t) × (c ≡ command.Update)
+Commands (Evict t) c moment = (moment ≡ t) × (c ≡ command.Evict)
+Commands (Look t k) c moment = ⊥
+Commands (Counts t) c moment = ⊥
+Commands (Page t) c moment = ⊥
+Commands (Open n) c moment = ⊥
 
 -- a question prints this text of the machine, and changes nothing
 abbrev pub Sees : Ran → (Machine → List ℕ) → List ℕ → Ran → Type 0
 Sees r text out next = (out ≡ text r.machine) × (next ≡ r)
-
--- a line that says this prints out once the registry is open, asks no word, and takes its run from r to next
-abbrev pub SaysUnasked : Said → Ran → List ℕ → Ran → Type 0
-SaysUnasked (Register t n replicated) r out next = (i : Instance) × (newcomer_of i ≡ n) × Does r (command.Register i replicated) t out next
-SaysUnasked (Renew t k dirty overridden replicated) r out next =
-    (stamp : Option Stamp) × (number_of stamp ≡ dirty) × Does r (command.Renew k stamp overridden replicated) t out next
-SaysUnasked (Cancel t k replicated) r out next = Does r (command.Cancel k replicated) t out next
-SaysUnasked (SetStatus t k status dirty replicated) r out next =
-    (stamp : Option Stamp) × (number_of stamp ≡ dirty) × Does r (command.SetStatus k status stamp replicated) t out next
-SaysUnasked (UnsetStatus t k status dirty replicated) r out next =
-    (stamp : Option Stamp) × (number_of stamp ≡ dirty) × Does r (command.UnsetStatus k status stamp replicated) t out next
-SaysUnasked (Adopt t n) r out next = (i : Instance) × (newcomer_of i ≡ n) × Does r (command.Adopt i) t out next
-SaysUnasked (Roll t) r out next = Does r command.Roll t out next
-SaysUnasked (Update t) r out next = Does r command.Update t out next
-SaysUnasked (Look t k) r out next = Sees r (λ s. look_text (one s k t)) out next
-SaysUnasked (Counts t) r out next = Sees r (λ s. counts_text (counts s)) out next
-SaysUnasked (Page t) r out next = Sees r (λ s. shown_page (counts s) (listing None s)) out next
--- a pass asks
-SaysUnasked (Evict t) r out next = ⊥
--- the registry is opened only once
-SaysUnasked (Open n) r out next = ⊥
 
 -- a line that says this prints out before the registry is open, and begins the run next: only one that opens it does
 abbrev pub SaysClosed : Config → Said → List ℕ → Ran → Type 0
@@ -79,17 +81,30 @@ SaysClosed config _ out next = ⊥
 
 -- `asks` is the law of a chooser: its word below a bound, and its state after
 module _ {C : Type 0} (asks : C → ℕ → ℕ × C) where
-  -- A pass at a moment is the next entry of the run r and prints its victims: those that the next words of the chooser x draw from
-  -- the keys that are due, in key order. It leaves the chooser x'
-  abbrev pub Passes : Ran → ℕ → C → List ℕ → Ran → C → Type 0
-  Passes r t x out next x' =
-      (e : Entry) × (e.command ≡ command.Evict) × (e.moment ≡ t) × GoesOn r e next
-      × (e.reply ≡ Evicted (drawn_victims asks r.machine t x)) × (out ≡ reply_text e.reply) × (x' ≡ drawn_state asks r.machine t x)
+  -- The victims of a pass are those that the next words of the chooser x draw from the keys that are due, in key order, and leave
+  -- it x'. No other command asks it
+  abbrev pub Draws : Machine → C → Command → ℕ → Reply → C → Type 0
+  Draws s x command.Evict t reply x' = (reply ≡ Evicted (drawn_victims asks s t x)) × (x' ≡ drawn_state asks s t x)
+  Draws s x _ t reply x' = x' ≡ x
+
+  -- A command at a moment, told in the run r: one that is answered prints its reply, and is the next entry of the run; one that is
+  -- refused prints the fault's number, and changes nothing
+  abbrev pub Does : Ran → C → Command → ℕ → List ℕ → Ran → C → Type 0
+  Does r x c t out next x' =
+      ((e : Entry) × (e.command ≡ c) × (e.moment ≡ t) × (is_full r ≡ false) × GoesOn r e next × Draws r.machine x c t e.reply x' × (out ≡ reply_text e.reply))
+      ⊎ ((f : Fault) × (refusal_in r c t ≡ Some f) × (out ≡ refused_text f) × (next ≡ r) × (x' ≡ x))
+
+  -- what is said tells a command, which is done so
+  abbrev pub Tells : Said → Ran → C → List ℕ → Ran → C → Type 0
+  Tells said r x out next x' = (c : Command) × (t : ℕ) × Commands said c t × Does r x c t out next x'
 
   -- a line that says this prints out once the registry is open, and takes its run and the chooser from r and x to next and x'
   abbrev pub SaysOpened : Said → Ran → C → List ℕ → Ran → C → Type 0
-  SaysOpened (Evict t) r x out next x' = Passes r t x out next x'
-  SaysOpened said r x out next x' = SaysUnasked said r out next × (x' ≡ x)
+  SaysOpened (Look t k) r x out next x' = Sees r (λ s. look_text (one s k t)) out next × (x' ≡ x)
+  SaysOpened (Counts t) r x out next x' = Sees r (λ s. counts_text (counts s)) out next × (x' ≡ x)
+  SaysOpened (Page t) r x out next x' = Sees r (λ s. shown_page (counts s) (listing None s)) out next × (x' ≡ x)
+  -- any other tells a command; one that opens the registry tells none, and is answered only once
+  SaysOpened said r x out next x' = Tells said r x out next x'
 
 -- The registry is the run that it has made, or None before it is opened
 module _ {C : Type 0} (config : Config) (asks : C → ℕ → ℕ × C) where

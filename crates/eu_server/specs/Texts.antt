@@ -6,6 +6,7 @@ use Rattle.eu_base.specs.declared.instances.Instance.{Instance}
 use Rattle.eu_base.specs.declared.names.Key.{Key}
 use Rattle.eu_base.specs.Fault.{fault_number}
 use Rattle.eu_base.specs.Status.{status_name}
+use Rattle.eu_book.specs.declared.book.Receipt.{Receipt}
 use Rattle.eu_model.specs.declared.commands.Reply.{Reply}
 use Rattle.eu_model.specs.declared.commands.Reply.TheVariants.{Registered, Done, NotFound, Stale, Conflict, Last, Expected, Evicted}
 use Rattle.eu_model.specs.declared.views.Counts.{Counts}
@@ -58,6 +59,6 @@ look_text None = codes "404\n"
 look_text (Some l) = found_text l.instance l.times
 
 -- the printed line of a command's answer
-abbrev pub answer_text : Result Reply Fault → List ℕ
-answer_text (Ok reply) = reply_text reply
+abbrev pub answer_text : Result Receipt Fault → List ℕ
+answer_text (Ok receipt) = reply_text receipt.reply
 answer_text (Err fault) = refused_text fault

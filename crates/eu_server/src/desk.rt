@@ -1,39 +1,40 @@
-//! A registry that answers the lines of a script.
-ghost use Rattle.std.specs.Prelude.{◌≡◌, ◌≢◌, ◌++◌, [], None, OnOk, IfErr, Err, IsTrue, not, string_bytes};
+//! A book that answers the lines of a script.
+ghost use Rattle.std.specs.Prelude.{◌≡◌, ◌≢◌, ◌++◌, [], None, OnOk, IfErr, IfSome, Err, IsTrue, not, string_bytes};
 ghost use Rattle.eu_server.specs.Texts.{answer_text};
 ghost use Rattle.eu_model.specs.Answers.{Shows};
 ghost use Rattle.eu_model.specs.View.{counts, listing};
 ghost use Rattle.eu_page.specs.Page.{shown_page};
 ghost use Rattle.eu_words.specs.Lines.{said_of};
-ghost use Rattle.eu_server.specs.Script.{opens};
-ghost use Rattle.eu_server.specs.Desk.{DeskAnswers, DeskRefuses, ClosedAnswers, OpenedAnswers, UnaskedAnswers, is_stamped};
+ghost use Rattle.eu_server.specs.Script.{opens, Commands};
+ghost use Rattle.eu_server.specs.Desk.{DeskAnswers, DeskRefuses, ClosedAnswers, OpenedAnswers, Told, commands, is_stamped};
 
 use crate::printing::{print_counts, print_look, print_page, print_refusal, print_reply};
-use eu_base::{Config, Fault};
+use eu_base::{Config, Fault, Moment};
+use eu_book::{Book, Receipt};
 use eu_clock::Chooser;
 use eu_core::Registry;
 use eu_lines::{Answerer, LineError};
-use eu_model::Reply;
+use eu_model::Command;
 use eu_words::{Line, read_line};
 use std::alloc::Global;
 
-/// Answers the lines of a script, by a registry once a line has opened it.
+/// The number by which a script asks its book.
+const PASS: u64 = 0;
+
+/// Answers the lines of a script, by a registry and its journal once a line has opened them.
 #[derive(Drop)]
 pub struct Desk {
     config: Config,
-    registry: Option<Registry>,
+    book: Option<Book>,
 }
 
 impl Desk {
     /// With these settings, before the registry is opened.
     pub fn new(config: Config) -> Desk
         ensures config { result.config ≡ config }
-        ensures registry { result.registry ≡ None }
+        ensures book { result.book ≡ None }
     {
-        Desk {
-            config,
-            registry: None,
-        }
+        Desk { config, book: None }
     }
 
     /// Answers a line before the registry is open: opens it. `Bad` where the line doesn't say that; `OutOfMemory`.
@@ -46,7 +47,7 @@ impl Desk {
             return Err(LineError::Bad);
         };
         out.push_str("opened\n")?;
-        self.registry = Some(Registry::open(alloc, self.config, expected));
+        self.book = Some(Book::open(alloc, self.config, expected));
         Ok(())
     }
 }
@@ -64,44 +65,32 @@ impl<C: Chooser> Answerer<C> for Desk {
         out: &mut String,
     ) -> Result<(), LineError> {
         let line = read_line(alloc, line)?;
-        let Some(registry) = self.registry.as_mut() else {
+        let Some(book) = self.book.as_mut() else {
             return self.open(alloc, line, out);
         };
-        answer_opened(alloc, registry, chooser, line, out)
+        answer_opened(alloc, book, chooser, line, out)
     }
 }
 
 /// Answers a line once the registry is open. `Bad` where the line opens it once more, which asks no word; `OutOfMemory`.
 fn answer_opened<C: Chooser>(
     alloc: Global,
-    registry: &mut Registry,
+    book: &mut Book,
     chooser: &mut C,
     line: Line,
     out: &mut String,
 ) -> Result<(), LineError>
     requires { string_bytes out.old ≡ [] }
-    ensures ok { OnOk result (OpenedAnswers C.asks registry.old chooser.old (said_of line) (string_bytes out.new) registry.new chooser.new) }
+    ensures ok { OnOk result (OpenedAnswers C.asks book.old chooser.old (said_of line) (string_bytes out.new) book.new chooser.new) }
     ensures bad { result ≡ Err LineError.Bad → IsTrue (opens (said_of line)) }
     ensures kept { result ≡ Err LineError.Bad → chooser.new ≡ chooser.old }
 {
     match line {
         Line::Open(_) => Err(LineError::Bad),
-        Line::Register {
-            moment,
-            instance,
-            replicated,
-        } => print_answer(out, registry.register(alloc, instance, replicated, moment)),
-        Line::Adopt { moment, instance } => {
-            print_answer(out, registry.adopt(alloc, instance, moment))
-        }
-        Line::Cancel { key, .. } => print_answer(out, Ok(registry.cancel(&key))),
-        Line::Roll { .. } => print_answer(out, Ok(registry.roll())),
-        Line::Update { .. } => print_answer(out, Ok(registry.update())),
-        Line::Evict { moment } => print_answer(out, registry.evict(alloc, moment, chooser)),
-        Line::Look { moment, key } => Ok(print_look(out, registry.look(&key, moment))?),
-        Line::Counts { .. } => Ok(print_counts(out, &registry.counts())?),
-        Line::Page { .. } => answer_page(alloc, registry, out),
-        line => answer_stamped(alloc, registry, line, out),
+        Line::Look { moment, key } => Ok(print_look(out, book.registry().look(&key, moment))?),
+        Line::Counts { .. } => Ok(print_counts(out, &book.registry().counts())?),
+        Line::Page { .. } => answer_page(alloc, book.registry(), out),
+        line => answer_command(alloc, book, chooser, line, out),
     }
 }
 
@@ -114,17 +103,59 @@ fn answer_page(alloc: Global, registry: &Registry, out: &mut String) -> Result<(
     Ok(print_page(alloc, out, &registry.counts(), held.as_slice())?)
 }
 
-/// Answers a line whose stamp may be absent: it renews a lease, or sets or unsets a status. `Bad` where it does none of
-/// these; `OutOfMemory`.
-fn answer_stamped(
+/// Answers a line that tells a command. `Bad` where it tells none, which asks no word; `OutOfMemory`.
+fn answer_command<C: Chooser>(
     alloc: Global,
-    registry: &mut Registry,
+    book: &mut Book,
+    chooser: &mut C,
     line: Line,
     out: &mut String,
 ) -> Result<(), LineError>
     requires { string_bytes out.old ≡ [] }
-    ensures ok { OnOk result (UnaskedAnswers registry.old (said_of line) (string_bytes out.new) registry.new) }
-    ensures bad { result ≡ Err LineError.Bad → IsTrue (not (is_stamped (said_of line))) }
+    ensures ok { OnOk result (Told C.asks book.old chooser.old (said_of line) (string_bytes out.new) book.new chooser.new) }
+    ensures bad { result ≡ Err LineError.Bad → IsTrue (not (commands (said_of line))) }
+    ensures kept { result ≡ Err LineError.Bad → chooser.new ≡ chooser.old }
+{
+    let Some((command, moment)) = command_of(line) else {
+        return Err(LineError::Bad);
+    };
+    print_answer(out, book.apply(alloc, PASS, command, moment, chooser))
+}
+
+/// The command that a line tells, and its moment; `None` where it tells none.
+fn command_of(line: Line) -> Option<(Command, Moment)>
+    ensures some { IfSome result (λ told. Commands (said_of line) told.0 told.1) }
+    ensures none { result ≡ None → IsTrue (not (commands (said_of line))) }
+{
+    match line {
+        Line::Register {
+            moment,
+            instance,
+            replicated,
+        } => {
+            let command = Command::Register {
+                instance,
+                replicated,
+            };
+            Some((command, moment))
+        }
+        Line::Adopt { moment, instance } => Some((Command::Adopt { instance }, moment)),
+        Line::Cancel {
+            moment,
+            key,
+            replicated,
+        } => Some((Command::Cancel { key, replicated }, moment)),
+        Line::Roll { moment } => Some((Command::Roll, moment)),
+        Line::Update { moment } => Some((Command::Update, moment)),
+        Line::Evict { moment } => Some((Command::Evict, moment)),
+        line => stamped_command_of(line),
+    }
+}
+
+/// The same of a line whose stamp may be absent.
+fn stamped_command_of(line: Line) -> Option<(Command, Moment)>
+    ensures some { IfSome result (λ told. Commands (said_of line) told.0 told.1) }
+    ensures none { result ≡ None → IsTrue (not (is_stamped (said_of line))) }
 {
     match line {
         Line::Renew {
@@ -133,36 +164,57 @@ fn answer_stamped(
             dirty,
             overridden,
             replicated,
-        } => print_answer(
-            out,
-            registry.renew(alloc, &key, dirty, overridden, replicated, moment),
-        ),
+        } => {
+            let command = Command::Renew {
+                key,
+                dirty,
+                overridden,
+                replicated,
+            };
+            Some((command, moment))
+        }
         Line::SetStatus {
             moment,
             key,
             status,
             dirty,
-            ..
-        } => print_answer(out, registry.set_status(alloc, &key, status, dirty, moment)),
+            replicated,
+        } => {
+            let command = Command::SetStatus {
+                key,
+                status,
+                dirty,
+                replicated,
+            };
+            Some((command, moment))
+        }
         Line::UnsetStatus {
             moment,
             key,
             status,
             dirty,
-            ..
-        } => print_answer(out, Ok(registry.unset_status(&key, status, dirty, moment))),
-        _ => Err(LineError::Bad),
+            replicated,
+        } => {
+            let command = Command::UnsetStatus {
+                key,
+                status,
+                dirty,
+                replicated,
+            };
+            Some((command, moment))
+        }
+        _ => None,
     }
 }
 
 /// Prints the line of a command's answer. `OutOfMemory` where that is the answer, or none was left to print it.
-fn print_answer(out: &mut String, answer: Result<Reply, Fault>) -> Result<(), LineError>
+fn print_answer(out: &mut String, answer: Result<Receipt, Fault>) -> Result<(), LineError>
     ensures text { OnOk result (string_bytes out.new ≡ string_bytes out.old ++ answer_text answer) }
     ensures known { OnOk result (answer ≢ Err Fault.OutOfMemory) }
     ensures err { IfErr result (λ e. e ≡ LineError.OutOfMemory) }
 {
     match answer {
-        Ok(reply) => Ok(print_reply(out, &reply)?),
+        Ok(receipt) => Ok(print_reply(out, &receipt.reply)?),
         Err(Fault::OutOfMemory) => Err(LineError::OutOfMemory),
         Err(fault) => Ok(print_refusal(out, fault)?),
     }

@@ -45,8 +45,8 @@ use std::io::{Read, Write};
 /// T is a moment in milliseconds, up to 2^62. APP and ID have 1 to 255 bytes of UTF-8; APP's ASCII letters are put in
 /// capitals. SECS is at most 2,147,483, and DIRTY at most 2^63 - 1. STATUS and OVR are `UP`, `DOWN`, `STARTING`,
 /// `OUT_OF_SERVICE` or `UNKNOWN`. SRC is `c` for a client, and `r` for a peer that replicates. A number has 1 to 20
-/// digits. Where the registry refuses a command, the line prints `refused` and the fault's number, nothing changes, and
-/// the script goes on.
+/// digits. Where a command is refused, the line prints `refused` and the fault's number, nothing changes, and the script goes on:
+/// `refused 6` comes before every other where 65,536 commands were answered, since their journal is kept.
 ///
 /// `BadLine` comes where a line is none of these, or has more than 4,096 bytes; `Read` where a read failed, or the script
 /// has more than 16,777,216 bytes; `Write` where a write or a flush failed; and `OutOfMemory` where there was no memory

@@ -567,13 +567,15 @@ fn conflicts_and_refusals_are_told(rt: HostRuntime) -> Result<(), Fail> {
 }
 
 #[test]
-fn a_refusal_is_told_and_the_script_goes_on(rt: HostRuntime) -> Result<(), Fail> {
+fn a_full_journal_refuses_and_the_script_goes_on(rt: HostRuntime) -> Result<(), Fail> {
     let config = Config::new(true, 85, 30, 60_000)?;
     let mut text = joined(rt.alloc(), 0, 65_536, 90)?;
     text.push_str("register 1 A more 90 UP UNKNOWN - c\n")?;
-    text.push_str("register 1 A i0 90 UP UNKNOWN - c\ncounts 1\n")?;
+    text.push_str("register 1 A i0 90 UP UNKNOWN - c\nevict 90001\nroll 90001\n")?;
+    text.push_str("look 1 A i0\ncounts 1\n")?;
     let mut printed = joined_printed(rt.alloc(), 65_536)?;
-    printed.push_str("refused 7\n204\n")?;
+    printed.push_str("refused 6\nrefused 6\nrefused 6\nrefused 6\n")?;
+    printed.push_str("found UP UNKNOWN dirty 0 secs 90 registered 0 up 0 updated 0\n")?;
     printed.push_str("held 65536 expected 0 threshold 0 last 0 permitted no\n")?;
     assert!(rt; prints(rt.alloc(), config, text.as_bytes(), printed.as_bytes()));
     Ok(())

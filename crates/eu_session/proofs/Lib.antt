@@ -1,3 +1,4 @@
+mod BookLemmas
 mod ChainLemmas
 mod FaultLemmas
 mod SessionLemmas

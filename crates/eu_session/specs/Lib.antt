@@ -3,3 +3,4 @@ pub mod Chain
 pub mod Turn
 pub mod Session
 pub mod Steps
+pub mod Book

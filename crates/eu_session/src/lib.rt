@@ -1,11 +1,13 @@
 //! Sessions of HTTP: requests in, responses out, over anything that answers what they ask.
 #![tactic(auto)]
 
+mod book;
 mod desk;
 mod faults;
 mod session;
 mod turn;
 
+pub use book::sessions_are_runs;
 pub use desk::Desk;
 pub use faults::SessionFault;
 pub use session::serve_session;
@@ -13,5 +15,7 @@ pub use session::serve_session;
 /// The most requests of a session.
 pub const MAX_REQUESTS: u32 = 100;
 
+#[cfg(test)]
+mod rows;
 #[cfg(test)]
 mod tests;

@@ -61,19 +61,18 @@ pub fn serve_session<D: Desk, C: Clock, R: Source, W: Sink>(
 {
     let mut buffer = Vec::new(alloc);
     for n in 0..MAX_REQUESTS {
-        match read_request(alloc, reader, &mut buffer) {
+        let request = match read_request(alloc, reader, &mut buffer) {
+            Ok(Some(request)) => request,
             Ok(None) => return Ok(n),
-            Ok(Some(request)) => {
-                let close = is_last(&request, n);
-                answer_request(alloc, routes, desk, clock, writer, &request, close)?;
-                if close {
-                    return Ok(n + 1);
-                }
-            }
             Err(fault) => {
                 refuse(alloc, writer, fault)?;
                 return Ok(n + 1);
             }
+        };
+        let close = is_last(&request, n);
+        answer_request(alloc, routes, desk, clock, writer, &request, close)?;
+        if close {
+            return Ok(n + 1);
         }
     }
     Ok(MAX_REQUESTS)

@@ -14,27 +14,27 @@ use std::cell::RefCell;
 use std::test::Fail;
 
 /// What a client sends at least, with a status and a stamp.
-const REGISTRATION: &str =
+pub const REGISTRATION: &str =
     r#"{"instance":{"instanceId":"i1","hostName":"h","app":"a","ipAddr":"10.0.0.1","status":"UP","lastDirtyTimestamp":"5","dataCenterInfo":{"name":"MyOwn"}}}"#;
 
 /// The same, as it is listed, where it was registered at 1000.
-const LISTED: &str =
+pub const LISTED: &str =
     r#"{"instance":{"app":"A","dataCenterInfo":{"name":"MyOwn"},"hostName":"h","instanceId":"i1","ipAddr":"10.0.0.1","lastDirtyTimestamp":"5","leaseInfo":{"durationInSecs":90,"evictionTimestamp":0,"lastRenewalTimestamp":1000,"registrationTimestamp":1000,"renewalIntervalInSecs":30,"serviceUpTimestamp":1000},"overriddenStatus":"UNKNOWN","status":"UP"}}"#;
 
 /// A renewal, and what it is answered.
-const RENEWAL: &str = "PUT /eureka/apps/A/i1 HTTP/1.1\r\nHost: x\r\n\r\n";
+pub const RENEWAL: &str = "PUT /eureka/apps/A/i1 HTTP/1.1\r\nHost: x\r\n\r\n";
 
-const RENEWED: &str = "HTTP/1.1 200 OK\r\nContent-Length: 0\r\n\r\n";
+pub const RENEWED: &str = "HTTP/1.1 200 OK\r\nContent-Length: 0\r\n\r\n";
 
 /// A body that is longer than its limit, and what that is answered.
-const LONG: &str = "POST /eureka/apps/a HTTP/1.1\r\nHost: x\r\nContent-Length: 1048577\r\n\r\n";
+pub const LONG: &str = "POST /eureka/apps/a HTTP/1.1\r\nHost: x\r\nContent-Length: 1048577\r\n\r\n";
 
-const LONG_REFUSED: &str =
+pub const LONG_REFUSED: &str =
     "HTTP/1.1 413 Payload Too Large\r\nContent-Type: application/json\r\nContent-Length: 12\r\nConnection: close\r\n\r\n{\"fault\":34}";
 
 /// Gives two texts, no read over both, and then ends or fails.
 #[derive(Drop)]
-struct Parts<'a> {
+pub struct Parts<'a> {
     first: &'a [u8],
     second: &'a [u8],
     fails: bool,
@@ -42,7 +42,7 @@ struct Parts<'a> {
 }
 
 impl<'a> Parts<'a> {
-    fn ending(first: &'a [u8], second: &'a [u8]) -> Parts<'a> {
+    pub fn ending(first: &'a [u8], second: &'a [u8]) -> Parts<'a> {
         Parts {
             first,
             second,
@@ -169,7 +169,7 @@ impl Desk for Stored {
     }
 }
 
-fn clock(alloc: Global, times: &[u64]) -> Result<ListClock, Fault> {
+pub fn clock(alloc: Global, times: &[u64]) -> Result<ListClock, Fault> {
     let mut moments = Vec::new(alloc);
     for ms in times {
         moments.push(Moment::new(*ms).ok_or(Fault::BadValue)?)?;

@@ -11,6 +11,6 @@ returns-clause-runs g c =
         out,
         a.2.1,
         runs c.args.config g.C.Chooser.asks c.new-desk.result c.answer_lines.new.desk c.args.chooser.now c.answer_lines.new.context
-            _ _ _ a.0 c.answer_lines.result out c.new-desk.ensures.config c.new-desk.ensures.registry a.2.2,
+            _ _ _ a.0 c.answer_lines.result out c.new-desk.ensures.config c.new-desk.ensures.book a.2.2,
       ),
     )

@@ -11,5 +11,5 @@ returns-in_default-clause-ok g c =
 pub returns-clause-ok : goal.returns-clause-ok
 returns-clause-ok g c =
     opened g.C.Chooser.asks c.args.chooser.now c.args.self.now _ c.args.line.now (string_bytes c.answer_opened.new.out)
-    c.in-Some.registry.now c.answer_opened.new.registry c.answer_opened.new.chooser (said_of c.in_ok-line.line) c.answer_opened.result
+    c.in-Some.book.now c.answer_opened.new.book c.answer_opened.new.chooser (said_of c.in_ok-line.line) c.answer_opened.result
     c.in_ok-line.ensures (search rules) refl refl c.answer_opened.ensures.ok

@@ -1,0 +1,50 @@
+-- What a book does that a session asks
+use Rattle.std.specs.Prelude.{◌≡◌, ℕ, Bool, List, ◌++◌, Option, Result, Ok, Err}
+use Rattle.eu_base.specs.declared.faults.Fault.{Fault}
+use Rattle.eu_base.specs.declared.faults.Fault.TheVariants.{OutOfMemory}
+use Rattle.eu_book.specs.Account.{Account, Applies, Refuses}
+use Rattle.eu_clock.specs.declared.choosers.FirstChooser.{FirstChooser}
+use Rattle.eu_http.specs.declared.exchange.Answer.{Answer}
+use Rattle.eu_http.specs.declared.exchange.Answer.TheVariants.{Did, Saw}
+use Rattle.eu_http.specs.declared.exchange.Ask.{Ask}
+use Rattle.eu_http.specs.declared.exchange.Ask.TheVariants.{Do, See}
+use Rattle.eu_model.specs.declared.commands.Entry.{Entry}
+use Rattle.eu_model.specs.Answers.{Shows}
+use Rattle.eu_model.specs.Machine.{Machine}
+use Rattle.eu_model.specs.Plain.{Plain, plain}
+use Rattle.eu_model.specs.Run.{Run}
+use Rattle.eu_model.specs.View.{view}
+use Rattle.eu_session.specs.declared.faults.SessionFault.{SessionFault}
+use Rattle.eu_session.specs.Session.{Session}
+use Rattle.eu_session.specs.Turn.{State}
+
+-- the words that are drawn: always the first of what they are drawn from
+abbrev pub first_asks : FirstChooser → ℕ → ℕ × FirstChooser
+first_asks chooser bound = (0, chooser)
+
+-- a command is one entry more, of the pass 0, or it is refused; a query is answered by what is seen of the registry
+abbrev pub BookAsks : Account → Ask → ℕ → Result Answer Fault → Account → Type 0
+BookAsks a (Do c) t (Ok (Did reply)) b = (number : ℕ) × (x : FirstChooser) × (x' : FirstChooser) × Applies first_asks a x 0 c t reply number b x'
+BookAsks a (Do c) t (Ok (Saw v)) b = ⊥
+BookAsks a (Do c) t (Err f) b = Refuses a c t f × (b ≡ a)
+BookAsks a (See q) t (Ok (Did reply)) b = ⊥
+BookAsks a (See q) t (Ok (Saw v)) b = Shows a.state (λ s. view s q t) v × (b ≡ a)
+BookAsks a (See q) t (Err f) b = (f ≡ OutOfMemory) × (b ≡ a)
+
+-- from each machine with the plain form p, the entries are a run to one with the plain form q
+abbrev pub RunsFrom : Plain → List Entry → Plain → Type 0
+RunsFrom p entries q = (s : Machine) → plain s ≡ p → (s' : Machine) × Run s entries s' × (plain s' ≡ q)
+
+-- a journal goes on: it has these entries more, which are a run from what the registry was to what it is
+pub record GrewBy (a : Account) (entries : List Entry) (b : Account) : Type 0 where
+  pub base : b.base ≡ a.base
+  pub first : b.first ≡ a.first
+  pub more : b.entries ≡ a.entries ++ entries
+  pub run : RunsFrom a.state entries b.state
+
+-- each session with a book goes on with its journal, however it ends
+abbrev pub BookSession : {C : Type 0} → (C → ℕ → C → Type 0) → Type 0
+BookSession {C} tells =
+    (old new : State Account C) (before after : Option (List ℕ)) (failed_reader failed_writer : Bool) (result : Result ℕ SessionFault)
+    → Session (λ a ask t r b. BookAsks a ask t r b) tells old new before after failed_reader failed_writer result
+    → (entries : List Entry) × GrewBy old.desk entries new.desk

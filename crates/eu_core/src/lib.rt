@@ -12,8 +12,3 @@ mod step;
 
 pub use registry::Registry;
 pub use step::Stepped;
-
-#[cfg(test)]
-mod step_tests;
-#[cfg(test)]
-mod tests;

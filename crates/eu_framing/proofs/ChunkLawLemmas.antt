@@ -1,4 +1,4 @@
--- Bytes begin with one chunked body at most, a whole one has no fault, and its faults exclude each other but for a crowded trailer.
+-- Bytes begin with one chunked body at most, a whole one has no fault, and its faults exclude each other.
 use Rattle.std.proofs.Common.{◌≡◌, ℕ, ◌+◌, ◌-◌, ◌<◌, ◌≤◌, ◌⊎◌, inl, inr, List, [], ◌∷◌, ◌++◌, length, take, drop, refl, sym, ap, ◌∙◌, subst, append_assoc, length-append, arith}
 use Rattle.std.proofs.Math.Path.{subst₂}
 use Rattle.std.proofs.Math.Seq.{drop-append_seam}
@@ -13,7 +13,6 @@ use Rattle.eu_base.specs.declared.faults.Fault.{Fault}
 use Rattle.eu_base.specs.declared.faults.Fault.TheVariants as faults
 use Rattle.eu_framing.specs.Fields.{max_body}
 use Rattle.eu_framing.specs.Chunks.{Chunk, IsChunk, print_chunk, raw, content, Leads, room_after, HasLine, HasTrailer, EndsChunks, ReadsChunked, IsLineFault, IsDataFault, IsTrailerFault, BreaksChunks, BreaksChunked}
-use Rattle.eu_framing.specs.Law.{EndsCrowded, IsCrowded, IsCrowdedFault}
 use Rattle.eu_framing.proofs.HeadLawLemmas.{front_in_window}
 use Rattle.eu_framing.proofs.TrailerLawLemmas.{trailer_is_whole, one_trailer_fault}
 
@@ -196,10 +195,6 @@ chunked_is_whole bytes body rest fault (cs, x, lead, content_is, ends) (ds, y, l
     whole_unbroken (room_after ds) (length (content ds)) y rest fault lead'.body
     (subst₂ (λ (l : List Chunk) (t : List ℕ). EndsChunks (room_after l) t rest) chunks.0 chunks.1 ends) bad
 
--- it is one fault, or the text ends in a crowded trailer
-abbrev OneOrEnds : ℕ → List ℕ → Fault → Fault → Type 0
-OneOrEnds room text f g = (f ≡ g) ⊎ (EndsCrowded room text × IsCrowdedFault f × IsCrowdedFault g)
-
 -- what can be wrong behind a line
 abbrev BreaksLine : ℕ → ℕ → ChunkLine → List ℕ → Fault → Type 0
 BreaksLine room held line after fault =
@@ -207,35 +202,27 @@ BreaksLine room held line after fault =
     ⊎ ((0 < chunk_size line) × (held + chunk_size line ≤ max_body) × IsDataFault (room - length (print_chunk_line line)) (chunk_size line) after fault)
     ⊎ ((chunk_size line ≡ 0) × IsTrailerFault (room - length (print_chunk_line line)) after fault)
 
-one_behind_line : (room held : ℕ) (text : List ℕ) (line : ChunkLine) (after : List ℕ) (f g : Fault) → held ≤ max_body → HasLine room text line after
-    → BreaksLine room held line after f → BreaksLine room held line after g → OneOrEnds room text f g
-one_behind_line room held text line after f g within has (inl x) (inl y) = inl (x.0 ∙ sym y.0)
-one_behind_line room held text line after f g within has (inl x) (inr (inl y)) = absurd (omega (arith, x.1, y.1))
-one_behind_line room held text line after f g within has (inl x) (inr (inr y)) = absurd (omega (arith, x.1, y.0))
-one_behind_line room held text line after f g within has (inr (inl x)) (inl y) = absurd (omega (arith, x.1, y.1))
-one_behind_line room held text line after f g within has (inr (inl x)) (inr (inl y)) = inl (one_data_fault (room - length (print_chunk_line line)) (chunk_size line) after f g x.2 y.2)
-one_behind_line room held text line after f g within has (inr (inl x)) (inr (inr y)) = absurd (omega (arith, x.0, y.0))
-one_behind_line room held text line after f g within has (inr (inr x)) (inl y) = absurd (omega (arith, x.0, y.1))
-one_behind_line room held text line after f g within has (inr (inr x)) (inr (inl y)) = absurd (omega (arith, x.0, y.0))
-one_behind_line room held text line after f g within has (inr (inr x)) (inr (inr y)) =
-    elim (one_trailer_fault (room - length (print_chunk_line line)) after f g x.1 y.1) [
-      | inl e ↦ inl e
-      | inr crowded ↦ inr ((line, after, has, x.0, crowded.0), crowded.1, crowded.2)
-    ]
+one_behind_line : (room held : ℕ) (line : ChunkLine) (after : List ℕ) (f g : Fault) → held ≤ max_body → BreaksLine room held line after f → BreaksLine room held line after g → f ≡ g
+one_behind_line room held line after f g within (inl x) (inl y) = x.0 ∙ sym y.0
+one_behind_line room held line after f g within (inl x) (inr (inl y)) = absurd (omega (arith, x.1, y.1))
+one_behind_line room held line after f g within (inl x) (inr (inr y)) = absurd (omega (arith, x.1, y.0))
+one_behind_line room held line after f g within (inr (inl x)) (inl y) = absurd (omega (arith, x.1, y.1))
+one_behind_line room held line after f g within (inr (inl x)) (inr (inl y)) = one_data_fault (room - length (print_chunk_line line)) (chunk_size line) after f g x.2 y.2
+one_behind_line room held line after f g within (inr (inl x)) (inr (inr y)) = absurd (omega (arith, x.0, y.0))
+one_behind_line room held line after f g within (inr (inr x)) (inl y) = absurd (omega (arith, x.0, y.1))
+one_behind_line room held line after f g within (inr (inr x)) (inr (inl y)) = absurd (omega (arith, x.0, y.0))
+one_behind_line room held line after f g within (inr (inr x)) (inr (inr y)) = one_trailer_fault (room - length (print_chunk_line line)) after f g x.1 y.1
 
-one_break : (room held : ℕ) (text : List ℕ) (f g : Fault) → held ≤ max_body → BreaksChunks room held text f → BreaksChunks room held text g → OneOrEnds room text f g
-one_break room held text f g within (inl x) (inl y) = inl (one_line_fault room text f g x y)
+one_break : (room held : ℕ) (text : List ℕ) (f g : Fault) → held ≤ max_body → BreaksChunks room held text f → BreaksChunks room held text g → f ≡ g
+one_break room held text f g within (inl x) (inl y) = one_line_fault room text f g x y
 one_break room held text f g within (inl x) (inr (line, after, has, y)) = absurd (line_is_whole room text line after f has x)
 one_break room held text f g within (inr (line, after, has, x)) (inl y) = absurd (line_is_whole room text line after g has y)
 one_break room held text f g within (inr (line, after, has, x)) (inr (line', after', has', y)) =
     let same = same_line room room text line line' after after' has has' in
-    one_behind_line room held text line' after' f g within has' (subst₂ (λ (l : ChunkLine) (t : List ℕ). BreaksLine room held l t f) same.0 same.1 x) y
+    one_behind_line room held line' after' f g within (subst₂ (λ (l : ChunkLine) (t : List ℕ). BreaksLine room held l t f) same.0 same.1 x) y
 
-pub one_chunked_fault : (bytes : List ℕ) (f g : Fault) → BreaksChunked bytes f → BreaksChunked bytes g → (f ≡ g) ⊎ (IsCrowded bytes × IsCrowdedFault f × IsCrowdedFault g)
+pub one_chunked_fault : (bytes : List ℕ) (f g : Fault) → BreaksChunked bytes f → BreaksChunked bytes g → f ≡ g
 one_chunked_fault bytes f g (cs, x, lead, bad) (ds, y, lead', bad') =
     let chunks = same_chunks bytes cs ds x y lead lead' (next_unbroken (room_after cs) (length (content cs)) x f bad) (next_unbroken (room_after ds) (length (content ds)) y g bad') in
     let here = subst₂ (λ (l : List Chunk) (t : List ℕ). BreaksChunks (room_after l) (length (content l)) t f) chunks.0 chunks.1 bad in
-    elim (one_break (room_after ds) (length (content ds)) y f g lead'.body here bad') [
-      | inl e ↦ inl e
-      | inr crowded ↦ inr ((ds, y, lead', crowded.0), crowded.1, crowded.2)
-    ]
+    one_break (room_after ds) (length (content ds)) y f g lead'.body here bad'

@@ -31,10 +31,13 @@ lines_first fs gs last text middle rest lines section =
     let skipped = Section_skip fs gs last text middle rest lines section in
     omega (arith, ap length skipped.1, length-append fs skipped.0)
 
+-- what an empty line makes a section is field lines
+pub lines_of_section : (front : List ℕ) (fs : List Field) → ReadsSection (front ++ print_end lf) fs lf [] → front ≡ flat_map print_field fs
+lines_of_section front fs reads = append_cancel_right front (flat_map print_field fs) (10 ∷ []) (reads.1 ∙ append-nil (print_section fs lf))
+
 pub crowded_section : (room n : ℕ) (text : List ℕ) (fields : List Field) (last : LineEnd) (rest : List ℕ) → SectionExceeds room (take n text) → ReadsSection text fields last rest → room < length fields
 crowded_section room n text fields last rest (front, behind, e, fs, reads, many) section =
-    let lines : front ≡ flat_map print_field fs = append_cancel_right front (flat_map print_field fs) (10 ∷ []) (reads.1 ∙ append-nil (print_section fs lf)) in
-    let stands = front_of_window n text front behind e ∙ ap (λ (t : List ℕ). t ++ (behind ++ drop n text)) lines in
+    let stands = front_of_window n text front behind e ∙ ap (λ (t : List ℕ). t ++ (behind ++ drop n text)) (lines_of_section front fs reads) in
     omega (arith, many, lines_first fs fields last text (behind ++ drop n text) rest (reads.0, stands) section)
 
 -- Heads with many fields.
@@ -50,11 +53,11 @@ start_more h tail more = regroup (print_blank h.blank) h.method h.target (print_
     regroup a b c d e f r = simp append_assoc
 
 -- the first part of the empty line
-abbrev cut_end : LineEnd → List ℕ
+abbrev pub cut_end : LineEnd → List ℕ
 cut_end crlf = 13 ∷ []
 cut_end lf = []
 
-end_cut : (last : LineEnd) → print_end last ≡ cut_end last ++ 10 ∷ []
+pub end_cut : (last : LineEnd) → print_end last ≡ cut_end last ++ 10 ∷ []
 end_cut crlf = refl
 end_cut lf = refl
 

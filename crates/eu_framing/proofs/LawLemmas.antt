@@ -1,12 +1,12 @@
 -- The definition of the next request gives one answer.
-use Rattle.std.proofs.Common.{◌≡◌, ℕ, ◌⊎◌, inl, inr, List, length, Result, Ok, Err, refl, sym, ap, ◌∙◌, length-append, arith}
+use Rattle.std.proofs.Common.{◌≡◌, ℕ, inl, inr, List, length, Result, Ok, Err, sym, ap, ◌∙◌, length-append, arith}
 use Rattle.httparse.proofs.GrammarLemmas.{request_unique}
 use Rattle.httparse.specs.Grammar.{RequestHead}
 use Rattle.eu_base.specs.declared.faults.Fault.{Fault}
 use Rattle.eu_framing.specs.declared.fields.Framing.{Framing}
 use Rattle.eu_framing.specs.declared.fields.Framing.TheVariants.{NoBody, Sized, Chunked}
 use Rattle.eu_framing.specs.Message.{framed, HasHead, ReadsBody, BreaksBody, BreaksMessage, IsFault}
-use Rattle.eu_framing.specs.Law.{OneMessage, WholeIsFaultless, EndIsAlone, OneFault, IsCrowded, HasCrowdedTrailer, IsCrowdedFault}
+use Rattle.eu_framing.specs.Law.{OneMessage, WholeIsFaultless, EndIsAlone, OneFault}
 use Rattle.eu_framing.proofs.HeadLawLemmas.{head_is_whole, end_has_no_head, end_has_no_head_fault}
 use Rattle.eu_framing.proofs.ChunkLawLemmas.{same_front, one_chunked, chunked_is_whole, one_chunked_fault}
 
@@ -35,15 +35,10 @@ body_is_whole NoBody bytes body rest fault x bad = bad
 body_is_whole (Sized n) bytes body rest fault x bad = omega (arith, bad.1, x.0, ap length x.1, length-append body rest)
 body_is_whole Chunked bytes body rest fault x bad = chunked_is_whole bytes body rest fault x bad
 
--- it is one fault, or that of a crowded trailer
-abbrev OneOrCrowded : Framing → List ℕ → Fault → Fault → Type 0
-OneOrCrowded framing after f g = (f ≡ g) ⊎ ((framing ≡ Chunked) × IsCrowded after × IsCrowdedFault f × IsCrowdedFault g)
-
-one_body_fault : (framing : Framing) (after : List ℕ) (f g : Fault) → BreaksBody framing after f → BreaksBody framing after g → OneOrCrowded framing after f g
+one_body_fault : (framing : Framing) (after : List ℕ) (f g : Fault) → BreaksBody framing after f → BreaksBody framing after g → f ≡ g
 one_body_fault NoBody after f g x y = absurd x
-one_body_fault (Sized n) after f g x y = inl (x.0 ∙ sym y.0)
-one_body_fault Chunked after f g x y =
-    elim (one_chunked_fault after f g x y) [ inl e ↦ inl e | inr crowded ↦ inr (refl, crowded.0, crowded.1, crowded.2) ]
+one_body_fault (Sized n) after f g x y = x.0 ∙ sym y.0
+one_body_fault Chunked after f g x y = one_chunked_fault after f g x y
 
 -- Requests.
 
@@ -71,9 +66,9 @@ end_is_alone bytes end = (λ m rest reads. end_has_no_head bytes m.head reads.0 
     no_fault fault (inl bad) = end_has_no_head_fault bytes fault end bad
     no_fault fault (inr (h, after, head, bad)) = end_has_no_head bytes h after end head
 
-one_break : (bytes : List ℕ) (f g : Fault) → BreaksMessage bytes f → BreaksMessage bytes g → (f ≡ g) ⊎ (HasCrowdedTrailer bytes × IsCrowdedFault f × IsCrowdedFault g)
+one_break : (bytes : List ℕ) (f g : Fault) → BreaksMessage bytes f → BreaksMessage bytes g → f ≡ g
 one_break bytes f g (h, after, head, inl bad) (k, after', head', inl bad') =
-    inl (same_err f g (sym bad ∙ ap framed (same_head bytes h k after after' head head').0 ∙ bad'))
+    same_err f g (sym bad ∙ ap framed (same_head bytes h k after after' head head').0 ∙ bad')
 one_break bytes f g (h, after, head, inl bad) (k, after', head', inr (framing, framed_is, bad')) =
     absurd (not_both framing f (sym framed_is ∙ sym (ap framed (same_head bytes h k after after' head head').0) ∙ bad))
 one_break bytes f g (h, after, head, inr (framing, framed_is, bad)) (k, after', head', inl bad') =
@@ -81,14 +76,10 @@ one_break bytes f g (h, after, head, inr (framing, framed_is, bad)) (k, after', 
 one_break bytes f g (h, after, head, inr (framing, framed_is, bad)) (k, after', head', inr (framing', framed_is', bad')) =
     let heads = same_head bytes h k after after' head head' in
     let framings : framing ≡ framing' = same_ok framing framing' (sym framed_is ∙ ap framed heads.0 ∙ framed_is') in
-    elim (one_body_fault framing' after' f g (rw (heads.1, framings) at bad) bad') [
-      | inl e ↦ inl e
-      | inr crowded ↦ inr ((k, after', head', framed_is' ∙ ap Ok crowded.0, crowded.1), crowded.2, crowded.3)
-    ]
+    one_body_fault framing' after' f g (rw (heads.1, framings) at bad) bad'
 
 pub one_fault : OneFault
-one_fault bytes f g (inl x) (inl y) = inr (inl (x, y))
+one_fault bytes f g (inl x) (inl y) = inr (x, y)
 one_fault bytes f g (inl x) (inr y) = absurd (head_is_whole bytes y.0 y.1 f y.2 x)
 one_fault bytes f g (inr x) (inl y) = absurd (head_is_whole bytes x.0 x.1 g x.2 y)
-one_fault bytes f g (inr x) (inr y) =
-    elim (one_break bytes f g x y) [ inl e ↦ inl e | inr crowded ↦ inr (inr crowded) ]
+one_fault bytes f g (inr x) (inr y) = inl (one_break bytes f g x y)

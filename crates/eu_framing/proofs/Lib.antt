@@ -3,6 +3,7 @@ pub mod ReadingLemmas
 pub mod HeadLemmas
 pub mod BodyLemmas
 pub mod ChunkLemmas
+pub mod LineLemmas
 pub mod TrailerLemmas
 pub mod RequestLemmas
 pub mod HeadLawLemmas

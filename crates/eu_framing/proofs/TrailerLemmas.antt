@@ -1,15 +1,19 @@
 -- Trailers and whole chunked bodies, in the buffer and in all bytes.
-use Rattle.std.proofs.Common.{◌≡◌, ℕ, ◌+◌, ◌-◌, ◌≤◌, inl, inr, List, ◌++◌, length, take, drop, Result, Ok, Err, IfOk, refl, sym, ap, ◌∙◌, subst, append_assoc, length-append, arith}
-use Rattle.std.proofs.lemmas.List.{length-take, length-drop, length-map, take-append-drop, drop-drop}
-use Rattle.httparse.specs.Grammar.{print_chunk_line, print_section, NeverHasSection}
+use Rattle.std.proofs.Common.{◌≡◌, ◌≢◌, ℕ, ◌+◌, ◌-◌, ◌≤◌, ◌⊎◌, inl, inr, ⊎_elim, true, false, nat_le, List, ◌++◌, length, take, drop, Result, Ok, Err, IfOk, refl, sym, ap, ◌∙◌, subst, append_assoc, length-append, arith}
+use Rattle.std.proofs.lemmas.List.{length-take, length-drop, length-map, take-append-drop, take-append-le, drop-drop}
+use Rattle.std.proofs.lemmas.Bool.{cases_Bool, leb-true, leb-false}
+use Rattle.httparse.specs.Grammar.{print_chunk_line, print_section, HasNoSection, NeverHasSection, MayBecomeSection}
 use Rattle.httparse.specs.Spans.{SectionExceeds, IsSectionOf, header_bytes, name_and_value}
+use Rattle.httparse.specs.declared.Error.{Error}
+use Rattle.httparse.specs.declared.Error.TheVariants.{TooManyHeaders}
 use Rattle.httparse.specs.declared.spans.HeaderSpan.{HeaderSpan}
 use Rattle.eu_base.specs.declared.faults.Fault.{Fault}
 use Rattle.eu_base.specs.declared.faults.Fault.TheVariants as faults
 use Rattle.eu_framing.specs.Chunks.{max_raw, trailer_room, room_after, HasLine, HasTrailer, IsTrailerFault, ReadsChunked, BreaksChunked}
 use Rattle.eu_framing.specs.Steps.{FindsLine}
-use Rattle.eu_framing.specs.ChunkSteps.{FindsTrailer, TakesChunks}
+use Rattle.eu_framing.specs.ChunkSteps.{FindsTrailer, TakesChunks, lines_in, long_trailer_fault}
 use Rattle.eu_framing.proofs.BodyLemmas.{behind}
+use Rattle.eu_framing.proofs.LineLemmas.{exceeds_lines, lines_exceed}
 use Rattle.eu_framing.proofs.ChunkLemmas.{window_more, window_rest, line_at, took_more, took_leads, took_broken}
 
 section_more : (w more : List ℕ) → NeverHasSection w → NeverHasSection (w ++ more)
@@ -18,11 +22,40 @@ section_more w more never tail = rw append_assoc (never (more ++ tail))
 exceeds_more : (w more : List ℕ) → SectionExceeds 64 w → SectionExceeds 64 (w ++ more)
 exceeds_more w more x = (x.0, x.1 ++ more, ap (λ (t : List ℕ). t ++ more) x.2 ∙ append_assoc x.0 x.1 more, x.3, x.4, x.5)
 
-pub trailer_never : (room start : ℕ) (b more : List ℕ) → start ≤ length b → NeverHasSection (take (trailer_room room) (drop start b)) → IsTrailerFault room (drop start (b ++ more)) faults.BadChunk
+trailer_never : (room start : ℕ) (b more : List ℕ) → start ≤ length b → NeverHasSection (take (trailer_room room) (drop start b)) → IsTrailerFault room (drop start (b ++ more)) faults.BadChunk
 trailer_never room start b more within x = inl (refl, inl (subst NeverHasSection (sym (window_more (trailer_room room) start b more within)) (section_more _ _ x)))
 
-pub trailer_exceeds : (room start : ℕ) (b more : List ℕ) → start ≤ length b → SectionExceeds 64 (take (trailer_room room) (drop start b)) → IsTrailerFault room (drop start (b ++ more)) faults.BadChunk
+trailer_exceeds : (room start : ℕ) (b more : List ℕ) → start ≤ length b → SectionExceeds 64 (take (trailer_room room) (drop start b)) → IsTrailerFault room (drop start (b ++ more)) faults.BadChunk
 trailer_exceeds room start b more within x = inl (refl, inr (subst (SectionExceeds 64) (sym (window_more (trailer_room room) start b more within)) (exceeds_more _ _ x)))
+
+is_too_many : (e : Error) → (e ≡ TooManyHeaders) ⊎ (e ≢ TooManyHeaders)
+is_too_many TooManyHeaders = inl refl
+is_too_many e = inr (λ same. cc)
+
+-- what the parser refuses at that place
+pub trailer_refused : (room start : ℕ) (b more : List ℕ) (e : Error) → start ≤ length b → (e ≡ TooManyHeaders → SectionExceeds 64 (take (trailer_room room) (drop start b)))
+    → (e ≢ TooManyHeaders → NeverHasSection (take (trailer_room room) (drop start b))) → IsTrailerFault room (drop start (b ++ more)) faults.BadChunk
+trailer_refused room start b more e within many never = ⊎_elim
+    (λ (is : e ≡ TooManyHeaders). trailer_exceeds room start b more within (many is))
+    (λ (not : e ≢ TooManyHeaders). trailer_never room start b more within (never not))
+    (is_too_many e)
+
+-- what the room or its own limit ends inside
+pub trailer_long : (room start : ℕ) (b more : List ℕ) (fault : Fault) → start + trailer_room room ≤ length b → fault ≡ long_trailer_fault room (take (trailer_room room) (drop start b))
+    → HasNoSection (take (trailer_room room) (drop start b)) → MayBecomeSection (take (trailer_room room) (drop start b)) → IsTrailerFault room (drop start (b ++ more)) fault
+trailer_long room start b more fault full is none may =
+    let n = trailer_room room in
+    let w = take n (drop start b) in
+    let within : start ≤ length b = omega arith in
+    let window : take n (drop start (b ++ more)) ≡ w = ap (take n) (behind start b more within) ∙ take-append-le n (drop start b) more (omega (arith, length-drop start b)) in
+    ⊎_elim
+    (λ (q : nat_le (lines_in w) 64 ≡ true).
+    let few : ¬ (SectionExceeds 64 w) = λ x. omega (arith, exceeds_lines 64 w x, leb-true (lines_in w) 64 q) in
+    inr (inr (rw q at is, omega (arith, length-drop start (b ++ more), length-append b more), rw window none, rw window may, rw window few)))
+    (λ (q : nat_le (lines_in w) 64 ≡ false).
+    let bad : fault ≡ faults.BadChunk = rw q at is in
+    rw bad (trailer_exceeds room start b more within (lines_exceed 64 w none may (leb-false (lines_in w) 64 q))))
+    (cases_Bool (nat_le (lines_in w) 64))
 
 pub trailer_found : (room : ℕ) (text : List ℕ) (spans : List HeaderSpan) (found : ℕ × ℕ) → length spans ≡ 64 → IsSectionOf (take (trailer_room room) text) 0 spans found → FindsTrailer room text found.0
 trailer_found room text spans found many x =

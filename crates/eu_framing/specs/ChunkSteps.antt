@@ -1,10 +1,13 @@
 -- What the steps through a chunked body find in the buffer. Only the contracts of private functions speak of this.
-use Rattle.std.specs.Prelude.{◌≡◌, ◌≤◌, ◌<◌, ℕ, ◌+◌, ◌-◌, List, ◌++◌, length, drop}
+use Rattle.std.specs.Prelude.{◌≡◌, ◌≤◌, ◌<◌, ℕ, ◌+◌, ◌-◌, List, ◌++◌, length, drop, count_by, if◌then◌else◌, nat_le, ◌==◌, ◌&&◌}
+use Rattle.httparse.specs.Ascii.{line_feed}
 use Rattle.httparse.specs.Grammar.{LineEnd, Field, print_section, ReadsSection}
+use Rattle.eu_base.specs.declared.faults.Fault.{Fault}
+use Rattle.eu_base.specs.declared.faults.Fault.TheVariants as faults
 use Rattle.eu_framing.specs.declared.chunks.Step.{Step}
 use Rattle.eu_framing.specs.declared.chunks.Step.TheVariants as steps
 use Rattle.eu_framing.specs.Fields.{max_body}
-use Rattle.eu_framing.specs.Chunks.{Chunk, IsChunk, print_chunk, max_raw, trailer_room}
+use Rattle.eu_framing.specs.Chunks.{Chunk, IsChunk, print_chunk, max_raw, max_trailer, trailer_room}
 use Rattle.eu_framing.specs.Steps.{FindsLine, Took}
 
 -- a chunk was taken within the room, its data was put to the end of the body, and so many bytes were used
@@ -41,3 +44,13 @@ pub record FindsTrailer (room : ℕ) (text : List ℕ) (len : ℕ) : Type 0 wher
   pub size : len ≡ length (print_section fields last)
   pub fits : len ≤ trailer_room room
   pub few : length fields ≤ 64
+
+-- how many lines end in the bytes
+abbrev pub lines_in : List ℕ → ℕ
+lines_in bytes = count_by (λ b. b == line_feed) bytes
+
+-- the fault of a trailer that doesn't end within these bytes, all that it may have: with at most 64 lines, which are its
+-- fields, it makes the body too long where the room ends there
+abbrev pub long_trailer_fault : ℕ → List ℕ → Fault
+long_trailer_fault room bytes =
+    if nat_le (lines_in bytes) 64 && nat_le room max_trailer then faults.BodyTooLong else faults.BadChunk

@@ -94,12 +94,12 @@ IsDataFault room size after fault =
     ⊎ ((fault ≡ faults.BadChunk) × (size + 2 ≤ room) × (size + 2 ≤ length after) × ¬ (take 2 (drop size after) ≡ crlf_bytes))
 
 -- after the last line no trailer comes: what is there can't become one or has too many fields, the text ends inside it, or
--- its limit or the room ends inside it
+-- its limit or the room ends inside it before it has too many
 abbrev pub IsTrailerFault : ℕ → List ℕ → Fault → Type 0
 IsTrailerFault room after fault =
     ((fault ≡ faults.BadChunk) × (NeverHasSection (take (trailer_room room) after) ⊎ SectionExceeds 64 (take (trailer_room room) after)))
     ⊎ ((fault ≡ faults.BadChunk) × (length after < trailer_room room) × HasNoSection after)
-    ⊎ ((fault ≡ (if nat_le room max_trailer then faults.BodyTooLong else faults.BadChunk)) × (trailer_room room ≤ length after) × HasNoSection (take (trailer_room room) after) × MayBecomeSection (take (trailer_room room) after))
+    ⊎ ((fault ≡ (if nat_le room max_trailer then faults.BodyTooLong else faults.BadChunk)) × (trailer_room room ≤ length after) × HasNoSection (take (trailer_room room) after) × MayBecomeSection (take (trailer_room room) after) × ¬ (SectionExceeds 64 (take (trailer_room room) after)))
 
 -- The text after chunks that hold so much of a body goes on to no whole body. A line that takes the body above its limit
 -- is a fault at once; its data isn't waited for.

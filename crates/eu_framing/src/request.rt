@@ -145,7 +145,7 @@ fn next_head<R: Source>(
 /// - `BodyTooLong`: the body has more than `MAX_BODY` bytes, which a stated length or a chunk line tells before the body is
 ///   read; or a chunked body isn't whole within `MAX_RAW` bytes.
 /// - `BadChunk`: a chunk line, the end of a chunk or the trailer isn't one (section 7.1), the trailer isn't whole within
-///   `MAX_TRAILER` bytes, or the bytes end inside a chunked body.
+///   `MAX_TRAILER` bytes or has more than `MAX_FIELDS` fields, or the bytes end inside a chunked body.
 /// - `OutOfMemory`: there was no memory. `Read`: a read failed.
 ///
 /// After a fault the reader and the buffer are left open.

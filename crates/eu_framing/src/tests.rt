@@ -1,6 +1,7 @@
 ghost use Rattle.std.specs.Prelude.{None};
 
-use crate::{MAX_FIELDS, MAX_HEAD, MAX_RAW, read_request};
+use crate::trailer::long_fault;
+use crate::{MAX_FIELDS, MAX_HEAD, MAX_RAW, MAX_TRAILER, read_request};
 use eu_base::Fault;
 use eu_stream::{ReadFault, Source};
 use std::alloc::{AllocError, Global};
@@ -419,6 +420,14 @@ fn many_chunks_are_taken_in_time(rt: HostRuntime) -> Result<(), Fail> {
     let text = chunks_of(rt.alloc(), 700_000)?;
     assert!(rt; fault_of(rt.alloc(), text.as_slice()) == Some(Fault::BodyTooLong));
     Ok(())
+}
+
+#[test]
+fn a_trailer_with_too_many_fields_is_no_long_body(rt: HostRuntime) {
+    let lines = [b'\n'; MAX_FIELDS + 1];
+    assert!(rt; long_fault(&lines[..MAX_FIELDS], MAX_TRAILER) == Fault::BodyTooLong);
+    assert!(rt; long_fault(&lines, MAX_TRAILER) == Fault::BadChunk);
+    assert!(rt; long_fault(&lines[..MAX_FIELDS], MAX_TRAILER + 1) == Fault::BadChunk);
 }
 
 /// A chunked request of which so many bytes have come, all of the first chunk line.

@@ -5,15 +5,15 @@ ghost use Rattle.httparse.specs.Grammar.{HasNoSection, MayBecomeSection};
 ghost use Rattle.eu_framing.specs.Chunks.{IsTrailerFault, trailer_room};
 ghost use Rattle.eu_framing.specs.Message.{max_fields};
 ghost use Rattle.eu_framing.specs.Reading.{Grows, Blames};
-ghost use Rattle.eu_framing.specs.ChunkSteps.{FindsTrailer};
+ghost use Rattle.eu_framing.specs.ChunkSteps.{FindsTrailer, lines_in, long_trailer_fault};
 
 use crate::buffer::{fill, window};
 use crate::scan::Scan;
 use crate::{MAX_FIELDS, MAX_TRAILER};
 use eu_base::Fault;
 use eu_stream::Source;
+use httparse::Status;
 use httparse::spans::{EMPTY_HEADER_SPAN, HeaderSpan, parse_headers};
-use httparse::{Error, Status};
 
 /// The length of the trailer at `start`, if it is whole within its limit and the room. The fault is that of the bytes,
 /// whatever follows.
@@ -33,10 +33,7 @@ fn look(
     match parse_headers(window(buffer, start, MAX_TRAILER.min(room)), spans) {
         Ok(Status::Complete((len, _count))) => Ok(Some(len)),
         Ok(Status::Partial) => Ok(None),
-        Err(error) => match error {
-            Error::TooManyHeaders => Err(Fault::BadChunk),
-            _ => Err(Fault::BadChunk),
-        },
+        Err(_) => Err(Fault::BadChunk),
     }
 }
 
@@ -79,6 +76,24 @@ fn last_trailer(
     }
 }
 
+/// How many lines end in the bytes.
+fn count_lines(bytes: &[u8]) -> usize
+    ensures { result ≡ lines_in bytes.now }
+{
+    bytes.iter().filter(|byte| **byte == b'\n').count()
+}
+
+/// The fault of a trailer that doesn't end within these bytes, which are as many as it may have. Each line is a field.
+pub fn long_fault(bytes: &[u8], room: usize) -> Fault
+    ensures { result ≡ long_trailer_fault room bytes.now }
+{
+    if count_lines(bytes) <= MAX_FIELDS && room <= MAX_TRAILER {
+        Fault::BodyTooLong
+    } else {
+        Fault::BadChunk
+    }
+}
+
 /// The trailer at `start`, where the buffer holds as many bytes as it may have.
 fn full_trailer(
     buffer: &[u8],
@@ -94,8 +109,7 @@ fn full_trailer(
 {
     match look(buffer, start, room, spans)? {
         Some(len) => Ok(len),
-        None if room <= MAX_TRAILER => Err(Fault::BodyTooLong),
-        None => Err(Fault::BadChunk),
+        None => Err(long_fault(window(buffer, start, MAX_TRAILER.min(room)), room)),
     }
 }
 

@@ -1,6 +1,6 @@
 //! Requests as clients send them, and responses byte for byte.
 use crate::{Answer, Ask, Asked, Outcome, answer, asks};
-use eu_base::{App, Fault, Id, Instance, Key, Moment, Stamp, Status};
+use eu_base::{App, Fault, Instance, Key, Moment, Stamp, Status};
 use eu_framing::{Request, read_request};
 use eu_json::read_instance;
 use eu_model::{Command, Counts, Keys, Listed, Listing, Query, Reply, Times, View};
@@ -26,13 +26,6 @@ fn at(ms: u64) -> Result<Moment, Fault> {
 
 fn app(alloc: Global) -> Result<App, Fault> {
     App::read(alloc, "A")
-}
-
-fn key(alloc: Global) -> Result<Key, Fault> {
-    Ok(Key {
-        app: app(alloc)?,
-        id: Id::read(alloc, "i1")?,
-    })
 }
 
 fn instance(alloc: Global) -> Result<Instance, Fault> {
@@ -70,149 +63,188 @@ fn request(alloc: Global, line: &str, field: &str, body: &str) -> Result<Request
     read_request(alloc, &mut reader, &mut buffer)?.ok_or(Fault::BadHead)
 }
 
-/// What the request of a line asks at 1000.
-fn asked(alloc: Global, line: &str) -> Result<Asked, Fault> {
-    let routes = Routes::new(alloc)?;
-    asks(alloc, &routes, &request(alloc, line, "", "")?, at(1000)?)
+/// Writes a key behind a word.
+fn tell_key(out: &mut String, word: &str, key: &Key) -> Result<(), AllocError> {
+    let app = key.app.as_str();
+    let id = key.id.as_str();
+    write!(out, "{word} {app} {id}")
 }
 
-/// Its only ask.
-fn only(asked: Asked) -> Option<Ask> {
-    match asked {
-        Asked::Asks(mut asks) if asks.len() == 1 => asks.pop(),
-        _ => None,
+fn tell_stamp(out: &mut String, stamp: Option<Stamp>) -> Result<(), AllocError> {
+    match stamp {
+        Some(stamp) => {
+            let value = stamp.value;
+            write!(out, " {value}")
+        }
+        None => out.push_str(" -"),
     }
 }
 
-fn outcome(alloc: Global, answer: Result<Answer, Fault>) -> Result<Outcome, AllocError> {
-    let mut answers = Vec::new(alloc);
-    answers.push(answer)?;
-    Ok(Outcome::Answers(answers))
+fn tell_status(out: &mut String, status: Option<Status>) -> Result<(), AllocError> {
+    out.push_str(" ")?;
+    out.push_str(status.map_or("-", Status::name))
+}
+
+/// Writes a command as words; `r` ends it where a peer sends it, else `c`.
+fn tell_command(out: &mut String, command: &Command) -> Result<(), AllocError> {
+    let replicated = match command {
+        Command::Register {
+            instance,
+            replicated,
+        } => {
+            tell_key(out, "register", &instance.key)?;
+            tell_stamp(out, Stamp::new(instance.dirty))?;
+            *replicated
+        }
+        Command::Renew {
+            key,
+            dirty,
+            overridden,
+            replicated,
+        } => {
+            tell_key(out, "renew", key)?;
+            tell_stamp(out, *dirty)?;
+            tell_status(out, *overridden)?;
+            *replicated
+        }
+        Command::Cancel { key, replicated } => {
+            tell_key(out, "cancel", key)?;
+            *replicated
+        }
+        Command::SetStatus {
+            key,
+            status,
+            dirty,
+            replicated,
+        } => {
+            tell_key(out, "set", key)?;
+            tell_status(out, Some(*status))?;
+            tell_stamp(out, *dirty)?;
+            *replicated
+        }
+        Command::UnsetStatus {
+            key,
+            status,
+            dirty,
+            replicated,
+        } => {
+            tell_key(out, "unset", key)?;
+            tell_status(out, *status)?;
+            tell_stamp(out, *dirty)?;
+            *replicated
+        }
+        _ => return out.push_str("other"),
+    };
+    out.push_str(if replicated { " r" } else { " c" })
+}
+
+fn tell_query(out: &mut String, query: &Query) -> Result<(), AllocError> {
+    match query {
+        Query::One(key) => tell_key(out, "one", key),
+        Query::OfApp(app) => {
+            out.push_str("of ")?;
+            out.push_str(app.as_str())
+        }
+        Query::All => out.push_str("all"),
+        Query::Counts => out.push_str("counts"),
+    }
+}
+
+/// Writes what is asked as words, each ask ended by a semicolon.
+fn tell(out: &mut String, asked: &Asked) -> Result<(), AllocError> {
+    let Asked::Asks(asks) = asked else {
+        return out.push_str("forbidden");
+    };
+    for ask in asks {
+        match ask {
+            Ask::Do(command) => tell_command(out, command)?,
+            Ask::See(query) => tell_query(out, query)?,
+        }
+        out.push_str(";")?;
+    }
+    Ok(())
+}
+
+/// What a request asks at 1000, as words.
+fn told(alloc: Global, request: &Request) -> Result<String, Fault> {
+    let routes = Routes::new(alloc)?;
+    let now = at(1000)?;
+    let mut out = String::new(alloc);
+    let asked = asks(alloc, &routes, request, now)?;
+    tell(&mut out, &asked)?;
+    Ok(out)
+}
+
+/// The same of the request of a line.
+fn line_told(alloc: Global, line: &str) -> Result<String, Fault> {
+    let request = request(alloc, line, "", "")?;
+    told(alloc, &request)
 }
 
 /// The response to the request of a line.
 fn said(alloc: Global, line: &str, outcome: &Outcome, close: bool) -> Result<String, Fault> {
-    let bytes = answer(alloc, &request(alloc, line, "", "")?, outcome, close)?;
+    let request = request(alloc, line, "", "")?;
+    let bytes = answer(alloc, &request, outcome, close)?;
     Ok(String::from_utf8_lossy(alloc, &bytes)?)
 }
 
+/// The same where that is the one answer.
+fn answered(alloc: Global, line: &str, answer: Result<Answer, Fault>) -> Result<String, Fault> {
+    let mut answers = Vec::with_capacity(alloc, 1)?;
+    answers.push_reserved(answer);
+    said(alloc, line, &Outcome::Answers(answers), false)
+}
+
+fn did(alloc: Global, reply: Reply) -> Result<String, Fault> {
+    answered(alloc, "PUT /eureka/apps/A/i1", Ok(Answer::Did(reply)))
+}
+
+fn saw(alloc: Global, line: &str, view: View) -> Result<String, Fault> {
+    answered(alloc, line, Ok(Answer::Saw(view)))
+}
+
 #[test]
-fn clients_ask(rt: HostRuntime) -> Result<(), Fail> {
+fn each_line_asks(rt: HostRuntime) -> Result<(), Fail> {
     let alloc = rt.alloc();
-    let routes = Routes::new(alloc)?;
-    let replicated = "x-netflix-discovery-replication: true\r\n";
-    let post = request(alloc, "POST /eureka/v2/apps/a", replicated, REGISTRATION)?;
-    let Some(
-        Ask::Do(
-            Command::Register {
-                instance,
-                replicated: true,
-            },
+    let cases = [
+        (
+            "PUT /eureka/apps/A/i1?lastDirtyTimestamp=7&overriddenstatus=down",
+            "renew A i1 7 DOWN c;",
         ),
-    ) = only(asks(alloc, &routes, &post, at(1000)?)?)
-    else {
-        panic!(rt; "no registration");
-    };
-    assert!(rt; instance.key == key(alloc)? && instance.dirty == 5);
-    let renewal = "PUT /eureka/apps/A/i1?lastDirtyTimestamp=7&overriddenstatus=down";
-    let Some(
-        Ask::Do(
-            Command::Renew {
-                key: renewed,
-                dirty,
-                overridden: Some(Status::Down),
-                replicated: false,
-            },
+        ("PUT /eureka/v2/apps/a/i1", "renew A i1 - - c;"),
+        ("DELETE /eureka/apps/A/i1", "cancel A i1 c;"),
+        (
+            "PUT /eureka/v2/apps/A/i1/status?value=OUT_OF_SERVICE&lastDirtyTimestamp=9",
+            "set A i1 OUT_OF_SERVICE 9 c;",
         ),
-    ) = only(asked(alloc, renewal)?)
-    else {
-        panic!(rt; "no renewal");
-    };
-    assert!(rt; renewed == key(alloc)? && dirty.map(|stamp| stamp.value) == Some(7));
-    let Some(
-        Ask::Do(
-            Command::Cancel {
-                key: cancelled,
-                replicated: false,
-            },
+        (
+            "DELETE /eureka/v2/apps/A/i1/status?value=up",
+            "unset A i1 UP - c;",
         ),
-    ) = only(asked(alloc, "DELETE /eureka/apps/A/i1")?)
-    else {
-        panic!(rt; "no cancel");
-    };
-    assert!(rt; cancelled == key(alloc)?);
+        ("GET /eureka/apps/", "all;"),
+        ("GET /eureka/apps/a", "of A;"),
+        ("GET /eureka/apps/A/i1", "one A i1;"),
+        ("GET /eureka/apps/delta", "forbidden"),
+        ("GET /eureka/status", "counts;all;"),
+    ];
+    for (line, asks) in cases {
+        assert_eq!(rt; line_told(alloc, line)?.as_str(), asks);
+    }
     Ok(())
 }
 
 #[test]
-fn operators_ask(rt: HostRuntime) -> Result<(), Fail> {
+fn a_body_registers(rt: HostRuntime) -> Result<(), Fail> {
     let alloc = rt.alloc();
-    let set = "PUT /eureka/v2/apps/A/i1/status?value=OUT_OF_SERVICE&lastDirtyTimestamp=9";
-    let Some(
-        Ask::Do(
-            Command::SetStatus {
-                key: set,
-                status: Status::OutOfService,
-                dirty,
-                replicated: false,
-            },
-        ),
-    ) = only(asked(alloc, set)?)
-    else {
-        panic!(rt; "no status");
-    };
-    assert!(rt; set == key(alloc)? && dirty.map(|stamp| stamp.value) == Some(9));
-    let Some(
-        Ask::Do(
-            Command::UnsetStatus {
-                key: unset,
-                status: Some(Status::Up),
-                dirty: None,
-                replicated: false,
-            },
-        ),
-    ) = only(asked(alloc, "DELETE /eureka/v2/apps/A/i1/status?value=up")?)
-    else {
-        panic!(rt; "no override is taken back");
-    };
-    assert!(rt; unset == key(alloc)?);
-    Ok(())
-}
-
-#[test]
-fn readers_ask(rt: HostRuntime) -> Result<(), Fail> {
-    let alloc = rt.alloc();
-    assert!(rt;
-        matches!(
-            only(asked(alloc, "GET /eureka/apps/")?),
-            Some(Ask::See(Query::All))
-        )
-    );
-    let Some(Ask::See(Query::OfApp(of))) = only(asked(alloc, "GET /eureka/apps/a")?) else {
-        panic!(rt; "no application");
-    };
-    assert!(rt; of == app(alloc)?);
-    let Some(Ask::See(Query::One(one))) = only(asked(alloc, "GET /eureka/apps/A/i1")?) else {
-        panic!(rt; "no lease");
-    };
-    assert!(rt; one == key(alloc)?);
-    assert!(rt; matches!(asked(alloc, "GET /eureka/apps/delta")?, Asked::Forbidden));
-    let Asked::Asks(page) = asked(alloc, "GET /eureka/status")? else {
-        panic!(rt; "no page");
-    };
-    assert!(rt;
-        matches!(
-            page.as_slice(),
-            [Ask::See(Query::Counts), Ask::See(Query::All)]
-        )
-    );
+    let field = "x-netflix-discovery-replication: true\r\n";
+    let post = request(alloc, "POST /eureka/v2/apps/a", field, REGISTRATION)?;
+    assert_eq!(rt; told(alloc, &post)?.as_str(), "register A i1 5 r;");
     Ok(())
 }
 
 #[test]
 fn the_first_fault_is_told(rt: HostRuntime) -> Result<(), Fail> {
     let alloc = rt.alloc();
-    let routes = Routes::new(alloc)?;
     let cases = [
         ("POST /eureka/apps", "{", Fault::NoRoute),
         (
@@ -237,98 +269,89 @@ fn the_first_fault_is_told(rt: HostRuntime) -> Result<(), Fail> {
     ];
     for (line, body, fault) in cases {
         let bad = request(alloc, line, "", body)?;
-        let told = asks(alloc, &routes, &bad, at(1000)?);
-        assert!(rt; told.err() == Some(fault), "at {line}");
+        assert!(rt; told(alloc, &bad).err() == Some(fault), "at {line}");
     }
     let mut bad = request(alloc, "POST /eureka/apps/A", "", "x")?;
     bad.body = Vec::from_slice(alloc, [0xFFu8].as_slice())?;
-    let told = asks(alloc, &routes, &bad, at(1000)?);
-    assert!(rt; told.err() == Some(Fault::NotJson));
+    assert!(rt; told(alloc, &bad).err() == Some(Fault::NotJson));
     Ok(())
 }
+
+const NONE: &str = "HTTP/1.1 404 Not Found\r\nContent-Length: 0\r\n\r\n";
 
 #[test]
 fn replies_are_written(rt: HostRuntime) -> Result<(), Fail> {
     let alloc = rt.alloc();
-    let line = "PUT /eureka/apps/A/i1";
-    let none = "HTTP/1.1 404 Not Found\r\nContent-Length: 0\r\n\r\n";
-    let cases = [
-        (
-            Reply::Registered { fresh: true },
-            "HTTP/1.1 204 No Content\r\n\r\n",
-        ),
-        (Reply::Done, "HTTP/1.1 200 OK\r\nContent-Length: 0\r\n\r\n"),
-        (Reply::NotFound, none),
-        (Reply::Stale, none),
-        (Reply::Last(3), none),
-        (Reply::Evicted(Keys::new(Vec::new(alloc))), none),
-    ];
-    for (reply, text) in cases {
-        let outcome = outcome(alloc, Ok(Answer::Did(reply)))?;
-        assert_eq!(rt; said(alloc, line, &outcome, false)?.as_str(), text);
-    }
-    let conflict = outcome(alloc, Ok(Answer::Did(Reply::Conflict(instance(alloc)?))))?;
+    assert_eq!(rt;
+        did(alloc, Reply::Registered { fresh: true })?.as_str(),
+        "HTTP/1.1 204 No Content\r\n\r\n"
+    );
+    assert_eq!(rt;
+        did(alloc, Reply::Done)?.as_str(),
+        "HTTP/1.1 200 OK\r\nContent-Length: 0\r\n\r\n"
+    );
+    assert_eq!(rt; did(alloc, Reply::NotFound)?.as_str(), NONE);
+    assert_eq!(rt; did(alloc, Reply::Stale)?.as_str(), NONE);
+    assert_eq!(rt; did(alloc, Reply::Last(3))?.as_str(), NONE);
+    let nobody = Keys::new(Vec::new(alloc));
+    assert_eq!(rt; did(alloc, Reply::Evicted(nobody))?.as_str(), NONE);
+    let held = instance(alloc)?;
+    let conflict = did(alloc, Reply::Conflict(held))?;
     let text = format!(in alloc;
         "HTTP/1.1 409 Conflict\r\nContent-Type: application/json\r\nContent-Length: 240\r\n\r\n{HELD}"
     )?;
-    assert_eq!(rt;
-        said(alloc, line, &conflict, false)?.as_str(),
-        text.as_str()
-    );
+    assert_eq!(rt; conflict.as_str(), text.as_str());
     Ok(())
+}
+
+/// The start of a response with JSON.
+const OK: &str = "HTTP/1.1 200 OK\r\nContent-Type: application/json\r\nContent-Length:";
+
+fn saw_one(alloc: Global, line: &str) -> Result<String, Fault> {
+    let one = listed(alloc)?;
+    saw(alloc, line, View::One(Some(one)))
+}
+
+fn saw_all(alloc: Global, line: &str) -> Result<String, Fault> {
+    let nothing = listing(alloc, false)?;
+    saw(alloc, line, View::All(nothing))
+}
+
+fn saw_app(alloc: Global, held: bool) -> Result<String, Fault> {
+    let listing = listing(alloc, held)?;
+    saw(alloc, "GET /eureka/apps/A", View::OfApp(listing))
 }
 
 #[test]
 fn views_are_written(rt: HostRuntime) -> Result<(), Fail> {
     let alloc = rt.alloc();
-    let head = "HTTP/1.1 200 OK\r\nContent-Type: application/json\r\nContent-Length:";
-    let none = "HTTP/1.1 404 Not Found\r\nContent-Length: 0\r\n\r\n";
-    let one = outcome(alloc, Ok(Answer::Saw(View::One(Some(listed(alloc)?)))))?;
-    let text = format!(in alloc; "{head} 345\r\n\r\n{LISTED}")?;
-    assert_eq!(rt;
-        said(alloc, "GET /eureka/apps/A/i1", &one, false)?.as_str(),
-        text.as_str()
-    );
-    assert_eq!(rt;
-        said(alloc, "GET /eureka/apps/A", &one, false)?.as_str(),
-        none
-    );
-    let nobody = outcome(alloc, Ok(Answer::Saw(View::One(None))))?;
-    assert_eq!(rt;
-        said(alloc, "GET /eureka/apps/A/i1", &nobody, false)?.as_str(),
-        none
-    );
-    let all = outcome(alloc, Ok(Answer::Saw(View::All(listing(alloc, false)?))))?;
+    let one = saw_one(alloc, "GET /eureka/apps/A/i1")?;
+    let text = format!(in alloc; "{OK} 345\r\n\r\n{LISTED}")?;
+    assert_eq!(rt; one.as_str(), text.as_str());
+    let nobody = saw(alloc, "GET /eureka/apps/A/i1", View::One(None))?;
+    assert_eq!(rt; nobody.as_str(), NONE);
+    let all = saw_all(alloc, "GET /eureka/apps/")?;
     let text = format!(in alloc;
-        "{head} 77\r\n\r\n{{\"applications\":{{\"application\":[],\"apps__hashcode\":\"\",\"versions__delta\":\"1\"}}}}"
+        "{OK} 77\r\n\r\n{{\"applications\":{{\"application\":[],\"apps__hashcode\":\"\",\"versions__delta\":\"1\"}}}}"
     )?;
-    assert_eq!(rt;
-        said(alloc, "GET /eureka/apps/", &all, false)?.as_str(),
-        text.as_str()
-    );
-    assert_eq!(rt;
-        said(alloc, "GET /eureka/v2/status", &all, false)?.as_str(),
-        none
-    );
-    assert_eq!(rt;
-        said(alloc, "DELETE /eureka/apps/A/i1", &all, false)?.as_str(),
-        none
-    );
-    let of_app = outcome(alloc, Ok(Answer::Saw(View::OfApp(listing(alloc, true)?))))?;
+    assert_eq!(rt; all.as_str(), text.as_str());
+    let of_app = saw_app(alloc, true)?;
     let held = LISTED.strip_prefix("{\"instance\":").unwrap_or("");
     let held = held.strip_suffix("}").unwrap_or("");
     let text = format!(in alloc;
-        "{head} 374\r\n\r\n{{\"application\":{{\"instance\":[{held}],\"name\":\"A\"}}}}"
+        "{OK} 374\r\n\r\n{{\"application\":{{\"instance\":[{held}],\"name\":\"A\"}}}}"
     )?;
-    assert_eq!(rt;
-        said(alloc, "GET /eureka/apps/A", &of_app, false)?.as_str(),
-        text.as_str()
-    );
-    let empty = outcome(alloc, Ok(Answer::Saw(View::OfApp(listing(alloc, false)?))))?;
-    assert_eq!(rt;
-        said(alloc, "GET /eureka/apps/A", &empty, false)?.as_str(),
-        none
-    );
+    assert_eq!(rt; of_app.as_str(), text.as_str());
+    assert_eq!(rt; saw_app(alloc, false)?.as_str(), NONE);
+    Ok(())
+}
+
+#[test]
+fn views_that_were_not_asked_for_are_missing(rt: HostRuntime) -> Result<(), Fail> {
+    let alloc = rt.alloc();
+    assert_eq!(rt; saw_one(alloc, "GET /eureka/apps/A")?.as_str(), NONE);
+    assert_eq!(rt; saw_all(alloc, "GET /eureka/v2/status")?.as_str(), NONE);
+    assert_eq!(rt; saw_all(alloc, "DELETE /eureka/apps/A/i1")?.as_str(), NONE);
     Ok(())
 }
 
@@ -343,9 +366,10 @@ fn a_status_page_is_written(rt: HostRuntime) -> Result<(), Fail> {
         permitted: false,
         preservation: true,
     };
-    let mut answers = Vec::new(alloc);
-    answers.push(Ok(Answer::Saw(View::Counts(counts))))?;
-    answers.push(Ok(Answer::Saw(View::All(listing(alloc, true)?))))?;
+    let all = listing(alloc, true)?;
+    let mut answers = Vec::with_capacity(alloc, 2)?;
+    answers.push_reserved(Ok(Answer::Saw(View::Counts(counts))));
+    answers.push_reserved(Ok(Answer::Saw(View::All(all))));
     let page = Outcome::Answers(answers);
     assert_eq!(rt;
         said(alloc, "GET /eureka/status", &page, true)?.as_str(),
@@ -391,9 +415,8 @@ fn refusals_are_written(rt: HostRuntime) -> Result<(), Fail> {
         said(alloc, line, &Outcome::Forbidden, false)?.as_str(),
         "HTTP/1.1 403 Forbidden\r\nContent-Length: 0\r\n\r\n"
     );
-    let full = outcome(alloc, Err(Fault::Full))?;
     assert_eq!(rt;
-        said(alloc, line, &full, false)?.as_str(),
+        answered(alloc, line, Err(Fault::Full))?.as_str(),
         "HTTP/1.1 503 Service Unavailable\r\nContent-Type: application/json\r\nContent-Length: 11\r\n\r\n{\"fault\":7}"
     );
     Ok(())

@@ -1,5 +1,5 @@
 -- What a book answers to the lines of a script, against the lease machine
-use Rattle.std.proofs.Common.{◌≡◌, ◌≢◌, ℕ, List, [], ◌∷◌, ◌++◌, length, Option, Some, None, Result, Ok, Err, OnOk, OnErr, IfOk, IfErr, refl, sym, ◌∙◌, ap, subst, inl, inr, arith, false}
+use Rattle.std.proofs.Common.{◌≡◌, ◌≢◌, ℕ, List, [], ◌∷◌, ◌++◌, length, length-append, Option, Some, None, Result, Ok, Err, OnOk, OnErr, IfOk, IfErr, refl, sym, ◌∙◌, ap, subst, inl, inr, arith, false}
 use Rattle.std.specs.Prelude.{◌==◌, if◌then◌else◌}
 use Rattle.eu_base.specs.declared.faults.Fault.{Fault}
 use Rattle.eu_base.specs.declared.faults.Fault.TheVariants.{OutOfMemory, Exhausted}
@@ -61,8 +61,12 @@ module _ {C : Type 0} (asks : C → ℕ → ℕ × C) (x : C) where
         let step = applies.step r.machine (sym h.state) in
         let room : length r.entries ≢ most_entries = λ full. omega (arith, applies.fits, ap length h.entries, full) in (
           and_then r e step.1.0 step.0 step.1.1,
-          inl (e, refl, refl, differs (length r.entries) most_entries room, (refl, refl, refl, step.0, step.1.1), draws a.state r.machine x' c t receipt.reply (sym h.state) applies.chooses, text),
-          record { entries = ap (λ y. y.entries) applies.whole ∙ ap (λ es. es ++ e ∷ []) h.entries; state = sym step.1.2 },
+          inl (e, refl, refl, refl, applies.numbered ∙ h.steps, differs (length r.entries) most_entries room, (refl, refl, refl, step.0, step.1.1), draws a.state r.machine x' c t receipt.reply (sym h.state) applies.chooses, text),
+          record {
+            entries = ap (λ y. y.entries) applies.whole ∙ ap (λ es. es ++ e ∷ []) h.entries;
+            steps = omega (arith, ap (λ y. y.totals.steps) applies.whole, h.steps, length-append r.entries (e ∷ []));
+            state = sym step.1.2;
+          },
         )
 
     -- one that is refused, but not for want of memory, is refused in each of those runs

@@ -1,5 +1,5 @@
 -- A desk, which keeps the account of a book, against the lease machine
-use Rattle.std.specs.Prelude.{◌≡◌, ℕ, Bool, true, false, List, Option, Some, None}
+use Rattle.std.specs.Prelude.{◌≡◌, ℕ, Bool, true, false, List, length, Option, Some, None}
 use Rattle.eu_book.specs.Account.{Account}
 use Rattle.eu_model.specs.Plain.{plain}
 use Rattle.eu_server.specs.declared.desk.Desk.{Desk}
@@ -7,9 +7,10 @@ use Rattle.eu_server.specs.Script.{Ran, Answers, Refuses, SaysClosed, SaysOpened
 use Rattle.eu_words.specs.Lines.{Said}
 use Rattle.eu_words.specs.Lines.Said.{Register, Renew, Cancel, SetStatus, UnsetStatus, Adopt, Roll, Update, Evict}
 
--- the account is that of this run: it has the entries, and the plain form of the machine
+-- the account is that of this run: it has the entries and their number, and the plain form of the machine
 pub record Holds (a : Account) (r : Ran) : Type 0 where
   pub entries : a.entries ≡ r.entries
+  pub steps : a.totals.steps ≡ length r.entries
   pub state : a.state ≡ plain r.machine
 
 -- the same; None where none is open
@@ -51,6 +52,12 @@ is_stamped (Renew t k dirty overridden replicated) = true
 is_stamped (SetStatus t k status dirty replicated) = true
 is_stamped (UnsetStatus t k status dirty replicated) = true
 is_stamped _ = false
+
+-- what is said sets or unsets a status
+abbrev pub is_of_status : Said → Bool
+is_of_status (SetStatus t k status dirty replicated) = true
+is_of_status (UnsetStatus t k status dirty replicated) = true
+is_of_status _ = false
 
 -- what is said tells a command
 abbrev pub commands : Said → Bool

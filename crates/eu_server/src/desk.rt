@@ -6,7 +6,7 @@ ghost use Rattle.eu_model.specs.View.{counts, listing};
 ghost use Rattle.eu_page.specs.Page.{shown_page};
 ghost use Rattle.eu_words.specs.Lines.{said_of};
 ghost use Rattle.eu_server.specs.Script.{opens, Commands};
-ghost use Rattle.eu_server.specs.Desk.{DeskAnswers, DeskRefuses, ClosedAnswers, OpenedAnswers, Told, commands, is_stamped};
+ghost use Rattle.eu_server.specs.Desk.{DeskAnswers, DeskRefuses, ClosedAnswers, OpenedAnswers, Told, commands, is_stamped, is_of_status};
 
 use crate::printing::{print_counts, print_look, print_page, print_refusal, print_reply};
 use eu_base::{Config, Fault, Moment};
@@ -173,6 +173,16 @@ fn stamped_command_of(line: Line) -> Option<(Command, Moment)>
             };
             Some((command, moment))
         }
+        line => status_command_of(line),
+    }
+}
+
+/// The same of a line that sets or unsets a status.
+fn status_command_of(line: Line) -> Option<(Command, Moment)>
+    ensures some { IfSome result (λ told. Commands (said_of line) told.0 told.1) }
+    ensures none { result ≡ None → IsTrue (not (is_of_status (said_of line))) }
+{
+    match line {
         Line::SetStatus {
             moment,
             key,

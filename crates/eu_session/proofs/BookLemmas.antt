@@ -1,5 +1,5 @@
 -- A book that sessions ask goes on by runs
-use Rattle.std.proofs.Common.{◌≡◌, ℕ, Bool, List, [], ◌∷◌, ◌++◌, Option, Result, Ok, Err, refl, sym, ap, ◌∙◌, subst, inl, inr, append_assoc, append-nil}
+use Rattle.std.proofs.Common.{◌≡◌, ℕ, ◌+◌, Bool, List, [], ◌∷◌, ◌++◌, length, Option, None, Result, Ok, Err, refl, sym, ap, ◌∙◌, subst, inl, inr, append_assoc, append-nil, length-append, arith}
 use Rattle.eu_base.specs.declared.faults.Fault.{Fault}
 use Rattle.eu_book.specs.Account.{Account, entry}
 use Rattle.eu_framing.specs.declared.request.Request.{Request}
@@ -11,80 +11,115 @@ use Rattle.eu_http.specs.declared.exchange.Outcome.{Outcome}
 use Rattle.eu_http.specs.declared.exchange.Outcome.TheVariants.{Refused, Forbidden, Answers}
 use Rattle.eu_model.specs.declared.commands.Entry.{Entry}
 use Rattle.eu_model.specs.Answers as model
-use Rattle.eu_model.proofs.RunLemmas.{run_push}
+use Rattle.eu_model.specs.Machine.{Machine}
+use Rattle.eu_model.specs.Run.{Run}
 use Rattle.eu_session.specs.declared.faults.SessionFault.{SessionFault}
 use Rattle.eu_session.specs.declared.faults.SessionFault.TheVariants.{Read, Write, OutOfMemory}
-use Rattle.eu_session.specs.Book.{BookAsks, BookSession, GrewBy}
+use Rattle.eu_session.specs.Book.{BookAsks, BookTurns, BookSession, GrewBy, entry_of, entries_of, AddsTurn, AddTurns}
 use Rattle.eu_session.specs.Chain.{Chain, Pairs}
 use Rattle.eu_session.specs.Session.{Ends}
 use Rattle.eu_session.specs.Turn.{State, Turn, Step, ComesOf}
 
--- it went on by some entries
-abbrev Grew : Account → Account → Type 0
-Grew a b = (entries : List Entry) × GrewBy a entries b
+-- one run after another
+run_on : (s : Machine) (es fs : List Entry) (mid new : Machine) → Run s es mid → Run mid fs new → Run s (es ++ fs) new
+run_on s [] fs mid new e run = subst (λ m. Run m fs new) e run
+run_on s (e ∷ es) fs mid new (next, none, step, rest) run = (next, none, step, run_on next es fs mid new rest run)
 
-stays : (a : Account) → Grew a a
-stays a = ([], record { base = refl; first = refl; more = sym (append-nil a.entries); run = λ s at. (s, refl, at) })
+stays : (a b : Account) → b ≡ a → GrewBy a [] b
+stays a b e = subst (GrewBy a []) (sym e) (record { base = refl; first = refl; more = sym (append-nil a.entries); steps = omega (arith); run = λ s at. (s, refl, at) })
 
-same : (a b c : Account) → Grew a b → c ≡ b → Grew a c
-same a b c grew e = subst (Grew a) (sym e) grew
+goes_on : (a b c : Account) (es fs : List Entry) → GrewBy a es b → GrewBy b fs c → GrewBy a (es ++ fs) c
+goes_on a b c es fs one two = record {
+  base = two.base ∙ one.base;
+  first = two.first ∙ one.first;
+  more = two.more ∙ ap (λ ds. ds ++ fs) one.more ∙ append_assoc a.entries es fs;
+  steps = omega (arith, two.steps, one.steps, length-append es fs);
+  run = λ s at.
+      let before = one.run s at in
+      let after = two.run before.0 before.2 in
+      (after.0, run_on s es fs before.0 after.0 before.1 after.1, after.2);
+}
 
--- one ask more
-asks : (a b c : Account) (ask : Ask) (t : ℕ) (r : Result Answer Fault) → Grew a b → BookAsks b ask t r c → Grew a c
+-- one ask
+asks : (a b : Account) (ask : Ask) (t : ℕ) (r : Result Answer Fault) → BookAsks a ask t r b → GrewBy a (entry_of a.totals.steps t ask r) b
 unfolding model.Answers model.IsAnswer
-asks a b c (Do command) t (Ok (Did reply)) (es, grew) (number, x, x', applies) =
-    let e = entry 0 number command t reply in
-    let whole = applies.whole in (
-      es ++ e ∷ [],
-      record {
-        base = ap (λ y. y.base) whole ∙ grew.base;
-        first = ap (λ y. y.first) whole ∙ grew.first;
-        more = ap (λ y. y.entries) whole ∙ ap (λ ds. ds ++ e ∷ []) grew.more ∙ append_assoc a.entries es (e ∷ []);
-        run = λ s at.
-            let before = grew.run s at in
-            let step = applies.step before.0 before.2 in
-            (step.1.0, run_push s es before.0 e step.1.0 before.1 step.0 step.1.1, step.1.2);
-      },
-    )
-asks a b c (Do command) t (Ok (Saw v)) grew none = absurd none
-asks a b c (Do command) t (Err f) grew refused = same a b c grew refused.1
-asks a b c (See query) t (Ok (Did reply)) grew none = absurd none
-asks a b c (See query) t (Ok (Saw v)) grew seen = same a b c grew seen.1
-asks a b c (See query) t (Err f) grew refused = same a b c grew refused.1
+asks a b (Do c) t (Ok (Did reply)) (number, x, x', applies) =
+    let whole = applies.whole in
+    let same = ap (λ n. entry 0 n c t reply ∷ []) applies.numbered in record {
+      base = ap (λ y. y.base) whole;
+      first = ap (λ y. y.first) whole;
+      more = ap (λ y. y.entries) whole ∙ ap (λ es. a.entries ++ es) same;
+      steps = ap (λ y. y.totals.steps) whole;
+      run = λ s at.
+          let step = applies.step s at in
+          (step.1.0, (step.1.0, step.0, step.1.1, refl), step.1.2);
+    }
+asks a b (Do c) t (Ok (Saw v)) none = absurd none
+asks a b (Do c) t (Err f) refused = stays a b refused.1
+asks a b (See q) t (Ok (Did reply)) none = absurd none
+asks a b (See q) t (Ok (Saw v)) seen = stays a b seen.1
+asks a b (See q) t (Err f) refused = stays a b refused.1
 
 -- those of a request
-all : (a b c : Account) (t : ℕ) (each : List Ask) (results : List (Result Answer Fault)) → Grew a b → Pairs (λ s ask result s'. BookAsks s ask t result s') b each results c → Grew a c
-all a b c t [] [] grew e = same a b c grew e
-all a b c t (ask ∷ others) (r ∷ rs) grew (mid, one, rest) = all a mid c t others rs (asks a b mid ask t r grew one) rest
-all a b c t [] (r ∷ rs) grew none = absurd none
-all a b c t (ask ∷ others) [] grew none = absurd none
+all : (a b : Account) (t : ℕ) (each : List Ask) (results : List (Result Answer Fault)) → Pairs (λ s ask result s'. BookAsks s ask t result s') a each results b
+    → GrewBy a (entries_of a.totals.steps t each results) b
+all a b t [] [] e = stays a b e
+all a b t (ask ∷ others) (r ∷ rs) (mid, one, rest) =
+    let first = asks a mid ask t r one in
+    subst (λ n. GrewBy a (entry_of a.totals.steps t ask r ++ entries_of n t others rs) b) first.steps
+    (goes_on a mid b (entry_of a.totals.steps t ask r) (entries_of mid.totals.steps t others rs) first (all mid b t others rs rest))
+all a b t [] (r ∷ rs) none = absurd none
+all a b t (ask ∷ others) [] none = absurd none
 
-comes : (a b c : Account) (request : Request) (t : ℕ) (outcome : Outcome) → Grew a b → ComesOf (λ s ask m r s'. BookAsks s ask m r s') b request t outcome c → Grew a c
-comes a b c request t (Refused fault) grew is = same a b c grew is.1
-comes a b c request t Forbidden grew is = same a b c grew is.1
-comes a b c request t (Answers results) grew is = all a b c t is.0 results.items grew is.2
+abbrev Adds : Account → Turn → Outcome → Account → Type 0
+Adds a t outcome b = (entries : List Entry) × AddsTurn a.totals.steps t outcome entries × GrewBy a entries b
+
+comes : (a b : Account) (t : Turn) (outcome : Outcome) → ComesOf (λ s ask m r s'. BookAsks s ask m r s') a t.request t.moment outcome b → Adds a t outcome b
+comes a b t (Refused fault) is = ([], refl, stays a b is.1)
+comes a b t Forbidden is = ([], refl, stays a b is.1)
+comes a b t (Answers results) is = (entries_of a.totals.steps t.moment is.0 results.items, (is.0, is.1, refl), all a b t.moment is.0 results.items is.2)
 
 module _ {C : Type 0} (tells : C → ℕ → C → Type 0) where
-  turn : (a : Account) (old new : State Account C) (t : Turn) → Grew a old.desk → Step (λ s ask m r s'. BookAsks s ask m r s') tells old t new → Grew a new.desk
-  turn a old new t grew step = comes a old.desk new.desk t.request t.moment t.outcome grew step.comes
+  abbrev Steps : State Account C → Turn → State Account C → Type 0
+  Steps = Step (λ s ask m r s'. BookAsks s ask m r s') tells
 
-  turns : (a : Account) (old new : State Account C) (ts : List Turn) → Grew a old.desk → Chain (Step (λ s ask m r s'. BookAsks s ask m r s') tells) old ts new → Grew a new.desk
-  turns a old new [] grew e = same a old.desk new.desk grew (ap (λ s. s.desk) e)
-  turns a old new (t ∷ ts) grew (mid, one, rest) = turns a mid new ts (turn a old mid t grew one) rest
+  turn : (old new : State Account C) (t : Turn) → Steps old t new → Adds old.desk t t.outcome new.desk
+  turn old new t step = comes old.desk new.desk t t.outcome step.comes
 
-  ends : (a : Account) (n : ℕ) (old new : State Account C) (before after : Option (List ℕ)) (failed_reader failed_writer : Bool) (result : Result ℕ SessionFault) → Grew a old.desk
-      → Ends (λ s ask m r s'. BookAsks s ask m r s') tells n old new before after failed_reader failed_writer result → Grew a new.desk
-  ends a n old new before after failed_reader failed_writer (Ok m) grew (inl e) = same a old.desk new.desk grew e.1.untouched.desk_is
-  ends a n old new before after failed_reader failed_writer (Ok m) grew (inr (is, inl closes)) = turn a old new closes.turn grew closes.step
-  ends a n old new before after failed_reader failed_writer (Ok m) grew (inr (is, inr refuses)) = same a old.desk new.desk grew refuses.untouched.desk_is
-  ends a n old new before after failed_reader failed_writer (Err Read) grew e = same a old.desk new.desk grew e.1.desk_is
-  ends a n old new before after failed_reader failed_writer (Err Write) grew (failed, inl loses) = turn a old new loses.turn grew loses.step
-  ends a n old new before after failed_reader failed_writer (Err Write) grew (failed, inr loses) = same a old.desk new.desk grew loses.untouched.desk_is
-  ends a n old new before after failed_reader failed_writer (Err OutOfMemory) grew (keeps, inl untouched) = same a old.desk new.desk grew untouched.desk_is
-  ends a n old new before after failed_reader failed_writer (Err OutOfMemory) grew (keeps, inr (inl unasked)) = same a old.desk new.desk grew unasked.desk_is
-  ends a n old new before after failed_reader failed_writer (Err OutOfMemory) grew (keeps, inr (inr (t, step))) = turn a old new t grew step
+  pub book_turns : BookTurns tells
+  book_turns old new [] e = ([], refl, stays old.desk new.desk (ap (λ s. s.desk) e))
+  book_turns old new (t ∷ ts) (mid, one, rest) =
+      let here = turn old mid t one in
+      let others = book_turns mid new ts rest in (
+        here.0 ++ others.0,
+        (here.0, others.0, refl, here.1, subst (λ n. AddTurns n ts others.0) here.2.steps others.1),
+        goes_on old.desk mid.desk new.desk here.0 others.0 here.2 others.2,
+      )
+
+  -- it went on by some entries
+  abbrev Grew : Account → Account → Type 0
+  Grew a b = (entries : List Entry) × GrewBy a entries b
+
+  same : (a b : Account) → b ≡ a → Grew a b
+  same a b e = ([], stays a b e)
+
+  by_turn : (old new : State Account C) (t : Turn) → Steps old t new → Grew old.desk new.desk
+  by_turn old new t step = let adds = turn old new t step in (adds.0, adds.2)
+
+  ends : (n : ℕ) (old new : State Account C) (before after : Option (List ℕ)) (failed_reader failed_writer : Bool) (result : Result ℕ SessionFault)
+      → Ends (λ s ask m r s'. BookAsks s ask m r s') tells n old new before after failed_reader failed_writer result → Grew old.desk new.desk
+  ends n old new before after failed_reader failed_writer (Ok m) (inl e) = same old.desk new.desk e.1.untouched.desk_is
+  ends n old new before after failed_reader failed_writer (Ok m) (inr (is, inl closes)) = by_turn old new closes.turn closes.step
+  ends n old new before after failed_reader failed_writer (Ok m) (inr (is, inr refuses)) = same old.desk new.desk refuses.untouched.desk_is
+  ends n old new before after failed_reader failed_writer (Err Read) e = same old.desk new.desk e.1.desk_is
+  ends n old new before after failed_reader failed_writer (Err Write) (failed, inl loses) = by_turn old new loses.turn loses.step
+  ends n old new before after failed_reader failed_writer (Err Write) (failed, inr loses) = same old.desk new.desk loses.untouched.desk_is
+  ends n old new before after failed_reader failed_writer (Err OutOfMemory) (keeps, inl untouched) = same old.desk new.desk untouched.desk_is
+  ends n old new before after failed_reader failed_writer (Err OutOfMemory) (keeps, inr (inl unasked)) = same old.desk new.desk unasked.desk_is
+  ends n old new before after failed_reader failed_writer (Err OutOfMemory) (keeps, inr (inr (t, step))) = by_turn old new t step
 
   pub book_session : BookSession tells
   book_session old new before after failed_reader failed_writer result session =
-      let grew = turns old.desk old session.last session.goes_on.turns (stays old.desk) session.goes_on.chain in
-      ends old.desk session.n session.last _ session.held after failed_reader failed_writer result grew session.ends
+      let answered = book_turns old session.last session.goes_on.turns session.goes_on.chain in
+      let ended = ends session.n session.last _ session.held after failed_reader failed_writer result session.ends in
+      (answered.0 ++ ended.0, goes_on old.desk session.last.desk new.desk answered.0 ended.0 answered.2 ended.1)

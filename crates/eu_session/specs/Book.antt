@@ -1,13 +1,16 @@
 -- What a book does that a session asks
-use Rattle.std.specs.Prelude.{◌≡◌, ℕ, Bool, List, ◌++◌, Option, Result, Ok, Err}
+use Rattle.std.specs.Prelude.{◌≡◌, ℕ, ◌+◌, Bool, List, [], ◌∷◌, ◌++◌, length, map, Option, Some, Result, Ok, Err}
 use Rattle.eu_base.specs.declared.faults.Fault.{Fault}
 use Rattle.eu_base.specs.declared.faults.Fault.TheVariants.{OutOfMemory}
-use Rattle.eu_book.specs.Account.{Account, Applies, Refuses}
+use Rattle.eu_book.specs.Account.{Account, Applies, Refuses, entry}
 use Rattle.eu_clock.specs.declared.choosers.FirstChooser.{FirstChooser}
 use Rattle.eu_http.specs.declared.exchange.Answer.{Answer}
 use Rattle.eu_http.specs.declared.exchange.Answer.TheVariants.{Did, Saw}
 use Rattle.eu_http.specs.declared.exchange.Ask.{Ask}
 use Rattle.eu_http.specs.declared.exchange.Ask.TheVariants.{Do, See}
+use Rattle.eu_http.specs.declared.exchange.Outcome.{Outcome}
+use Rattle.eu_http.specs.declared.exchange.Outcome.TheVariants.{Refused, Forbidden, Answers}
+use Rattle.eu_http.specs.Asks.{said_by, asks_of}
 use Rattle.eu_model.specs.declared.commands.Entry.{Entry}
 use Rattle.eu_model.specs.Answers.{Shows}
 use Rattle.eu_model.specs.Machine.{Machine}
@@ -15,8 +18,9 @@ use Rattle.eu_model.specs.Plain.{Plain, plain}
 use Rattle.eu_model.specs.Run.{Run}
 use Rattle.eu_model.specs.View.{view}
 use Rattle.eu_session.specs.declared.faults.SessionFault.{SessionFault}
+use Rattle.eu_session.specs.Chain.{Chain}
 use Rattle.eu_session.specs.Session.{Session}
-use Rattle.eu_session.specs.Turn.{State}
+use Rattle.eu_session.specs.Turn.{State, Turn, Step}
 
 -- the words that are drawn: always the first of what they are drawn from
 abbrev pub first_asks : FirstChooser → ℕ → ℕ × FirstChooser
@@ -31,6 +35,30 @@ BookAsks a (See q) t (Ok (Did reply)) b = ⊥
 BookAsks a (See q) t (Ok (Saw v)) b = Shows a.state (λ s. view s q t) v × (b ≡ a)
 BookAsks a (See q) t (Err f) b = (f ≡ OutOfMemory) × (b ≡ a)
 
+-- what an ask at a moment adds to the journal, by its answer: the entry of a command that was answered, with the pass 0 and the number n
+abbrev pub entry_of : ℕ → ℕ → Ask → Result Answer Fault → List Entry
+entry_of n t (Do c) (Ok (Did reply)) = entry 0 n c t reply ∷ []
+entry_of n t _ _ = []
+
+-- what asks add, one after another, by their answers; the first entry has the number n
+abbrev pub entries_of : ℕ → ℕ → List Ask → List (Result Answer Fault) → List Entry
+entries_of n t [] results = []
+entries_of n t (ask ∷ asks) [] = []
+entries_of n t (ask ∷ asks) (r ∷ rs) = entry_of n t ask r ++ entries_of (n + length (entry_of n t ask r)) t asks rs
+
+-- what a turn adds: nothing, where its request asked nothing
+abbrev pub AddsTurn : ℕ → Turn → Outcome → List Entry → Type 0
+AddsTurn n t (Refused fault) entries = entries ≡ []
+AddsTurn n t Forbidden entries = entries ≡ []
+AddsTurn n t (Answers results) entries =
+    (asks : List Ask) × (asks_of t.request t.moment ≡ Ok (Some (map said_by asks))) × (entries ≡ entries_of n t.moment asks results.items)
+
+-- what turns add, one after another
+abbrev pub AddTurns : ℕ → List Turn → List Entry → Type 0
+AddTurns n [] entries = entries ≡ []
+AddTurns n (t ∷ ts) entries =
+    (here : List Entry) × (others : List Entry) × (entries ≡ here ++ others) × AddsTurn n t t.outcome here × AddTurns (n + length here) ts others
+
 -- from each machine with the plain form p, the entries are a run to one with the plain form q
 abbrev pub RunsFrom : Plain → List Entry → Plain → Type 0
 RunsFrom p entries q = (s : Machine) → plain s ≡ p → (s' : Machine) × Run s entries s' × (plain s' ≡ q)
@@ -40,11 +68,19 @@ pub record GrewBy (a : Account) (entries : List Entry) (b : Account) : Type 0 wh
   pub base : b.base ≡ a.base
   pub first : b.first ≡ a.first
   pub more : b.entries ≡ a.entries ++ entries
+  pub steps : b.totals.steps ≡ a.totals.steps + length entries
   pub run : RunsFrom a.state entries b.state
 
--- each session with a book goes on with its journal, however it ends
-abbrev pub BookSession : {C : Type 0} → (C → ℕ → C → Type 0) → Type 0
-BookSession {C} tells =
-    (old new : State Account C) (before after : Option (List ℕ)) (failed_reader failed_writer : Bool) (result : Result ℕ SessionFault)
-    → Session (λ a ask t r b. BookAsks a ask t r b) tells old new before after failed_reader failed_writer result
-    → (entries : List Entry) × GrewBy old.desk entries new.desk
+module _ {C : Type 0} (tells : C → ℕ → C → Type 0) where
+  -- by turns with a book, its journal goes on by the commands that were answered in them, in order
+  abbrev pub BookTurns : Type 0
+  BookTurns =
+      (old new : State Account C) (turns : List Turn) → Chain (Step (λ a ask t r b. BookAsks a ask t r b) tells) old turns new
+      → (entries : List Entry) × AddTurns old.desk.totals.steps turns entries × GrewBy old.desk entries new.desk
+
+  -- by a session with a book its journal goes on, however it ends
+  abbrev pub BookSession : Type 0
+  BookSession =
+      (old new : State Account C) (before after : Option (List ℕ)) (failed_reader failed_writer : Bool) (result : Result ℕ SessionFault)
+      → Session (λ a ask t r b. BookAsks a ask t r b) tells old new before after failed_reader failed_writer result
+      → (entries : List Entry) × GrewBy old.desk entries new.desk

@@ -1,5 +1,5 @@
 //! A book that is asked in place.
-ghost use Rattle.eu_session.specs.Book.{BookSession};
+ghost use Rattle.eu_session.specs.Book.{BookTurns, BookSession};
 
 use crate::Desk;
 use eu_base::{Fault, Moment};
@@ -29,8 +29,10 @@ impl Desk for Book {
     }
 }
 
-/// A law without code: however a session with a lent book ends, the commands that were answered are entries more of its
-/// journal, and a run of the lease machine from what the registry was to what it is.
+/// A law without code: by the turns of a session with a lent book, its journal goes on by the commands that were answered in
+/// them, in order, and by nothing else; and however the session ends, the entries that came are a run of the lease machine from
+/// what the registry was to what it is.
 pub fn sessions_are_runs<C: Clock>()
-    ensures { BookSession C.tells }
+    ensures turns { BookTurns C.tells }
+    ensures session { BookSession C.tells }
 {}

@@ -14,8 +14,3 @@ pub use session::serve_session;
 
 /// The most requests of a session.
 pub const MAX_REQUESTS: u32 = 100;
-
-#[cfg(test)]
-mod rows;
-#[cfg(test)]
-mod tests;

@@ -1,7 +1,7 @@
 //! Values from the rules of Eureka's registry, worked out by hand.
-use crate::Registry;
 use eu_base::{App, Config, Fault, Id, Instance, Key, Moment, Rest, Stamp, Status};
 use eu_clock::{Chooser, FirstChooser, ListChooser};
+use eu_core::Registry;
 use eu_model::Reply;
 use std::alloc::{AllocError, Global};
 use std::test::Fail;
@@ -30,14 +30,14 @@ enum Call {
     Evict,
 }
 
-fn key(alloc: Global, app: &str, id: &str) -> Result<Key, Fault> {
+pub fn key(alloc: Global, app: &str, id: &str) -> Result<Key, Fault> {
     Ok(Key {
         app: App::read(alloc, app)?,
         id: Id::read(alloc, id)?,
     })
 }
 
-fn instance(
+pub fn instance(
     alloc: Global,
     id: &str,
     statuses: (Status, Status),
@@ -119,7 +119,7 @@ fn answer<C: Chooser>(
 }
 
 /// Writes a reply as a word.
-fn tell(out: &mut String, reply: &Reply) -> Result<(), AllocError> {
+pub fn tell(out: &mut String, reply: &Reply) -> Result<(), AllocError> {
     match reply {
         Reply::Registered { fresh: true } => out.push_str("new "),
         Reply::Registered { fresh: false } => out.push_str("again "),

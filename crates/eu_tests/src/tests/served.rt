@@ -1,11 +1,13 @@
 //! Sessions with a registry, as clients hold them.
-use crate::tests::{LISTED, LONG, LONG_REFUSED, Parts, REGISTRATION, RENEWAL, RENEWED, clock};
-use crate::{serve_session, sessions_are_runs};
+use crate::tests::sessions::{
+    LISTED, LONG, LONG_REFUSED, Parts, REGISTRATION, RENEWAL, RENEWED, clock,
+};
 use eu_base::{Config, Fault, Moment};
 use eu_book::{Book, MOST_ENTRIES};
 use eu_clock::{FirstChooser, ListClock};
 use eu_model::Command;
 use eu_routes::Routes;
+use eu_session::{serve_session, sessions_are_runs};
 use eu_stream::Writing;
 use std::alloc::{AllocError, Global};
 use std::test::Fail;

@@ -1,13 +1,13 @@
 //! Sessions as clients hold them, byte for byte.
 ghost use Rattle.std.specs.Prelude.{None};
 
-use crate::{Desk, MAX_REQUESTS, SessionFault, serve_session};
 use eu_base::{App, Fault, Instance, Moment};
 use eu_clock::{Clock, ListClock};
 use eu_http::{Answer, Ask};
 use eu_json::read_instance;
 use eu_model::{Command, Listed, Query, Reply, Times, View};
 use eu_routes::Routes;
+use eu_session::{Desk, MAX_REQUESTS, SessionFault, serve_session};
 use eu_stream::{ReadFault, Sink, Source, WriteFault};
 use std::alloc::Global;
 use std::cell::RefCell;

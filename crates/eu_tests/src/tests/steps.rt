@@ -1,80 +1,26 @@
 //! Steps with two replies and a copy. Values from the rules of Eureka's registry, worked out by hand.
-use crate::{Registry, Stepped};
-use eu_base::{App, Config, Fault, Id, Instance, Key, Moment, Rest, Stamp, Status};
+use crate::tests::registry::{instance, key, tell};
+use eu_base::{Config, Fault, Moment, Stamp, Status};
 use eu_clock::{Chooser, FirstChooser, ListChooser};
+use eu_core::{Registry, Stepped};
 use eu_model::{Command, Reply, State};
 use std::alloc::{AllocError, Global};
 use std::test::Fail;
 
-fn key(alloc: Global, id: &str) -> Result<Key, Fault> {
-    Ok(Key {
-        app: App::read(alloc, "A")?,
-        id: Id::read(alloc, id)?,
-    })
-}
-
-fn instance(
-    alloc: Global,
-    id: &str,
-    status: Status,
-    dirty: u64,
-    secs: u32,
-) -> Result<Instance, Fault> {
-    if dirty > 1_000 || secs == 0 || secs > 1_000 {
-        return Err(Fault::BadValue);
-    }
-    Ok(Instance {
-        key: key(alloc, id)?,
-        status,
-        overridden: Status::Unknown,
-        dirty,
-        secs,
-        interval: 30,
-        rest: Rest::of_host(alloc, "h")?,
-    })
-}
-
 fn join(alloc: Global, id: &str, status: Status, dirty: u64, secs: u32) -> Result<Command, Fault> {
     Ok(Command::Register {
-        instance: instance(alloc, id, status, dirty, secs)?,
+        instance: instance(alloc, id, (status, Status::Unknown), dirty, secs)?,
         replicated: false,
     })
 }
 
 fn renewal(alloc: Global, stamp: Option<u64>) -> Result<Command, Fault> {
     Ok(Command::Renew {
-        key: key(alloc, "i1")?,
+        key: key(alloc, "A", "i1")?,
         dirty: stamp.and_then(Stamp::new),
         overridden: None,
         replicated: true,
     })
-}
-
-/// Writes a reply as a word.
-fn tell(out: &mut String, reply: &Reply) -> Result<(), AllocError> {
-    match reply {
-        Reply::Registered { fresh: true } => out.push_str("new "),
-        Reply::Registered { fresh: false } => out.push_str("again "),
-        Reply::Done => out.push_str("done "),
-        Reply::NotFound => out.push_str("none "),
-        Reply::Stale => out.push_str("stale "),
-        Reply::Conflict(held) => {
-            let dirty = held.dirty;
-            write!(out, "conflict={dirty} ")
-        }
-        Reply::Last(renewals) => write!(out, "last={renewals} "),
-        Reply::Expected(clients) => write!(out, "expected={clients} "),
-        Reply::Evicted(victims) => tell_ids(out, victims.as_slice()),
-    }
-}
-
-fn tell_ids(out: &mut String, keys: &[Key]) -> Result<(), AllocError> {
-    out.push_str("evicted")?;
-    for key in keys {
-        out.push_str("-")?;
-        out.push_str(key.id.as_str())?;
-    }
-    out.push_str(" ")
 }
 
 /// Writes the replies, and of each copy status, stamp and duration.
@@ -147,14 +93,14 @@ fn copies_are_of_the_status_after(rt: HostRuntime) -> Result<(), Fail> {
     let command = join(alloc, "i1", Status::Up, 5, 90)?;
     first(alloc, &mut out, &mut registry, command)?;
     let command = Command::SetStatus {
-        key: key(alloc, "i1")?,
+        key: key(alloc, "A", "i1")?,
         status: Status::Down,
         dirty: Stamp::new(9),
         replicated: false,
     };
     first(alloc, &mut out, &mut registry, command)?;
     let command = Command::UnsetStatus {
-        key: key(alloc, "i1")?,
+        key: key(alloc, "A", "i1")?,
         status: Some(Status::Up),
         dirty: None,
         replicated: false,
@@ -173,11 +119,11 @@ fn nothing_is_copied_of_nobody(rt: HostRuntime) -> Result<(), Fail> {
     let mut registry = opened(alloc, true, 85)?;
     let mut out = String::new(alloc);
     let command = Command::Adopt {
-        instance: instance(alloc, "i1", Status::Up, 10, 30)?,
+        instance: instance(alloc, "i1", (Status::Up, Status::Unknown), 10, 30)?,
     };
     first(alloc, &mut out, &mut registry, command)?;
     let command = Command::Cancel {
-        key: key(alloc, "i1")?,
+        key: key(alloc, "A", "i1")?,
         replicated: false,
     };
     first(alloc, &mut out, &mut registry, command)?;
@@ -265,7 +211,7 @@ fn a_registry_is_plain_data(rt: HostRuntime) -> Result<(), Fail> {
         let command = join(alloc, id, Status::Up, 5, 90)?;
         first(alloc, &mut out, &mut registry, command)?;
         let command = Command::SetStatus {
-            key: key(alloc, id)?,
+            key: key(alloc, "A", id)?,
             status: Status::Down,
             dirty: None,
             replicated: false,

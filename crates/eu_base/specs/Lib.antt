@@ -3,3 +3,4 @@ pub mod Key
 pub mod Status
 pub mod Tree
 pub mod Rest
+pub mod Action

@@ -1,4 +1,4 @@
-//! Names, moments, stamps, settings, instances and faults: the values that every layer speaks of.
+//! Names, moments, stamps, settings, instances, tasks and faults: the values that every layer speaks of.
 #![tactic(auto)]
 
 mod faults;
@@ -7,6 +7,7 @@ mod names;
 mod rest;
 mod settings;
 mod statuses;
+mod tasks;
 mod times;
 
 pub use faults::Fault;
@@ -15,6 +16,7 @@ pub use names::{App, Id, Key};
 pub use rest::{Rest, has_fraction};
 pub use settings::Config;
 pub use statuses::Status;
+pub use tasks::{Action, Codes, Task, TaskName};
 pub use times::{Moment, Stamp};
 
 #[cfg(test)]

@@ -1,6 +1,6 @@
 -- A book that is opened, and one that grows by an entry
 use Rattle.std.proofs.Common.{◌≡◌, ◌≢◌, ◌⊎◌, inl, inr, ℕ, ◌+◌, ◌≤◌, List, [], ◌∷◌, ◌++◌, length, refl, sym, ap, ◌∙◌, subst, arith, false}
-use Rattle.std.specs.Prelude.{None, Some, Err, Ok, cond, Option}
+use Rattle.std.specs.Prelude.{None, Some, Err, Ok, cond, replicate, Option}
 use Rattle.std.specs.FinMap.{len-empty}
 use Rattle.std.proofs.Math.Dec.{eqb}
 use Rattle.std.proofs.lemmas.Bool.Decides.{eqb_tells}
@@ -14,31 +14,37 @@ use Rattle.eu_model.specs.declared.commands.Entry.{Entry}
 use Rattle.eu_model.specs.declared.commands.Reply.{Reply}
 use Rattle.eu_model.specs.declared.states.State.{State}
 use Rattle.eu_model.specs.declared.tallies.Tally.{Tally}
-use Rattle.eu_model.specs.Answers.{Answers, IsAnswer, IsRefusal}
+use Rattle.eu_model.specs.Answers.{IsRefusal}
 use Rattle.eu_model.specs.Delta.{delta, plus, removed_by, added_by, counted_by}
-use Rattle.eu_model.specs.Machine.{opening}
-use Rattle.eu_model.specs.Run.{fault}
-use Rattle.eu_model.specs.Plain.{Plain, plain, listed}
-use Rattle.eu_model.specs.State.{plain_of_state}
+use Rattle.eu_model.specs.Plain.{listed}
+use Rattle.eu_model.specs.Queue.{idle}
+use Rattle.eu_model.specs.Server as server
+use Rattle.eu_model.specs.Server.{PlainServer, plain_server, server_fault}
+use Rattle.eu_model.specs.ServerAnswers.{ServerAnswers, IsServerAnswer}
+use Rattle.eu_model.specs.State.{server_of_state}
 use Rattle.eu_model.proofs.AccountLemmas.{tally_push, steps_are, numbered_push, runs_push, counted_at_most_one, answer_accounts}
 use Rattle.eu_model.proofs.MapLemmas.{len-map_values}
 use Rattle.eu_model.proofs.OpeningLemmas.{plain-opening}
+use Rattle.eu_model.proofs.ServedLemmas as of
 use Rattle.eu_book.specs.Account.{Account, Refuses, opened, IsKept, entry, grown, most_entries}
+use Rattle.eu_book.specs.Peers.{MayRefuse}
 
 -- ---- opened
 
-pub plain_of_empty : (s : State) (config : Config) (expected : ℕ) → s ≡ record { config = config; expected = expected; leases = []; rows = []; last = 0; since = 0; previous = None } → plain_of_state s ≡ plain (opening config expected)
-plain_of_empty s config expected is = ap plain_of_state is ∙ sym (plain-opening config expected)
+pub server_of_empty : (s : State) (config : Config) (expected peers : ℕ)
+    → s ≡ record { config = config; expected = expected; leases = []; rows = []; last = 0; since = 0; previous = None; queues = replicate peers idle }
+    → server_of_state s ≡ plain_server (server.opened config expected peers)
+server_of_empty s config expected peers is = ap server_of_state is ∙ ap (λ p. of.server p (replicate peers idle)) (sym (plain-opening config expected))
 
-pub opened_kept : (config : Config) (expected : ℕ) → IsKept (opened config expected)
-opened_kept config expected =
-    let machine = opening config expected in
+pub opened_kept : (config : Config) (expected peers : ℕ) → IsKept (opened config expected peers)
+opened_kept config expected peers =
+    let first = server.opened config expected peers in
     record {
       lawful = record {
-        run = record { from = machine; to = machine; begins = refl; ends = refl; run = refl };
+        run = record { from = first; to = first; begins = refl; ends = refl; run = refl };
         numbered = tt;
         totals = refl;
-        leases = omega (arith, len-map_values key_cmp listed machine.leases, len-empty);
+        leases = omega (arith, len-map_values key_cmp listed first.machine.leases, len-empty);
       };
       first = refl;
       fits = omega (arith);
@@ -53,7 +59,7 @@ module _ (a : Account) (kept : IsKept a) where
   steps_fit = omega (arith, ap (λ x. x.steps) kept.lawful.totals ∙ steps_are a.entries, kept.fits)
 
   -- no sum passes what a journal may have
-  pub sums_fit : (c : Command) (t : ℕ) (r : Reply) (new : Plain) → Answers a.state c t (Ok r) new
+  pub sums_fit : (c : Command) (t : ℕ) (r : Reply) (new : PlainServer) → ServerAnswers a.state c t (Ok r) new
       → (a.totals.counted + counted_by c r ≤ 65537) × (a.totals.added + added_by c r ≤ 65537) × (a.totals.removed + removed_by c r ≤ 65537)
   sums_fit c t r new answers =
       let accounts = answer_accounts a.state c t r new answers in
@@ -61,7 +67,7 @@ module _ (a : Account) (kept : IsKept a) where
       let added : a.totals.added + added_by c r ≤ 65537 = omega (arith, steps_fit, kept.added, accounts.1) in
       (counted, added, omega (arith, added, kept.lawful.leases, accounts.0))
 
-  pub kept_grown : (pass : ℕ) (c : Command) (t : ℕ) (r : Reply) (new : Plain) → length a.entries ≢ most_entries → Answers a.state c t (Ok r) new
+  pub kept_grown : (pass : ℕ) (c : Command) (t : ℕ) (r : Reply) (new : PlainServer) → length a.entries ≢ most_entries → ServerAnswers a.state c t (Ok r) new
       → IsKept (grown a (entry pass a.totals.steps c t r) new)
   kept_grown pass c t r new room answers =
       let e = entry pass a.totals.steps c t r in
@@ -81,7 +87,7 @@ module _ (a : Account) (kept : IsKept a) where
       }
 
   -- the same, by its parts
-  pub kept_after : (pass : ℕ) (c : Command) (t : ℕ) (r : Reply) (new : Plain) (entries : List Entry) (totals : Tally) → length a.entries ≢ most_entries → Answers a.state c t (Ok r) new
+  pub kept_after : (pass : ℕ) (c : Command) (t : ℕ) (r : Reply) (new : PlainServer) (entries : List Entry) (totals : Tally) → length a.entries ≢ most_entries → ServerAnswers a.state c t (Ok r) new
       → entries ≡ a.entries ++ (entry pass a.totals.steps c t r ∷ []) → totals ≡ plus a.totals (delta c r)
       → IsKept (record { base = a.base; first = a.first; entries = entries; state = new; totals = totals })
   kept_after pass c t r new entries totals room answers whole sum =
@@ -97,7 +103,11 @@ refusal : (first : Option Fault) (f : Fault) → IsRefusal first f → (f ≡ Ou
 refusal None f is = inl is
 refusal (Some g) f is = inr (ap Some (sym is))
 
-pub refuses : (a : Account) (c : Command) (t : ℕ) (f : Fault) → length a.entries ≢ most_entries → Answers a.state c t (Err f) a.state → Refuses a c t f
-unfolding Answers IsAnswer
+refuses : (a : Account) (c : Command) (t : ℕ) (f : Fault) → length a.entries ≢ most_entries → ServerAnswers a.state c t (Err f) a.state → Refuses a c t f
+unfolding ServerAnswers IsServerAnswer
 refuses a c t f room answers s at =
-    subst (λ b. (f ≡ OutOfMemory) ⊎ (cond b (Some Exhausted) (fault s c t) ≡ Some f)) (sym (differs (length a.entries) most_entries room)) (refusal (fault s c t) f (answers s at).0)
+    subst (λ b. (f ≡ OutOfMemory) ⊎ (cond b (Some Exhausted) (server_fault s c t) ≡ Some f)) (sym (differs (length a.entries) most_entries room)) (refusal (server_fault s c t) f (answers s at).0)
+
+pub may_refuse : (a : Account) (c : Command) (t : ℕ) (f : Fault) → length a.entries ≢ most_entries → MayRefuse a.state c t f → Refuses a c t f
+may_refuse a c t f room (inl memory) = λ s at. inl memory
+may_refuse a c t f room (inr answers) = refuses a c t f room answers

@@ -10,28 +10,27 @@ use Rattle.eu_model.specs.declared.commands.Command.{Command}
 use Rattle.eu_model.specs.declared.commands.Entry.{Entry}
 use Rattle.eu_model.specs.declared.commands.Reply.{Reply}
 use Rattle.eu_model.specs.declared.tallies.Tally.{Tally}
-use Rattle.eu_model.specs.Answers.{Answers}
 use Rattle.eu_model.specs.Delta.{delta, nothing, plus, tally_of}
-use Rattle.eu_model.specs.Machine.{Machine, opening}
-use Rattle.eu_model.specs.Plain.{Plain, plain}
-use Rattle.eu_model.specs.Run.{fault}
 use Rattle.eu_model.specs.Runs.{Runs, IsNumbered}
+use Rattle.eu_model.specs.Server.{Server, PlainServer, plain_server, server_fault}
+use Rattle.eu_model.specs.Server as server
+use Rattle.eu_model.specs.ServerAnswers.{ServerAnswers}
 
 -- the plain form that the entries begin at, the number of the first one, the entries, the plain form now, and what was done
 pub record Account : Type 0 where
-  pub base : Plain
+  pub base : PlainServer
   pub first : ℕ
   pub entries : List Entry
-  pub state : Plain
+  pub state : PlainServer
   pub totals : Tally
 
--- the account of a registry that was just opened
-abbrev pub opened : Config → ℕ → Account
-opened config expected = record {
-  base = plain (opening config expected);
+-- the account of a server that was just opened, with so many peers
+abbrev pub opened : Config → ℕ → ℕ → Account
+opened config expected peers = record {
+  base = plain_server (server.opened config expected peers);
   first = 0;
   entries = [];
-  state = plain (opening config expected);
+  state = plain_server (server.opened config expected peers);
   totals = nothing;
 }
 
@@ -39,13 +38,13 @@ opened config expected = record {
 abbrev pub most_entries : ℕ
 most_entries = 65536
 
--- The entries are a run of the lease machine from the base to the state, and are numbered from the first on. What was done is what
+-- The entries are a run of the server from the base to the state, and are numbered from the first on. What was done is what
 -- they did: as many leases are held as were added and not removed
 pub record IsLawful (a : Account) : Type 0 where
   pub run : Runs a.base a.entries a.state
   pub numbered : IsNumbered a.first a.entries
   pub totals : a.totals ≡ tally_of a.entries
-  pub leases : len a.state.leases + a.totals.removed ≡ a.totals.added
+  pub leases : len a.state.registry.leases + a.totals.removed ≡ a.totals.added
 
 -- lawful, with every number below its bound
 pub record IsKept (a : Account) : Type 0 where
@@ -61,7 +60,7 @@ abbrev pub entry : ℕ → ℕ → Command → ℕ → Reply → Entry
 entry pass number c t reply = record { pass = pass; number = number; command = c; moment = t; reply = reply }
 
 -- one entry more, and the state that its step leads to
-abbrev pub grown : Account → Entry → Plain → Account
+abbrev pub grown : Account → Entry → PlainServer → Account
 grown a e state = record {
   base = a.base;
   first = a.first;
@@ -70,21 +69,21 @@ grown a e state = record {
   totals = plus a.totals (delta e.command e.reply);
 }
 
--- A command of a pass at a moment is answered with this reply, which makes a step of the machine; there is room for its entry, which
+-- A command of a pass at a moment is answered with this reply, which makes a step of the server; there is room for its entry, which
 -- is the next one and whose number is that of the steps before it. The chooser is asked as the machine's passes ask
 pub record Applies {S : Type 0} (asks : Asks S) (old : Account) (x : S) (pass : ℕ) (c : Command) (t : ℕ) (reply : Reply) (number : ℕ) (new : Account) (x' : S) : Type 0 where
   pub fits : length old.entries < most_entries
   pub numbered : number ≡ old.totals.steps
-  pub step : Answers old.state c t (Ok reply) new.state
-  pub chooses : Chooses asks old.state x c t reply x'
+  pub step : ServerAnswers old.state c t (Ok reply) new.state
+  pub chooses : Chooses asks old.state.registry x c t reply x'
   pub whole : new ≡ grown old (entry pass number c t reply) new.state
 
 -- ---- one that is refused
 
--- the first fault, if there is one: that the entries are as many as are kept at most, or the machine's
-abbrev pub fault_of : Account → Machine → Command → ℕ → Option Fault
-fault_of a s c t = if length a.entries == most_entries then Some Exhausted else fault s c t
+-- the first fault, if there is one: that the entries are as many as are kept at most, or the server's
+abbrev pub fault_of : Account → Server → Command → ℕ → Option Fault
+fault_of a s c t = if length a.entries == most_entries then Some Exhausted else server_fault s c t
 
--- a command is refused by this fault, of each machine of that plain form: by its first one, or for want of memory in place of any
+-- a command is refused by this fault, of each server of that plain form: by its first one, or for want of memory in place of any
 abbrev pub Refuses : Account → Command → ℕ → Fault → Type 0
-Refuses a c t f = (s : Machine) → plain s ≡ a.state → (f ≡ OutOfMemory) ⊎ (fault_of a s c t ≡ Some f)
+Refuses a c t f = (s : Server) → plain_server s ≡ a.state → (f ≡ OutOfMemory) ⊎ (fault_of a s c t ≡ Some f)

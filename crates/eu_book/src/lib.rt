@@ -6,6 +6,9 @@
 
 mod book;
 mod journal;
+mod peers;
+mod serving;
+mod tasks;
 
 pub use book::{Book, Receipt};
 pub use journal::{Journal, MOST_ENTRIES};

@@ -26,8 +26,8 @@ use Rattle.eu_model.specs.Override.{rule, is_status}
 use Rattle.eu_model.specs.Change.{Change, uncounted, stamped, row_after, under_row, told, brought, renew_reply}
 use Rattle.eu_model.specs.Maps.{with_value}
 use Rattle.eu_model.specs.Machine.{Machine}
-use Rattle.eu_model.specs.Run.{fault}
-use Rattle.eu_model.specs.Plain.{Plain}
+use Rattle.eu_model.specs.Faults.{fault}
+use Rattle.eu_model.specs.Plain.{Plain, kept_instance}
 use Rattle.eu_model.specs.Answers.{Answers}
 use Rattle.eu_model.specs.Owned.{owns_nothing}
 use Rattle.eu_model.specs.Kept.{raised, kept, kept_one, kept_register, kept_renew, kept_cancel, kept_set_status, kept_unset_status, after}
@@ -42,7 +42,7 @@ use Rattle.eu_model.proofs.RenewLemmas.{renews, renew_is_kept}
 use Rattle.eu_store.proofs.TableLemmas.{by_key, get_inserted}
 use Rattle.eu_core.proofs.StatusLemmas.{seen_held}
 use Rattle.eu_core.proofs.AdoptLemmas.{adopt_registers}
-use Rattle.eu_core.specs.Stepped.{AreAlike, AreOf, copies_of, instance_at, taken}
+use Rattle.eu_core.specs.Stepped.{AreAlike, AreOf, copies_of, taken}
 
 -- ---- copies that are like what is held
 
@@ -72,7 +72,7 @@ get_changed : (m : FinMap key_cmp Listed) (k : Key) (o : Option Listed) → get 
 get_changed m k None = get_removed m k
 get_changed m k (Some l) = get_inserted by_key m k l
 
-pub held_after : (p : Plain) (k : Key) (c : Change Listed) → instance_at (after p k c) k ≡ option_map (λ l. l.instance) c.lease
+pub held_after : (p : Plain) (k : Key) (c : Change Listed) → kept_instance (after p k c) k ≡ option_map (λ l. l.instance) c.lease
 held_after p k c = ap (option_map (λ l. l.instance)) (get_changed p.leases k c.lease)
 
 -- ---- instances of leases
@@ -178,13 +178,13 @@ module _ (t : ℕ) (p q : Plain) (r : Reply) (n : Instance) where
   joins row replicated = kept_register (get p.leases n.key) row p.expected n replicated t
 
   joined_held : (row : Option Status) (replicated : Bool) (c : Change Listed) → joins row replicated ≡ c → q ≡ after p n.key c
-      → AlikeBoth (Some (taken (instance_at p n.key) n)) (instance_at q n.key)
+      → AlikeBoth (Some (taken (kept_instance p n.key) n)) (kept_instance q n.key)
   joined_held row replicated c same is =
-      subst (AlikeBoth (Some (taken (instance_at p n.key) n))) (sym (ap (λ x. instance_at x n.key) is ∙ held_after p n.key c ∙ ap (λ (x : Change Listed). instance_of x.lease) (sym same)))
+      subst (AlikeBoth (Some (taken (kept_instance p n.key) n))) (sym (ap (λ x. kept_instance x n.key) is ∙ held_after p n.key c ∙ ap (λ (x : Change Listed). instance_of x.lease) (sym same)))
       (taken_alike (get p.leases n.key) row p.expected n replicated t)
 
   module _ (replicated : Bool) (a : Answers p (Register n replicated) t (Ok r) q) where
-    pub register_held : AlikeBoth (Some (taken (instance_at p n.key) n)) (instance_at q n.key)
+    pub register_held : AlikeBoth (Some (taken (kept_instance p n.key) n)) (kept_instance q n.key)
     register_held = joined_held (get p.rows n.key.id) replicated _ refl (next_is (Register n replicated) t _ _ _ _ (register_is_kept n replicated t) (λ s s' x h. h) p q r a)
 
     pub register_plain : owns_nothing r ≡ true
@@ -198,7 +198,7 @@ module _ (t : ℕ) (p q : Plain) (r : Reply) (n : Instance) where
     adopts_is : joins adopted_row true ≡ adopts n t p
     adopts_is = adopt_registers (get p.leases n.key) (get p.rows n.key.id) p.expected n t
 
-    pub adopt_held : AlikeBoth (Some (taken (instance_at p n.key) n)) (instance_at q n.key)
+    pub adopt_held : AlikeBoth (Some (taken (kept_instance p n.key) n)) (kept_instance q n.key)
     adopt_held = joined_held adopted_row true (adopts n t p) adopts_is (next_is (Adopt n) t _ _ _ _ (adopt_is_kept n t) (λ s s' x h. h) p q r a)
 
     pub adopt_plain : owns_nothing r ≡ true
@@ -207,14 +207,14 @@ module _ (t : ℕ) (p q : Plain) (r : Reply) (n : Instance) where
 
 module _ (k : Key) (t : ℕ) (p q : Plain) (r : Reply) where
   -- a command on this lease changes nothing but statuses, stamp, duration and interval, if its change does
-  by_change : (c : Change Listed) → q ≡ after p k c → AlikeBoth (instance_at p k) (instance_of c.lease) → AlikeBoth (instance_at p k) (instance_at q k)
-  by_change c is h = subst (AlikeBoth (instance_at p k)) (sym (ap (λ x. instance_at x k) is ∙ held_after p k c)) h
+  by_change : (c : Change Listed) → q ≡ after p k c → AlikeBoth (kept_instance p k) (instance_of c.lease) → AlikeBoth (kept_instance p k) (kept_instance q k)
+  by_change c is h = subst (AlikeBoth (kept_instance p k)) (sym (ap (λ x. kept_instance x k) is ∙ held_after p k c)) h
 
   module _ (status : Status) (dirty : Option Stamp) (replicated : Bool) (a : Answers p (SetStatus k status dirty replicated) t (Ok r) q) where
     set_reply : r ≡ (sets k status dirty t p).reply
     set_reply = reply_is (SetStatus k status dirty replicated) t _ _ _ _ (set_is_kept k status dirty t) (λ s s' x h. h) p q r a
 
-    pub set_held : AlikeBoth (instance_at p k) (instance_at q k)
+    pub set_held : AlikeBoth (kept_instance p k) (kept_instance q k)
     set_held = by_change (sets k status dirty t p) (next_is (SetStatus k status dirty replicated) t _ _ _ _ (set_is_kept k status dirty t) (λ s s' x h. h) p q r a)
         (set_alike (get p.leases k) (get p.rows k.id) p.expected dirty t (kept_one p k t) status (λ l e. seen_held p k t l e))
 
@@ -225,7 +225,7 @@ module _ (k : Key) (t : ℕ) (p q : Plain) (r : Reply) where
     unset_reply : r ≡ (unsets k suggested dirty t p).reply
     unset_reply = reply_is (UnsetStatus k suggested dirty replicated) t _ _ _ _ (unset_is_kept k suggested dirty t) (λ s s' x h. h) p q r a
 
-    pub unset_held : AlikeBoth (instance_at p k) (instance_at q k)
+    pub unset_held : AlikeBoth (kept_instance p k) (kept_instance q k)
     unset_held = by_change (unsets k suggested dirty t p) (next_is (UnsetStatus k suggested dirty replicated) t _ _ _ _ (unset_is_kept k suggested dirty t) (λ s s' x h. h) p q r a)
         (unset_alike (get p.leases k) (get p.rows k.id) p.expected dirty t (kept_one p k t) suggested (λ l e. seen_held p k t l e))
 
@@ -236,14 +236,14 @@ module _ (k : Key) (t : ℕ) (p q : Plain) (r : Reply) where
     pub renew_is : r ≡ (renews k dirty overridden replicated t p).reply
     renew_is = reply_is (Renew k dirty overridden replicated) t _ _ _ _ (renew_is_kept k dirty overridden replicated t) (λ s s' x h. h) p q r a
 
-    pub renew_held : AlikeBoth (instance_at p k) (instance_at q k)
+    pub renew_held : AlikeBoth (kept_instance p k) (kept_instance q k)
     renew_held = by_change (renews k dirty overridden replicated t p) (next_is (Renew k dirty overridden replicated) t _ _ _ _ (renew_is_kept k dirty overridden replicated t) (λ s s' x h. h) p q r a)
         (renew_alike (get p.leases k) (get p.rows k.id) p.expected dirty overridden replicated t)
 
   module _ (replicated : Bool) (a : Answers p (Cancel k replicated) t (Ok r) q) where
-    pub cancel_none : instance_at q k ≡ None
+    pub cancel_none : kept_instance q k ≡ None
     cancel_none =
-        ap (λ x. instance_at x k) (next_is (Cancel k replicated) t _ _ _ _ (cancel_is_kept k) (λ s s' x h. h) p q r a)
+        ap (λ x. kept_instance x k) (next_is (Cancel k replicated) t _ _ _ _ (cancel_is_kept k) (λ s s' x h. h) p q r a)
         ∙ held_after p k (cancels k p) ∙ no_lease (get p.leases k) p.expected
 
     pub cancel_plain : owns_nothing r ≡ true

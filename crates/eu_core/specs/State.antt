@@ -1,5 +1,5 @@
--- A registry as plain data: its plain form, with leases and rows in key order
-use Rattle.std.specs.Prelude.{map}
+-- A registry as plain data: its plain form, with leases and rows in key order, and no peers
+use Rattle.std.specs.Prelude.{[], map}
 use Rattle.std.specs.FinMap.{entries}
 use Rattle.eu_model.specs.declared.states.State.{State}
 use Rattle.eu_model.specs.Plain.{Plain}
@@ -14,4 +14,5 @@ state_of p = record {
   last = p.last;
   since = p.since;
   previous = p.previous;
+  queues = [];
 }

@@ -1,39 +1,18 @@
 -- What a step gives: so many equal replies, and so many copies of the instance that is held after it
-use Rattle.std.specs.Prelude.{◌≡◌, ℕ, nat_lt, if◌then◌else◌, List, [], length, replicate, Option, Some, None, Ok, All}
-use Rattle.std.specs.Option.{option_map}
-use Rattle.std.specs.FinMap.{get}
+use Rattle.std.specs.Prelude.{◌≡◌, ℕ, Bool, true, false, nat_lt, if◌then◌else◌, List, [], length, replicate, Option, Some, None, Ok, All}
 use Rattle.eu_base.specs.declared.names.Key.{Key}
 use Rattle.eu_base.specs.declared.instances.Instance.{Instance}
 use Rattle.eu_model.specs.declared.commands.Command.{Command}
-use Rattle.eu_model.specs.declared.commands.Command.TheVariants.{Register, Renew, Cancel, SetStatus, UnsetStatus, Adopt, Roll, Update, Evict}
+use Rattle.eu_model.specs.declared.commands.Command.TheVariants.{Register, Renew, Cancel, SetStatus, UnsetStatus, Adopt, Roll, Update, Evict, Drain, Landed, Lost}
 use Rattle.eu_model.specs.declared.commands.Reply.{Reply}
 use Rattle.eu_model.specs.declared.commands.Reply.TheVariants.{Evicted}
-use Rattle.eu_model.specs.Plain.{Plain}
+use Rattle.eu_model.specs.Plain.{Plain, held_under}
+use Rattle.eu_model.specs.Server.{key_of}
 use Rattle.eu_model.specs.Answers.{Answers}
 use Rattle.eu_choice.specs.Front.{Asks}
 use Rattle.eu_core.specs.Evicts.{Draws}
 
--- the key of the lease that a command names
-abbrev pub key_of : Command → Option Key
-key_of (Register n replicated) = Some n.key
-key_of (Renew k dirty overridden replicated) = Some k
-key_of (Cancel k replicated) = Some k
-key_of (SetStatus k status dirty replicated) = Some k
-key_of (UnsetStatus k suggested dirty replicated) = Some k
-key_of (Adopt n) = Some n.key
-key_of Roll = None
-key_of Update = None
-key_of Evict = None
-
--- the instance that is held under a key
-abbrev pub instance_at : Plain → Key → Option Instance
-instance_at p k = option_map (λ l. l.instance) (get p.leases k)
-
 -- the instance that is held under the key of a command; none, where it names no key
-abbrev pub held_under : Plain → Option Key → Option Instance
-held_under p None = None
-held_under p (Some k) = instance_at p k
-
 abbrev pub instance_held : Plain → Command → Option Instance
 instance_held p c = held_under p (key_of c)
 
@@ -60,6 +39,13 @@ pub record Steps {S : Type 0} (asks : Asks S) (old : Plain) (x : S) (c : Command
   pub chooses : Chooses asks old x c t acts.reply x'
 
 -- ---- on the way to a step
+
+-- it amends a lease
+abbrev pub amends : Command → Bool
+amends (Renew k dirty overridden replicated) = true
+amends (SetStatus k status dirty replicated) = true
+amends (UnsetStatus k suggested dirty replicated) = true
+amends _ = false
 
 -- instances that are alike but for statuses, stamp, duration and interval: a step on a lease changes no more of its instance
 pub record AreAlike (i j : Instance) : Type 0 where

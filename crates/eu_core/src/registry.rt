@@ -4,7 +4,7 @@ ghost use Rattle.std.specs.Option.{option_copied};
 ghost use Rattle.std.specs.FinMap as map;
 ghost use Rattle.eu_model.specs.Change.{renew_reply};
 ghost use Rattle.eu_model.specs.Machine.{opening};
-ghost use Rattle.eu_model.specs.Plain.{plain};
+ghost use Rattle.eu_model.specs.Plain.{plain, kept_instance};
 ghost use Rattle.eu_model.specs.Answers.{Answers, IsRefusal, Shows};
 ghost use Rattle.eu_model.specs.View.{counts, one, listing};
 ghost use Rattle.eu_model.specs.Kept.{after, kept_join_fault, kept_one, kept_renew};
@@ -14,7 +14,6 @@ ghost use Rattle.eu_core.specs.Evicts.{Draws};
 ghost use Rattle.eu_core.specs.Joins.{IsRead, joined_by};
 ghost use Rattle.eu_core.specs.Shown.{shown};
 ghost use Rattle.eu_core.specs.State.{state_of};
-ghost use Rattle.eu_core.specs.Stepped.{instance_at};
 
 use crate::joins::{HeldPart, held_part, join_held, join_new};
 use crate::overrides::Overrides;
@@ -24,7 +23,7 @@ use eu_base::{App, Config, Fault, Instance, Key, Moment, Stamp, Status};
 use eu_clock::Chooser;
 use eu_lease::override_rule;
 use eu_meter::{Rate, Threshold};
-use eu_model::{Command, Counts, Keys, Listed, Listing, Reply, State, Times};
+use eu_model::{Command, Counts, Keys, Listed, Listing, Queues, Reply, State, Times};
 use eu_store::{Held, Leases, MOST_LEASES};
 use std::alloc::{AllocError, Global};
 use std::marker::Model;
@@ -416,7 +415,7 @@ impl Registry {
 
     /// The instance that is held under that key. Takes no memory.
     pub(crate) fn held(&self, key: &Key) -> Option<&Instance>
-        ensures { option_copied result ≡ instance_at self.now key.now }
+        ensures { option_copied result ≡ kept_instance self.now key.now }
     {
         match self.leases.get(key) {
             Some(held) => Some(held.instance()),
@@ -425,7 +424,7 @@ impl Registry {
     }
 
     /// The registry as plain data: settings, number expected, leases in key order, override rows in the order of their ids, the
-    /// counts of renewals and the previous pass. `AllocError` where no memory is left.
+    /// counts of renewals and the previous pass, and no peers. `AllocError` where no memory is left.
     pub fn plain(&self, alloc: Global) -> Result<State, AllocError>
         ensures { IfOk result (λ s. s ≡ state_of self.now) }
     {
@@ -441,6 +440,7 @@ impl Registry {
             last,
             since: rate.roll(),
             previous: self.previous,
+            queues: Queues::new(Vec::new(alloc)),
         })
     }
 

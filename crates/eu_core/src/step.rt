@@ -1,8 +1,10 @@
 //! Steps: each command by its call, with replies and copies of what is held after it.
-ghost use Rattle.std.specs.Prelude.{◌≡◌, ◌≤◌, ℕ, Bool, [], true, Some, Err, replicate, vec_capacity, IfOk, IfErr, OnErr};
+ghost use Rattle.std.specs.Prelude.{◌≡◌, ◌≤◌, ℕ, Bool, [], true, false, Some, Err, replicate, vec_capacity, IfOk, IfErr, OnErr};
 ghost use Rattle.eu_model.specs.Answers.{Answers};
 ghost use Rattle.eu_model.specs.Owned.{owns_nothing};
-ghost use Rattle.eu_core.specs.Stepped.{AreOf, Acts, Steps, copies_of, instance_at, taken};
+ghost use Rattle.eu_model.specs.Server.{is_for_peers};
+ghost use Rattle.eu_model.specs.Plain.{kept_instance};
+ghost use Rattle.eu_core.specs.Stepped.{AreOf, Acts, Steps, amends, copies_of, taken};
 
 use crate::prepare::{Prepared, bring, copies, fill, repeated};
 use crate::registry::Registry;
@@ -25,7 +27,7 @@ impl Registry {
     /// held under the command's key after it: none where no lease is held then, or where the command names no key (`Roll`,
     /// `Update`, `Evict`).
     ///
-    /// The step is that of the command's call: `register`, `renew`, `cancel`, `set_status`, `unset_status`, `adopt`, `roll`,
+    /// No command for a peer (`Drain`, `Landed`, `Lost`) is handed in. The step is that of the command's call: `register`, `renew`, `cancel`, `set_status`, `unset_status`, `adopt`, `roll`,
     /// `update` or `evict`, whose replies and refusals it has. Refused with `Full` or `Exhausted` where that call is, and else
     /// with `OutOfMemory`, also where no memory is left for replies and copies; a refusal changes nothing, and asks the chooser
     /// for no word. Only an `Evict` asks it.
@@ -38,6 +40,7 @@ impl Registry {
         held: u32,
         chooser: &mut C,
     ) -> Result<Stepped, Fault>
+        requires { is_for_peers command.now ≡ false }
         ensures ok { IfOk result (λ s. Steps C.asks self.old chooser.old command.now moment replies held s.replies.items s.held.items self.new chooser.new) }
         ensures refused { IfErr result (λ f. Answers self.old command.now moment (Err f) self.old) }
         ensures err { OnErr result (self.new ≡ self.old) }
@@ -48,6 +51,30 @@ impl Registry {
                 instance,
                 replicated,
             } => self.step_register(alloc, instance, *replicated, moment, replies, held),
+            Command::Adopt { instance } => self.step_adopt(alloc, instance, moment, replies, held),
+            Command::Cancel { key, .. } => self.step_cancel(alloc, key, replies),
+            Command::Roll => self.step_roll(alloc, replies),
+            Command::Update => self.step_update(alloc, replies),
+            Command::Evict => self.step_evict(alloc, moment, replies, chooser),
+            command => self.step_on_lease(alloc, command, moment, replies, held),
+        }
+    }
+
+    /// The step of a command that amends a lease: a renewal, or a status that is set or unset.
+    fn step_on_lease(
+        &mut self,
+        alloc: Global,
+        command: &Command,
+        moment: Moment,
+        replies: u32,
+        held: u32,
+    ) -> Result<Stepped, Fault>
+        requires { amends command.now ≡ true }
+        ensures ok { IfOk result (λ s. Acts self.old command.now moment replies held s.replies.items s.held.items self.new) }
+        ensures refused { IfErr result (λ f. Answers self.old command.now moment (Err f) self.old) }
+        ensures err { OnErr result (self.new ≡ self.old) }
+    {
+        match command {
             Command::Renew {
                 key,
                 dirty,
@@ -65,7 +92,6 @@ impl Registry {
                     held,
                 )
             }
-            Command::Cancel { key, .. } => self.step_cancel(alloc, key, replies),
             Command::SetStatus {
                 key,
                 status,
@@ -78,10 +104,7 @@ impl Registry {
                 dirty,
                 ..
             } => self.step_unset_status(alloc, key, *status, *dirty, moment, replies, held),
-            Command::Adopt { instance } => self.step_adopt(alloc, instance, moment, replies, held),
-            Command::Roll => self.step_roll(alloc, replies),
-            Command::Update => self.step_update(alloc, replies),
-            Command::Evict => self.step_evict(alloc, moment, replies, chooser),
+            _ => unreachable!(),
         }
     }
 
@@ -253,7 +276,7 @@ impl Registry {
     ) -> Result<Prepared, AllocError>
         ensures empty { IfOk result (λ p. p.room.items ≡ []) }
         ensures room { IfOk result (λ p. replies ≤ vec_capacity p.room) }
-        ensures copies { IfOk result (λ p. p.copies.items ≡ replicate held (taken (instance_at self.now instance.now.key) instance.now)) }
+        ensures copies { IfOk result (λ p. p.copies.items ≡ replicate held (taken (kept_instance self.now instance.now.key) instance.now)) }
     {
         let room = Vec::with_capacity(alloc, replies as usize)?;
         let copies = match self.held(&instance.key) {
@@ -273,7 +296,7 @@ impl Registry {
     ) -> Result<Prepared, AllocError>
         ensures empty { IfOk result (λ p. p.room.items ≡ []) }
         ensures room { IfOk result (λ p. replies ≤ vec_capacity p.room) }
-        ensures copies { IfOk result (λ p. p.copies.items ≡ copies_of held (instance_at self.now key.now)) }
+        ensures copies { IfOk result (λ p. p.copies.items ≡ copies_of held (kept_instance self.now key.now)) }
     {
         let room = Vec::with_capacity(alloc, replies as usize)?;
         let copies = match self.held(key) {
@@ -296,9 +319,9 @@ impl Registry {
         requires empty { prepared.room.items ≡ [] }
         requires room { replies ≤ vec_capacity prepared.room }
         requires plain { owns_nothing reply.now ≡ true }
-        requires own { AreOf held prepared.copies.items (instance_at self.now key.now) }
+        requires own { AreOf held prepared.copies.items (kept_instance self.now key.now) }
         ensures replies { result.replies.items ≡ replicate replies reply.now }
-        ensures held { result.held.items ≡ copies_of held (instance_at self.now key.now) }
+        ensures held { result.held.items ≡ copies_of held (kept_instance self.now key.now) }
     {
         let Prepared { room, copies } = prepared;
         let replies = fill(alloc, room, reply, replies);
@@ -310,8 +333,8 @@ impl Registry {
 
     /// The copies of the instance under that key, as it is held now. Takes no memory.
     fn as_held(&self, key: &Key, mut copies: Vec<Instance>, number: u32) -> Vec<Instance>
-        requires { AreOf number copies.items (instance_at self.now key.now) }
-        ensures { result.items ≡ copies_of number (instance_at self.now key.now) }
+        requires { AreOf number copies.items (kept_instance self.now key.now) }
+        ensures { result.items ≡ copies_of number (kept_instance self.now key.now) }
     {
         match self.held(key) {
             Some(instance) => bring(copies.as_mut_slice(), instance),

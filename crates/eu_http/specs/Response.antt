@@ -1,17 +1,20 @@
 -- What a request is answered
-use Rattle.std.specs.Prelude.{ℕ, Bool, ◌||◌, List, [], ◌∷◌, ◌++◌, Option, Some, None, Result, Ok, Err, codes, if◌then◌else◌, ◌==◌, string_bytes}
+use Rattle.std.specs.Prelude.{ℕ, Bool, ◌&&◌, ◌||◌, List, [], ◌∷◌, ◌++◌, map, Option, Some, None, Result, Ok, Err, codes, if◌then◌else◌, ◌==◌, string_bytes}
 use Rattle.std.specs.Fmt.{decimal}
 use Rattle.std.specs.Str.{bytes_eq}
 use Rattle.serde_json.specs.Written.{compact_text}
 use Rattle.eu_base.specs.declared.faults.Fault.{Fault}
 use Rattle.eu_base.specs.declared.faults.Fault.TheVariants as faults
 use Rattle.eu_base.specs.Fault.{fault_number}
+use Rattle.eu_base.specs.declared.instances.Instance.{Instance}
 use Rattle.eu_model.specs.declared.commands.Reply.{Reply}
 use Rattle.eu_model.specs.declared.commands.Reply.TheVariants as reply
 use Rattle.eu_model.specs.declared.views.Counts.{Counts}
 use Rattle.eu_model.specs.declared.views.Listed.{Listed}
 use Rattle.eu_model.specs.declared.views.View.TheVariants as seen
+use Rattle.eu_json.specs.BatchTree.{answers_tree}
 use Rattle.eu_json.specs.Tree.{held_tree, application_tree, applications_tree}
+use Rattle.eu_json.specs.declared.batch_write.ItemAnswer.{ItemAnswer}
 use Rattle.eu_page.specs.Page.{shown_page}
 use Rattle.eu_routes.specs.Path.{path_of, parent}
 use Rattle.eu_framing.specs.declared.request.Request.{Request}
@@ -80,6 +83,28 @@ did reply.Stale = not_found
 did (reply.Conflict instance) = record { status = 409; content = Json (compact_text (held_tree instance None)) }
 did other = not_found
 
+-- ---- batches
+
+-- the status of an item of a batch is that of the reply's own response, but 200 for a registration
+abbrev pub code_of : Reply → ℕ
+code_of (reply.Registered fresh) = 200
+code_of other = (did other).status
+
+-- a conflict tells the instance that is held
+abbrev pub entity_of : Reply → Option Instance
+entity_of (reply.Conflict instance) = Some instance
+entity_of other = None
+
+-- what is told of one command of a batch; the registry's own refusals are 503
+abbrev pub item_of : Result Answer Fault → ItemAnswer
+item_of (Ok (Did r)) = record { code = code_of r; instance = entity_of r }
+item_of (Ok (Saw v)) = record { code = 404; instance = None }
+item_of (Err fault) = record { code = 503; instance = None }
+
+-- a batch is answered item by item, whatever came of each
+abbrev pub batch : List ItemAnswer → Response
+batch items = record { status = 200; content = Json (compact_text (answers_tree items)) }
+
 -- ---- views
 
 abbrev pub one : Option Listed → Response
@@ -106,6 +131,9 @@ is_apps path = bytes_eq path (codes "/eureka/apps") || bytes_eq path (codes "/eu
 abbrev pub is_status : List ℕ → Bool
 is_status path = bytes_eq path (codes "/eureka/status") || bytes_eq path (codes "/eureka/v2/status")
 
+abbrev pub is_batch : List ℕ → Bool
+is_batch path = bytes_eq path (codes "/eureka/peerreplication/batch") || bytes_eq path (codes "/eureka/v2/peerreplication/batch")
+
 -- which view a path names, if it names one
 abbrev pub shown_at : List ℕ → Wanted
 shown_at path =
@@ -114,14 +142,20 @@ shown_at path =
     else if is_apps (parent path) then wanted.OfApp
     else wanted.One
 
--- GET looks, and every other method does something
+-- GET looks, POST to where peers send their batches does what a batch says, and every other request does one thing
 abbrev pub wanted_by : List ℕ → List ℕ → Wanted
-wanted_by method path = if bytes_eq method (codes "GET") then shown_at (path_of path) else wanted.Change
+wanted_by method path =
+    if bytes_eq method (codes "GET") then shown_at (path_of path)
+    else if bytes_eq method (codes "POST") && is_batch (path_of path) then wanted.Batch
+    else wanted.Change
 
 -- an answer that isn't of the kind that was wanted is none
 abbrev pub told_change : List (Result Answer Fault) → Response
 told_change (Ok (Did r) ∷ []) = did r
 told_change other = not_found
+
+abbrev pub told_batch : List (Result Answer Fault) → Response
+told_batch answers = batch (map item_of answers)
 
 abbrev pub told_one : List (Result Answer Fault) → Response
 told_one (Ok (Saw (seen.One l)) ∷ []) = one l
@@ -145,6 +179,7 @@ told_page other = not_found
 
 abbrev pub answered : Wanted → List (Result Answer Fault) → Response
 answered wanted.Change answers = told_change answers
+answered wanted.Batch answers = told_batch answers
 answered wanted.One answers = told_one answers
 answered wanted.OfApp answers = told_app answers
 answered wanted.All answers = told_all answers
@@ -156,16 +191,24 @@ first_fault [] = None
 first_fault (Ok a ∷ rest) = first_fault rest
 first_fault (Err fault ∷ rest) = Some fault
 
+-- the fault that is told in place of all answers; a batch tells those of its items one by one
+abbrev pub fault_of : Wanted → List (Result Answer Fault) → Option Fault
+fault_of wanted.Batch answers = None
+fault_of other answers = first_fault answers
+
 -- a fault of the registry comes before all answers
 abbrev pub told : Option Fault → Wanted → List (Result Answer Fault) → Response
 told None w answers = answered w answers
 told (Some fault) w answers = telling 503 fault
 
+abbrev pub response_with : Wanted → List (Result Answer Fault) → Response
+response_with w answers = told (fault_of w answers) w answers
+
 -- what a request is answered, by what came of it
 abbrev pub response_to : Request → Outcome → Response
 response_to request (Refused fault) = refused fault
 response_to request Forbidden = bare 403
-response_to request (Answers answers) = told (first_fault answers.items) (wanted_by (string_bytes request.method) (target.path_of (string_bytes request.target))) answers.items
+response_to request (Answers answers) = response_with (wanted_by (string_bytes request.method) (target.path_of (string_bytes request.target))) answers.items
 
 -- the bytes of the response
 abbrev pub response : Request → Outcome → Bool → List ℕ

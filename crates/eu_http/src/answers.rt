@@ -3,7 +3,9 @@ ghost use Rattle.std.specs.Prelude.{◌≡◌, IfOk};
 ghost use Rattle.eu_http.specs.Response as spec;
 
 use crate::exchange::{Answer, Outcome};
-use crate::response::{Response, all, bare, did, of_app, one, page, refused, telling};
+use crate::response::{
+    Response, all, bare, batch, did, item_of, of_app, one, page, refused, telling,
+};
 use crate::text::print;
 use crate::wanted::{Wanted, wanted_by};
 use eu_base::Fault;
@@ -32,6 +34,17 @@ fn told_change(alloc: Global, answers: &[Result<Answer, Fault>]) -> Result<Respo
         [Ok(Answer::Did(reply))] => did(alloc, reply),
         _ => Ok(bare(StatusCode::NOT_FOUND)),
     }
+}
+
+/// The response for the answers to the commands of a batch.
+fn told_batch(alloc: Global, answers: &[Result<Answer, Fault>]) -> Result<Response, AllocError>
+    ensures { IfOk result (λ r. spec.response_of r ≡ spec.told_batch answers.now) }
+{
+    let mut items = Vec::with_capacity(alloc, answers.len())?;
+    for answer in answers {
+        items.push(item_of(alloc, answer)?)?;
+    }
+    batch(alloc, &items)
 }
 
 /// The response for the view of one lease.
@@ -88,7 +101,7 @@ fn told_page(alloc: Global, answers: &[Result<Answer, Fault>]) -> Result<Respons
     }
 }
 
-/// The response for answers among which no fault is.
+/// The response for answers, where no fault is told in their place.
 fn answered(
     alloc: Global,
     wanted: Wanted,
@@ -98,10 +111,35 @@ fn answered(
 {
     match wanted {
         Wanted::Change => told_change(alloc, answers),
+        Wanted::Batch => told_batch(alloc, answers),
         Wanted::One => told_one(alloc, answers),
         Wanted::OfApp => told_app(alloc, answers),
         Wanted::All => told_all(alloc, answers),
         Wanted::Page => told_page(alloc, answers),
+    }
+}
+
+/// The fault that is told in place of all answers.
+fn fault_of(wanted: Wanted, answers: &[Result<Answer, Fault>]) -> Option<Fault>
+    ensures { result ≡ spec.fault_of wanted answers.now }
+{
+    match wanted {
+        Wanted::Batch => None,
+        _ => first_fault(answers),
+    }
+}
+
+/// The response for these answers to what a request asked.
+fn response_with(
+    alloc: Global,
+    wanted: Wanted,
+    answers: &[Result<Answer, Fault>],
+) -> Result<Response, AllocError>
+    ensures { IfOk result (λ r. spec.response_of r ≡ spec.response_with wanted answers.now) }
+{
+    match fault_of(wanted, answers) {
+        Some(fault) => telling(alloc, StatusCode::SERVICE_UNAVAILABLE, fault),
+        None => answered(alloc, wanted, answers),
     }
 }
 
@@ -112,16 +150,17 @@ fn response_to(alloc: Global, request: &Request, outcome: &Outcome) -> Result<Re
     match outcome {
         Outcome::Refused(fault) => refused(alloc, *fault),
         Outcome::Forbidden => Ok(bare(StatusCode::FORBIDDEN)),
-        Outcome::Answers(answers) => match first_fault(answers) {
-            Some(fault) => telling(alloc, StatusCode::SERVICE_UNAVAILABLE, fault),
-            None => answered(alloc, wanted_by(request), answers),
-        },
+        Outcome::Answers(answers) => response_with(alloc, wanted_by(request), answers),
     }
 }
 
-/// The bytes of the response to a request, for what came of it (`ApplicationResource`, `InstanceResource` and
-/// `ApplicationsResource` in Eureka; RFC 9112, section 4). `close` says that the connection ends: the response has
-/// `Connection: close` then.
+/// The bytes of the response to a request, for what came of it (`ApplicationResource`, `InstanceResource`,
+/// `ApplicationsResource` and `PeerReplicationResource` in Eureka; RFC 9112, section 4). `close` says that the connection ends:
+/// the response has `Connection: close` then.
+///
+/// A batch that was asked is 200, whatever came of its commands: an item for each, in their order, tells its status, and the
+/// instance that is held where that conflicts. The registry's refusal of a command is 503 there, and an answer that is none to a
+/// command 404. Any other request that the registry refuses is 503 itself.
 ///
 /// Statuses and contents are those of `docs/FORMATS.md`. `AllocError` where no memory is left.
 pub fn answer(

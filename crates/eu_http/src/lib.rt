@@ -16,4 +16,6 @@ pub use exchange::{Answer, Ask, Asked, Outcome};
 pub use requests::asks;
 
 #[cfg(test)]
+mod batch_tests;
+#[cfg(test)]
 mod tests;

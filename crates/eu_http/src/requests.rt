@@ -1,14 +1,15 @@
 //! What a request asks.
-ghost use Rattle.std.specs.Prelude.{◌≡◌, ◌∷◌, [], Some, IfOk};
+ghost use Rattle.std.specs.Prelude.{◌≡◌, ◌∷◌, [], Some, IfOk, map};
 ghost use Rattle.eu_http.specs.Asks as spec;
 ghost use Rattle.eu_routes.specs.Chain.{Gives};
 ghost use Rattle.eu_json.specs.Fields.{fields_of};
+ghost use Rattle.eu_json.specs.Said as command;
 ghost use Rattle.eu_routes.specs.Route.{asked_of};
 
 use crate::exchange::{Ask, Asked};
 use eu_base::{App, Fault, Instance, Moment};
 use eu_framing::Request;
-use eu_json::read_instance;
+use eu_json::{read_batch, read_instance};
 use eu_model::{Command, Query};
 use eu_routes::{Route, Routes};
 use std::alloc::{AllocError, Global};
@@ -21,6 +22,50 @@ fn instance_in(alloc: Global, app: &App, moment: Moment, body: &[u8]) -> Result<
         Ok(text) => read_instance(alloc, text, app, moment),
         Err(_) => Err(Fault::NotJson),
     }
+}
+
+/// The registration of the instance that a body says.
+fn registration(
+    alloc: Global,
+    app: &App,
+    request: &Request,
+    moment: Moment,
+) -> Result<Command, Fault>
+    ensures { Gives command.said_by result (spec.registration app.now request.now.replicated request.now.body.items moment) }
+{
+    let instance = instance_in(alloc, app, moment, &request.body)?;
+    Ok(Command::Register {
+        instance,
+        replicated: request.replicated,
+    })
+}
+
+/// The commands that a body says.
+fn batch_in(alloc: Global, moment: Moment, body: &[u8]) -> Result<Vec<Command>, Fault>
+    ensures { Gives (λ commands. map command.said_by commands.items) result (spec.batch_in moment body.now) }
+{
+    match str::from_utf8(body) {
+        Ok(text) => read_batch(alloc, text, moment),
+        Err(_) => Err(Fault::BadBatch),
+    }
+}
+
+/// Each of these commands, in their order.
+fn each(alloc: Global, commands: Vec<Command>) -> Result<Vec<Ask>, AllocError>
+    ensures { IfOk result (λ asks. asks.items ≡ map (λ c. Ask.Do c) commands.items) }
+{
+    commands
+        .into_iter()
+        .map(|command| Ask::Do(command))
+        .collect(alloc)
+}
+
+/// What a batch asks.
+fn batch(alloc: Global, moment: Moment, body: &[u8]) -> Result<Asked, Fault>
+    ensures { spec.Says result (spec.batch_asks moment body.now) }
+{
+    let commands = batch_in(alloc, moment, body)?;
+    Ok(Asked::Asks(each(alloc, commands)?))
 }
 
 /// That one ask.
@@ -48,10 +93,7 @@ fn asks_for(alloc: Global, route: Route, request: &Request, moment: Moment) -> R
 {
     let replicated = request.replicated;
     let ask = match route {
-        Route::Register(app) => Ask::Do(Command::Register {
-            instance: instance_in(alloc, &app, moment, &request.body)?,
-            replicated,
-        }),
+        Route::Register(app) => Ask::Do(registration(alloc, &app, request, moment)?),
         Route::Renew {
             key,
             dirty,
@@ -79,22 +121,26 @@ fn asks_for(alloc: Global, route: Route, request: &Request, moment: Moment) -> R
         Route::OfApp(app) => Ask::See(Query::OfApp(app)),
         Route::One(key) => Ask::See(Query::One(key)),
         Route::Delta => return Ok(Asked::Forbidden),
+        Route::Batch => return batch(alloc, moment, &request.body),
         Route::StatusPage => return Ok(for_page(alloc)?),
     };
     Ok(just(alloc, ask)?)
 }
 
-/// What a request asks of the registry at a moment (`ApplicationResource`, `InstanceResource` and `ApplicationsResource` in
-/// Eureka).
+/// What a request asks of the registry at a moment (`ApplicationResource`, `InstanceResource`, `ApplicationsResource` and
+/// `PeerReplicationResource` in Eureka).
 ///
 /// A command is replicated where the request is. A registration's instance is the one that the body says, for the path's
-/// application, at that moment. Of other requests the body isn't looked at. The first of these faults that holds is told:
+/// application, at that moment. A batch asks the commands that the body says at that moment, in their order, which are all
+/// replicated, whatever the request is; an empty one asks nothing. Of other requests the body isn't looked at. The first of
+/// these faults that holds is told:
 ///
 /// - `NoRoute`: no route has that path and method;
 /// - `BadPath`: a segment of the path is no name;
 /// - `BadValue`: a value of the query is no stamp, or no status, or one that is needed is missing;
 /// - `NotJson`: the body of a registration isn't UTF-8;
-/// - the faults of `eu_json::read_instance`.
+/// - the faults of `eu_json::read_instance`;
+/// - `BadBatch`: the body of a batch isn't UTF-8, or isn't one (`eu_json::read_batch`).
 ///
 /// `OutOfMemory` may come in place of any.
 pub fn asks(

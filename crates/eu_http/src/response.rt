@@ -5,8 +5,9 @@ ghost use Rattle.serde_json.specs.Written.{has_float, compact_text};
 ghost use Rattle.eu_http.specs.Response as spec;
 ghost use Rattle.eu_http.specs.Text as text;
 
+use crate::exchange::Answer;
 use eu_base::Fault;
-use eu_json::{application_value, applications_value, held_value};
+use eu_json::{ItemAnswer, application_value, applications_value, batch_answer_value, held_value};
 use eu_model::{Counts, Listed, Reply};
 use eu_page::{page_of, status_page};
 use http::StatusCode;
@@ -118,6 +119,49 @@ pub fn did(alloc: Global, reply: &Reply) -> Result<Response, AllocError>
         }
         _ => Ok(bare(StatusCode::NOT_FOUND)),
     }
+}
+
+/// What a batch tells without an instance.
+fn coded(status: StatusCode) -> ItemAnswer
+    ensures { result ≡ record { code = status; instance = None } }
+{
+    ItemAnswer {
+        code: status.as_u16(),
+        instance: None,
+    }
+}
+
+/// What a batch tells of the reply to one of its commands.
+fn did_item(alloc: Global, reply: &Reply) -> Result<ItemAnswer, AllocError>
+    ensures { IfOk result (λ item. item ≡ record { code = spec.code_of reply.now; instance = spec.entity_of reply.now }) }
+{
+    match reply {
+        Reply::Registered { fresh: _ } | Reply::Done => Ok(coded(StatusCode::OK)),
+        Reply::Conflict(instance) => Ok(ItemAnswer {
+            code: StatusCode::CONFLICT.as_u16(),
+            instance: Some(instance.copy(alloc)?),
+        }),
+        _ => Ok(coded(StatusCode::NOT_FOUND)),
+    }
+}
+
+/// What a batch tells of one of its commands.
+pub fn item_of(alloc: Global, answer: &Result<Answer, Fault>) -> Result<ItemAnswer, AllocError>
+    ensures { IfOk result (λ item. item ≡ spec.item_of answer.now) }
+{
+    match answer {
+        Ok(Answer::Did(reply)) => did_item(alloc, reply),
+        Ok(Answer::Saw(_)) => Ok(coded(StatusCode::NOT_FOUND)),
+        Err(_) => Ok(coded(StatusCode::SERVICE_UNAVAILABLE)),
+    }
+}
+
+/// The response to a batch, by what is told of each of its commands.
+pub fn batch(alloc: Global, items: &[ItemAnswer]) -> Result<Response, AllocError>
+    ensures { IfOk result (λ r. spec.response_of r ≡ spec.batch items.now) }
+{
+    let value = batch_answer_value(alloc, items)?;
+    with_json(alloc, StatusCode::OK, &value)
 }
 
 /// The response of one lease, if there is one.

@@ -17,7 +17,7 @@ const LISTED: &str =
     r#"{"instance":{"app":"A","dataCenterInfo":{"name":"MyOwn"},"hostName":"h","instanceId":"i1","ipAddr":"10.0.0.1","lastDirtyTimestamp":"5","leaseInfo":{"durationInSecs":90,"evictionTimestamp":0,"lastRenewalTimestamp":1000,"registrationTimestamp":1000,"renewalIntervalInSecs":30,"serviceUpTimestamp":1000},"overriddenStatus":"UNKNOWN","status":"UP"}}"#;
 
 /// The same, as a conflict tells it.
-const HELD: &str =
+pub const HELD: &str =
     r#"{"instance":{"app":"A","dataCenterInfo":{"name":"MyOwn"},"hostName":"h","instanceId":"i1","ipAddr":"10.0.0.1","lastDirtyTimestamp":"5","leaseInfo":{"durationInSecs":90,"renewalIntervalInSecs":30},"overriddenStatus":"UNKNOWN","status":"UP"}}"#;
 
 fn at(ms: u64) -> Result<Moment, Fault> {
@@ -28,7 +28,7 @@ fn app(alloc: Global) -> Result<App, Fault> {
     App::read(alloc, "A")
 }
 
-fn instance(alloc: Global) -> Result<Instance, Fault> {
+pub fn instance(alloc: Global) -> Result<Instance, Fault> {
     read_instance(alloc, REGISTRATION, &app(alloc)?, at(1000)?)
 }
 
@@ -53,7 +53,7 @@ fn listing(alloc: Global, held: bool) -> Result<Listing, Fault> {
 }
 
 /// The request of a head and a body.
-fn request(alloc: Global, line: &str, field: &str, body: &str) -> Result<Request, Fault> {
+pub fn request(alloc: Global, line: &str, field: &str, body: &str) -> Result<Request, Fault> {
     let len = body.len();
     let text = format!(in alloc;
         "{line} HTTP/1.1\r\nHost: x\r\n{field}Content-Length: {len}\r\n\r\n{body}"
@@ -166,7 +166,7 @@ fn tell(out: &mut String, asked: &Asked) -> Result<(), AllocError> {
 }
 
 /// What a request asks at 1000, as words.
-fn told(alloc: Global, request: &Request) -> Result<String, Fault> {
+pub fn told(alloc: Global, request: &Request) -> Result<String, Fault> {
     let routes = Routes::new(alloc)?;
     let now = at(1000)?;
     let mut out = String::new(alloc);
@@ -182,7 +182,7 @@ fn line_told(alloc: Global, line: &str) -> Result<String, Fault> {
 }
 
 /// The response to the request of a line.
-fn said(alloc: Global, line: &str, outcome: &Outcome, close: bool) -> Result<String, Fault> {
+pub fn said(alloc: Global, line: &str, outcome: &Outcome, close: bool) -> Result<String, Fault> {
     let request = request(alloc, line, "", "")?;
     let bytes = answer(alloc, &request, outcome, close)?;
     Ok(String::from_utf8_lossy(alloc, &bytes)?)

@@ -11,6 +11,8 @@ use eu_routes::{cut, path_of};
 pub enum Wanted {
     /// A command's reply.
     Change,
+    /// The replies of a batch, one for each of its commands.
+    Batch,
     /// One lease.
     One,
     /// What an application holds.
@@ -31,6 +33,12 @@ fn is_status(path: &str) -> bool
     ensures { result ≡ spec.is_status path.now }
 {
     path == "/eureka/status" || path == "/eureka/v2/status"
+}
+
+fn is_batch(path: &str) -> bool
+    ensures { result ≡ spec.is_batch path.now }
+{
+    path == "/eureka/peerreplication/batch" || path == "/eureka/v2/peerreplication/batch"
 }
 
 /// The view that a path names.
@@ -55,9 +63,10 @@ fn shown_at(path: &str) -> Wanted
 pub fn wanted_by(request: &Request) -> Wanted
     ensures { result ≡ spec.wanted_by (string_bytes request.now.method) (target.path_of (string_bytes request.now.target)) }
 {
-    if request.method.as_str() == "GET" {
-        shown_at(path_of(request.path()))
-    } else {
-        Wanted::Change
+    let path = path_of(request.path());
+    match request.method.as_str() {
+        "GET" => shown_at(path),
+        "POST" if is_batch(path) => Wanted::Batch,
+        _ => Wanted::Change,
     }
 }

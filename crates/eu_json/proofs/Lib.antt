@@ -1,5 +1,11 @@
+pub mod BackLemmas
+pub mod BatchLemmas
 pub mod CaseLemmas
 pub mod DigitLemmas
+pub mod ItemLemmas
+pub mod KeptLemmas
 pub mod MemberLemmas
+pub mod OrderLemmas
 pub mod RunLemmas
+pub mod SaidLemmas
 pub mod TreeLemmas

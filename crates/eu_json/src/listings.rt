@@ -12,7 +12,7 @@ use serde_json::{Map, Value};
 use std::alloc::{AllocError, Global};
 
 /// Puts a value behind the others. `OutOfMemory`.
-fn push(items: &mut Vec<Value>, value: Value) -> Result<(), AllocError>
+pub fn push(items: &mut Vec<Value>, value: Value) -> Result<(), AllocError>
     ensures trees { OnOk result (map view items.new.items ≡ map view items.old.items ++ view value ∷ []) }
     ensures whole { OnOk result (items_have_float (items_view items.old.items) ≡ false → has_float (view value) ≡ false → items_have_float (items_view items.new.items) ≡ false) }
 {

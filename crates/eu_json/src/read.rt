@@ -16,7 +16,7 @@ use serde_json::Value;
 use std::alloc::Global;
 
 /// The JSON of a text. `NotJson` where it is none, `OutOfMemory`.
-fn parse(alloc: Global, text: &str) -> Result<Value, Fault>
+pub fn parse(alloc: Global, text: &str) -> Result<Value, Fault>
     ensures { MatchResult result (λ v. read text.now ≡ Some (view v)) (λ f. (f ≡ Fault.OutOfMemory) ⊎ ((f ≡ Fault.NotJson) × (read text.now ≡ None))) }
 {
     match Value::from_str(alloc, text) {
@@ -59,7 +59,12 @@ fn rest_of(alloc: Global, instance: Value) -> Rest
 
 /// The instance of an object whose numbers are all whole.
 #[tactic(auto, unfolding(crate::specs::Reading::of_object))]
-fn of_object(alloc: Global, instance: Value, app: &App, moment: Moment) -> Result<Instance, Fault>
+pub fn of_object(
+    alloc: Global,
+    instance: Value,
+    app: &App,
+    moment: Moment,
+) -> Result<Instance, Fault>
     requires { IsRest (view instance) }
     ensures { Reads result (of_object app.now moment (view instance)) }
 {

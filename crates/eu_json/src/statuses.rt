@@ -1,7 +1,9 @@
 //! Statuses that members write.
 ghost use Rattle.std.specs.Prelude.{◌≡◌};
 ghost use Rattle.std.specs.Option.{option_map};
+ghost use Rattle.std.specs.Str.{str_to_ascii_uppercase};
 ghost use Rattle.serde_json.specs.View.{view};
+ghost use Rattle.eu_base.specs.Status.{status_of};
 ghost use Rattle.eu_json.specs.Reading.{alike, overridden_at, status_in, status_named};
 
 use eu_base::Status;
@@ -14,23 +16,33 @@ pub fn alike(left: &str, right: &str) -> bool
     left.eq_ignore_ascii_case(right)
 }
 
+/// The status of that name, whatever the case of its ASCII letters. None for any other text.
+pub fn status_known(text: &str) -> Option<Status>
+    ensures { result ≡ status_of (str_to_ascii_uppercase text.now) }
+{
+    if alike(text, "UP") {
+        return Some(Status::Up);
+    }
+    if alike(text, "DOWN") {
+        return Some(Status::Down);
+    }
+    if alike(text, "STARTING") {
+        return Some(Status::Starting);
+    }
+    if alike(text, "OUT_OF_SERVICE") {
+        return Some(Status::OutOfService);
+    }
+    if alike(text, "UNKNOWN") {
+        return Some(Status::Unknown);
+    }
+    None
+}
+
 /// The status of that name, whatever the case of its ASCII letters. `Unknown` for any other text.
 fn status_named(text: &str) -> Status
     ensures { result ≡ status_named text.now }
 {
-    if alike(text, "UP") {
-        return Status::Up;
-    }
-    if alike(text, "DOWN") {
-        return Status::Down;
-    }
-    if alike(text, "STARTING") {
-        return Status::Starting;
-    }
-    if alike(text, "OUT_OF_SERVICE") {
-        return Status::OutOfService;
-    }
-    Status::Unknown
+    status_known(text).unwrap_or(Status::Unknown)
 }
 
 /// The status that a member names. `default` where it is absent or null, and `Unknown` where it names none.

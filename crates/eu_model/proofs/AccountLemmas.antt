@@ -7,16 +7,16 @@ use Rattle.eu_base.specs.declared.names.Key.{Key}
 use Rattle.eu_base.specs.Key.{key_cmp, key_eq}
 use Rattle.eu_base.proofs.KeyLemmas.{keys_total, keys_exact}
 use Rattle.eu_model.specs.declared.commands.Command.{Command}
-use Rattle.eu_model.specs.declared.commands.Command.TheVariants.{Register, Renew, Cancel, SetStatus, UnsetStatus, Adopt, Roll, Update, Evict}
+use Rattle.eu_model.specs.declared.commands.Command.TheVariants.{Register, Renew, Cancel, SetStatus, UnsetStatus, Adopt, Roll, Update, Evict, Drain, Landed, Lost}
 use Rattle.eu_model.specs.declared.commands.Entry.{Entry}
 use Rattle.eu_model.specs.declared.commands.Reply.{Reply}
-use Rattle.eu_model.specs.declared.commands.Reply.TheVariants.{Registered, Done, NotFound, Stale, Conflict, Last, Expected, Evicted}
+use Rattle.eu_model.specs.declared.commands.Reply.TheVariants.{Registered, Done, NotFound, Stale, Conflict, Last, Expected, Evicted, Batch, Settled}
 use Rattle.eu_model.specs.declared.tallies.Tally.{Tally}
-use Rattle.eu_model.specs.Answers.{Answers, IsAnswer}
 use Rattle.eu_model.specs.Delta.{counted_by, added_by, removed_by, delta, nothing, plus, tally_of}
 use Rattle.eu_model.specs.Machine.{Machine}
-use Rattle.eu_model.specs.Plain.{Plain, plain, listed}
-use Rattle.eu_model.specs.Run.{Run, fault}
+use Rattle.eu_model.specs.Plain.{listed}
+use Rattle.eu_model.specs.Server.{Server, PlainServer, ServerStep, plain_server}
+use Rattle.eu_model.specs.ServerAnswers.{ServerAnswers, IsServerAnswer}
 use Rattle.eu_model.specs.Runs.{Runs, IsNumbered}
 use Rattle.eu_model.specs.Step.{Step}
 use Rattle.eu_model.proofs.HeldLemmas.{leases_are_accounted}
@@ -43,9 +43,9 @@ pub numbered_push : (first : ℕ) (es : List Entry) (e : Entry) → IsNumbered f
 numbered_push first [] e numbered is = (is ∙ omega (arith), tt)
 numbered_push first (d ∷ es) e numbered is = (numbered.0, numbered_push (first + 1) es e numbered.1 (is ∙ omega (arith)))
 
-pub runs_push : (p : Plain) (es : List Entry) (q : Plain) (e : Entry) (new : Plain)
-    → Runs p es q → Answers q e.command e.moment (Ok e.reply) new → Runs p (es ++ (e ∷ [])) new
-unfolding Answers IsAnswer
+pub runs_push : (p : PlainServer) (es : List Entry) (q : PlainServer) (e : Entry) (new : PlainServer)
+    → Runs p es q → ServerAnswers q e.command e.moment (Ok e.reply) new → Runs p (es ++ (e ∷ [])) new
+unfolding ServerAnswers IsServerAnswer
 runs_push p es q e new runs answers =
     let step = answers runs.to runs.ends in
     record {
@@ -65,6 +65,8 @@ counted_at_most_one (Renew k dirty overridden replicated) (Conflict i) = omega (
 counted_at_most_one (Renew k dirty overridden replicated) (Last n) = omega (arith)
 counted_at_most_one (Renew k dirty overridden replicated) (Expected n) = omega (arith)
 counted_at_most_one (Renew k dirty overridden replicated) (Evicted victims) = omega (arith)
+counted_at_most_one (Renew k dirty overridden replicated) (Batch tasks) = omega (arith)
+counted_at_most_one (Renew k dirty overridden replicated) Settled = omega (arith)
 counted_at_most_one (Register n replicated) r = omega (arith)
 counted_at_most_one (Adopt n) r = omega (arith)
 counted_at_most_one (Cancel k replicated) r = omega (arith)
@@ -73,6 +75,9 @@ counted_at_most_one (UnsetStatus k suggested dirty replicated) r = omega (arith)
 counted_at_most_one Roll r = omega (arith)
 counted_at_most_one Update r = omega (arith)
 counted_at_most_one Evict r = omega (arith)
+counted_at_most_one (Drain peer) r = omega (arith)
+counted_at_most_one (Landed peer codes) r = omega (arith)
+counted_at_most_one (Lost peer) r = omega (arith)
 
 joined_at_most_one : (c : Command) (fresh : Bool) → added_by c (Registered fresh) ≤ 1
 joined_at_most_one (Register n replicated) true = omega (arith)
@@ -86,6 +91,9 @@ joined_at_most_one (UnsetStatus k suggested dirty replicated) fresh = omega (ari
 joined_at_most_one Roll fresh = omega (arith)
 joined_at_most_one Update fresh = omega (arith)
 joined_at_most_one Evict fresh = omega (arith)
+joined_at_most_one (Drain peer) fresh = omega (arith)
+joined_at_most_one (Landed peer codes) fresh = omega (arith)
+joined_at_most_one (Lost peer) fresh = omega (arith)
 
 pub added_at_most_one : (s : Machine) (c : Command) (t : ℕ) (r : Reply) (new : Machine) → Step s c t r new → added_by c r ≤ 1
 added_at_most_one s (Register n replicated) t r new step = subst (λ r. added_by (Register n replicated) r ≤ 1) (sym step.0) (joined_at_most_one (Register n replicated) _)
@@ -97,15 +105,41 @@ added_at_most_one s (UnsetStatus k suggested dirty replicated) t r new step = om
 added_at_most_one s Roll t r new step = omega (arith)
 added_at_most_one s Update t r new step = omega (arith)
 added_at_most_one s Evict t r new step = omega (arith)
+added_at_most_one s (Drain peer) t r new step = absurd step
+added_at_most_one s (Landed peer codes) t r new step = absurd step
+added_at_most_one s (Lost peer) t r new step = absurd step
+
+-- what a step of a server does to the leases
+server_accounts : (s : Server) (c : Command) (t : ℕ) (r : Reply) (new : Server) → ServerStep s c t r new
+    → (len new.machine.leases + removed_by c r ≡ len s.machine.leases + added_by c r) × (added_by c r ≤ 1)
+server_accounts s (Drain peer) t r new step = (omega (arith, ap (λ x. len x.machine.leases) step.1.3), omega (arith))
+server_accounts s (Landed peer codes) t r new step = (omega (arith, ap (λ x. len x.machine.leases) step.1.3), omega (arith))
+server_accounts s (Lost peer) t r new step = (omega (arith, ap (λ x. len x.machine.leases) step.1.3), omega (arith))
+server_accounts s (Register n replicated) t r new step = (leases_are_accounted s.machine (Register n replicated) t r new.machine step.0, added_at_most_one s.machine (Register n replicated) t r new.machine step.0)
+server_accounts s (Renew k dirty overridden replicated) t r new step = (leases_are_accounted s.machine (Renew k dirty overridden replicated) t r new.machine step.0, omega (arith))
+server_accounts s (Cancel k replicated) t r new step = (leases_are_accounted s.machine (Cancel k replicated) t r new.machine step.0, omega (arith))
+server_accounts s (SetStatus k status dirty replicated) t r new step = (leases_are_accounted s.machine (SetStatus k status dirty replicated) t r new.machine step.0, omega (arith))
+server_accounts s (UnsetStatus k suggested dirty replicated) t r new step = (leases_are_accounted s.machine (UnsetStatus k suggested dirty replicated) t r new.machine step.0, omega (arith))
+server_accounts s (Adopt n) t r new step = (leases_are_accounted s.machine (Adopt n) t r new.machine step.0, added_at_most_one s.machine (Adopt n) t r new.machine step.0)
+server_accounts s Roll t r new step = (leases_are_accounted s.machine Roll t r new.machine step.0, omega (arith))
+server_accounts s Update t r new step = (leases_are_accounted s.machine Update t r new.machine step.0, omega (arith))
+server_accounts s Evict t r new step = (leases_are_accounted s.machine Evict t r new.machine step.0, omega (arith))
+
+-- each plain form is that of some server
+pub raise_server : (p : PlainServer) → (s : Server) × (plain_server s ≡ p)
+raise_server p =
+    let from = raise p.registry in
+    (record { machine = from.0; queues = p.queues }, λ i. record { registry = from.1 i; queues = p.queues })
 
 -- what an answer does to the leases, seen as plain forms
-pub answer_accounts : (p : Plain) (c : Command) (t : ℕ) (r : Reply) (new : Plain) → Answers p c t (Ok r) new
-    → (len new.leases + removed_by c r ≡ len p.leases + added_by c r) × (added_by c r ≤ 1)
-unfolding Answers IsAnswer
+pub answer_accounts : (p : PlainServer) (c : Command) (t : ℕ) (r : Reply) (new : PlainServer) → ServerAnswers p c t (Ok r) new
+    → (len new.registry.leases + removed_by c r ≡ len p.registry.leases + added_by c r) × (added_by c r ≤ 1)
+unfolding ServerAnswers IsServerAnswer
 answer_accounts p c t r new answers =
-    let from = raise p in
+    let from = raise_server p in
     let answer = answers from.0 from.1 in
     let to = answer.1.0 in
-    let before = sym (len-map_values key_cmp listed from.0.leases) ∙ ap (λ q. len q.leases) from.1 in
-    let after = sym (len-map_values key_cmp listed to.leases) ∙ ap (λ q. len q.leases) answer.1.2 in
-    (omega (arith, leases_are_accounted from.0 c t r to answer.1.1, before, after), added_at_most_one from.0 c t r to answer.1.1)
+    let before = sym (len-map_values key_cmp listed from.0.machine.leases) ∙ ap (λ q. len q.registry.leases) from.1 in
+    let after = sym (len-map_values key_cmp listed to.machine.leases) ∙ ap (λ q. len q.registry.leases) answer.1.2 in
+    let accounts = server_accounts from.0 c t r to answer.1.1 in
+    (omega (arith, accounts.0, before, after), accounts.1)

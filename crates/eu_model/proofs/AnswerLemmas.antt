@@ -6,7 +6,7 @@ use Rattle.eu_model.specs.declared.commands.Command.{Command}
 use Rattle.eu_model.specs.declared.commands.Reply.{Reply}
 use Rattle.eu_model.specs.Machine.{Machine}
 use Rattle.eu_model.specs.Step.{Step}
-use Rattle.eu_model.specs.Run.{fault}
+use Rattle.eu_model.specs.Faults.{fault}
 use Rattle.eu_model.specs.Plain.{Plain, plain}
 use Rattle.eu_model.specs.Answers.{IsRefusal, IsAnswer, Answers}
 

@@ -14,7 +14,7 @@ use Rattle.eu_model.specs.Maps.{map_values}
 use Rattle.eu_model.specs.Machine.{Machine}
 use Rattle.eu_model.specs.Change.{Change}
 use Rattle.eu_model.specs.Step.{changed, marked}
-use Rattle.eu_model.specs.Run.{join_fault}
+use Rattle.eu_model.specs.Faults.{join_fault}
 use Rattle.eu_model.specs.Plain.{Plain, listed, plain}
 use Rattle.eu_model.specs.Kept.{kept, after, kept_join_fault}
 use Rattle.eu_model.proofs.MarkLemmas.{since_renewal, last_renewal}

@@ -16,7 +16,7 @@ use Rattle.eu_base.specs.declared.times.Stamp.{Stamp}
 use Rattle.eu_base.specs.Key.{key_cmp, key_eq}
 use Rattle.eu_base.proofs.KeyLemmas.{keys_total, key_eq-ties, key_eq-flips}
 use Rattle.eu_model.specs.declared.commands.Command.{Command}
-use Rattle.eu_model.specs.declared.commands.Command.TheVariants.{Register, Renew, Cancel, SetStatus, UnsetStatus, Adopt, Roll, Update, Evict}
+use Rattle.eu_model.specs.declared.commands.Command.TheVariants.{Register, Renew, Cancel, SetStatus, UnsetStatus, Adopt, Roll, Update, Evict, Drain, Landed, Lost}
 use Rattle.eu_model.specs.declared.commands.Reply.{Reply}
 use Rattle.eu_model.specs.declared.commands.Reply.TheVariants.{Registered, Done, NotFound, Evicted}
 use Rattle.eu_model.specs.Change.{uncounted, renew, renew_as, set_status, unset_status, in_status, cancel, told, overridden_by}
@@ -148,3 +148,6 @@ leases_are_accounted s Evict t reply new step =
     ap (λ m. len m.leases + removed_by Evict reply) step.3
     ∙ ap (λ r. len (without s.leases victims) + removed_by Evict r) step.1
     ∙ omega (arith, all_go s.leases victims step.2.once held)
+leases_are_accounted s (Drain peer) t reply new step = absurd step
+leases_are_accounted s (Landed peer codes) t reply new step = absurd step
+leases_are_accounted s (Lost peer) t reply new step = absurd step

@@ -3,7 +3,7 @@ use Rattle.std.proofs.Common.{◌≡◌, ℕ, List, refl, sym, ap, ◌∙◌}
 use Rattle.std.specs.Prelude.{Option, Some, None}
 use Rattle.eu_model.specs.declared.views.Query.TheVariants as asked
 use Rattle.eu_model.specs.declared.views.View.TheVariants as seen
-use Rattle.eu_model.specs.declared.commands.Command.TheVariants.{Register, Renew, Cancel, SetStatus, UnsetStatus, Adopt, Roll, Update, Evict}
+use Rattle.eu_model.specs.declared.commands.Command.TheVariants.{Register, Renew, Cancel, SetStatus, UnsetStatus, Adopt, Roll, Update, Evict, Drain, Landed, Lost}
 use Rattle.eu_model.specs.Machine.{Machine}
 use Rattle.eu_model.specs.Plain.{plain}
 use Rattle.eu_model.specs.View.{listing}
@@ -32,6 +32,9 @@ steps_alike s s' (Adopt n) t reply new e step = alike _ _ _ _ (adopt_is_kept n t
 steps_alike s s' Roll t reply new e step = alike _ _ _ _ roll_is_kept s s' reply new e step
 steps_alike s s' Update t reply new e step = alike _ _ _ _ update_is_kept s s' reply new e step
 steps_alike s s' Evict t reply new e step = evict_alike s s' t reply new e step
+steps_alike s s' (Drain peer) t reply new e step = absurd step
+steps_alike s s' (Landed peer codes) t reply new e step = absurd step
+steps_alike s s' (Lost peer) t reply new e step = absurd step
 
 pub faults_alike : FaultsAlike
 faults_alike s s' (Register n replicated) t e =
@@ -47,6 +50,9 @@ faults_alike s s' (Adopt n) t e = join_fault-kept s n.key ∙ ap (λ p. kept_joi
 faults_alike s s' Roll t e = refl
 faults_alike s s' Update t e = refl
 faults_alike s s' Evict t e = refl
+faults_alike s s' (Drain peer) t e = refl
+faults_alike s s' (Landed peer codes) t e = refl
+faults_alike s s' (Lost peer) t e = refl
 
 listings_alike : (app : Option (List ℕ)) (s s' : Machine) → plain s ≡ plain s' → listing app s ≡ listing app s'
 listings_alike app s s' e = listing-kept app s ∙ ap (kept_listing app) e ∙ sym (listing-kept app s')

@@ -20,3 +20,5 @@ pub mod HeldLemmas
 pub mod AccountLemmas
 pub mod LawLemmas
 pub mod DeterminedLemmas
+pub mod ServerLemmas
+pub mod ServedLemmas

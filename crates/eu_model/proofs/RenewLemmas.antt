@@ -18,7 +18,7 @@ use Rattle.eu_model.specs.Marks.{since}
 use Rattle.eu_model.specs.Override.{rule, is_status}
 use Rattle.eu_model.specs.Machine.{Machine}
 use Rattle.eu_model.specs.Change.{Change, uncounted, renew, renew_as, renew_reply, brought, under_row}
-use Rattle.eu_model.specs.Run.{fault}
+use Rattle.eu_model.specs.Faults.{fault}
 use Rattle.eu_model.specs.Step.{changed}
 use Rattle.eu_model.specs.Plain.{Plain, listed, plain}
 use Rattle.eu_model.specs.Answers.{IsRefusal, Answers}

@@ -14,7 +14,7 @@ use Rattle.eu_model.specs.Machine.{Machine}
 use Rattle.eu_model.specs.Delta.{added_by, removed_by}
 use Rattle.eu_model.specs.Evict.{extra_time}
 use Rattle.eu_model.specs.Step.{Step}
-use Rattle.eu_model.specs.Run.{fault}
+use Rattle.eu_model.specs.Faults.{fault}
 use Rattle.eu_model.specs.View.{view}
 use Rattle.eu_model.specs.Plain.{plain, Plain}
 

@@ -7,10 +7,9 @@ pub mod Machine
 pub mod Change
 pub mod Evict
 pub mod Step
-pub mod Run
+pub mod Faults
 pub mod Delta
 pub mod Plain
-pub mod Runs
 pub mod View
 pub mod Answers
 pub mod Law
@@ -18,3 +17,8 @@ pub mod Kept
 pub mod PlainCode
 pub mod Owned
 pub mod State
+pub mod Queue
+pub mod Server
+pub mod ServerAnswers
+pub mod ServerLaw
+pub mod Runs

@@ -1,6 +1,9 @@
 -- What is kept of the lease machine's past
-use Rattle.std.specs.Prelude.{ℕ, ◌+◌, Option}
-use Rattle.std.specs.FinMap.{FinMap}
+use Rattle.std.specs.Prelude.{ℕ, ◌+◌, Option, Some, None}
+use Rattle.std.specs.FinMap.{FinMap, get}
+use Rattle.std.specs.Option.{option_map}
+use Rattle.eu_base.specs.declared.instances.Instance.{Instance}
+use Rattle.eu_base.specs.declared.names.Key.{Key}
 use Rattle.eu_base.specs.declared.settings.Config.{Config}
 use Rattle.eu_base.specs.declared.statuses.Status.{Status}
 use Rattle.eu_base.specs.Key.{name_cmp, key_cmp}
@@ -47,3 +50,12 @@ plain s = record {
   since = since s.marks;
   previous = s.previous;
 }
+
+-- the instance that is held under a key
+abbrev pub kept_instance : Plain → Key → Option Instance
+kept_instance p k = option_map (λ l. l.instance) (get p.leases k)
+
+-- the same, where a key is named
+abbrev pub held_under : Plain → Option Key → Option Instance
+held_under p None = None
+held_under p (Some k) = kept_instance p k

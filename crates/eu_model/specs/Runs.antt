@@ -1,16 +1,14 @@
 -- Runs between plain forms, and their numbers
 use Rattle.std.specs.Prelude.{◌≡◌, ℕ, ◌+◌, List, [], ◌∷◌}
 use Rattle.eu_model.specs.declared.commands.Entry.{Entry}
-use Rattle.eu_model.specs.Machine.{Machine}
-use Rattle.eu_model.specs.Plain.{Plain, plain}
-use Rattle.eu_model.specs.Run.{Run}
+use Rattle.eu_model.specs.Server.{Server, PlainServer, plain_server, Run}
 
--- a run between two machines of these plain forms
-pub record Runs (p : Plain) (es : List Entry) (q : Plain) : Type 0 where
-  pub from : Machine
-  pub to : Machine
-  pub begins : plain from ≡ p
-  pub ends : plain to ≡ q
+-- a run between two servers of these plain forms
+pub record Runs (p : PlainServer) (es : List Entry) (q : PlainServer) : Type 0 where
+  pub from : Server
+  pub to : Server
+  pub begins : plain_server from ≡ p
+  pub ends : plain_server to ≡ q
   pub run : Run from es to
 
 -- the entries are numbered one after another

@@ -3,7 +3,7 @@ use Rattle.std.specs.Prelude.{◌≡◌, ℕ, Bool, if◌then◌else◌, List, [
 use Rattle.std.specs.FinMap.{get, len}
 use Rattle.eu_base.specs.declared.names.Key.{Key}
 use Rattle.eu_model.specs.declared.commands.Command.{Command}
-use Rattle.eu_model.specs.declared.commands.Command.TheVariants.{Register, Renew, Cancel, SetStatus, UnsetStatus, Adopt, Roll, Update, Evict}
+use Rattle.eu_model.specs.declared.commands.Command.TheVariants.{Register, Renew, Cancel, SetStatus, UnsetStatus, Adopt, Roll, Update, Evict, Drain, Landed, Lost}
 use Rattle.eu_model.specs.declared.commands.Reply.{Reply}
 use Rattle.eu_model.specs.declared.commands.Reply.TheVariants.{Last, Expected, Evicted}
 use Rattle.eu_model.specs.Record.{Record}
@@ -54,5 +54,9 @@ Step old (UnsetStatus k suggested dirty replicated) t reply new =
 Step old (Adopt n) t reply new = Changes old n.key (adopt (get old.leases n.key) (get old.rows n.key.id) old.expected n t) reply new
 Step old Roll t reply new = (reply ≡ Last (last (rolled old).marks)) × (new ≡ rolled old)
 Step old Update t reply new = (reply ≡ Expected (updated old)) × (new ≡ record old { expected = updated old })
+-- what goes to peers is no step of the machine alone
+Step old (Drain peer) t reply new = ⊥
+Step old (Landed peer codes) t reply new = ⊥
+Step old (Lost peer) t reply new = ⊥
 -- a pass may take any victims of the right number
 Step old Evict t reply new = (victims : List Key) × (reply ≡ Evicted victims) × AreVictims old t victims × (new ≡ evicted old t victims)

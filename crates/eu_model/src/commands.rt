@@ -2,8 +2,8 @@
 ghost use Rattle.std.specs.Prelude.{◌≡◌, true, IfOk, IsOk};
 ghost use Rattle.eu_model.specs.Owned.{owns_nothing};
 
-use crate::Keys;
-use eu_base::{Instance, Key, Moment, Stamp, Status};
+use crate::{Keys, Tasks};
+use eu_base::{Codes, Instance, Key, Moment, Stamp, Status};
 use std::alloc::{AllocError, Global};
 
 /// What changes a registry. Each is one step of the lease machine.
@@ -67,10 +67,27 @@ pub enum Command {
     Update,
     /// An eviction pass (`AbstractInstanceRegistry.evict`).
     Evict,
+    /// The next tasks that wait for a peer go in flight to it, as one batch (`TaskExecutors` in Eureka).
+    Drain {
+        /// The peer's number, from 0.
+        peer: u32,
+    },
+    /// The batch in flight to a peer has landed, and was answered (`ReplicationTaskProcessor.process`).
+    Landed {
+        /// The peer's number, from 0.
+        peer: u32,
+        /// What each task was answered.
+        codes: Codes,
+    },
+    /// The batch in flight to a peer was lost (`AcceptorExecutor.reprocess`).
+    Lost {
+        /// The peer's number, from 0.
+        peer: u32,
+    },
 }
 
 impl Command {
-    /// The same command once more. Takes memory for its key or its instance alone; `AllocError` where none is left.
+    /// The same command once more. Takes memory for its key, its instance or its codes alone; `AllocError` where none is left.
     pub fn copy(&self, alloc: Global) -> Result<Command, AllocError>
         ensures { IfOk result (λ c. c ≡ self.now) }
     {
@@ -102,6 +119,9 @@ impl Command {
             Command::Roll => Ok(Command::Roll),
             Command::Update => Ok(Command::Update),
             Command::Evict => Ok(Command::Evict),
+            Command::Drain { peer } => Ok(Command::Drain { peer: *peer }),
+            Command::Landed { peer, codes } => copy_landed(alloc, *peer, codes),
+            Command::Lost { peer } => Ok(Command::Lost { peer: *peer }),
         }
     }
 }
@@ -194,6 +214,14 @@ fn copy_adopt(alloc: Global, instance: &Instance) -> Result<Command, AllocError>
     Ok(Command::Adopt { instance })
 }
 
+/// A batch that has landed, with a copy of its codes.
+fn copy_landed(alloc: Global, peer: u32, codes: &Codes) -> Result<Command, AllocError>
+    ensures { IfOk result (λ c. c ≡ Command.Landed peer codes.now) }
+{
+    let codes = codes.copy(alloc)?;
+    Ok(Command::Landed { peer, codes })
+}
+
 /// What a command is answered.
 #[derive(Debug, Drop)]
 pub enum Reply {
@@ -216,10 +244,14 @@ pub enum Reply {
     Expected(u64),
     /// The leases that a pass took out.
     Evicted(Keys),
+    /// The tasks that are in flight now.
+    Batch(Tasks),
+    /// A batch is in flight no more.
+    Settled,
 }
 
 impl Reply {
-    /// The same reply once more. Takes memory for a `Conflict` and for an `Evicted` alone; `AllocError` where none is left.
+    /// The same reply once more. Takes memory for a `Conflict`, an `Evicted` and a `Batch` alone; `AllocError` where none is left.
     pub fn copy(&self, alloc: Global) -> Result<Reply, AllocError>
         ensures same { IfOk result (λ r. r ≡ self.now) }
         ensures memory { owns_nothing self.now ≡ true → IsOk result }
@@ -239,6 +271,11 @@ impl Reply {
                 let victims = victims.copy(alloc)?;
                 Ok(Reply::Evicted(victims))
             }
+            Reply::Batch(tasks) => {
+                let tasks = tasks.copy(alloc)?;
+                Ok(Reply::Batch(tasks))
+            }
+            Reply::Settled => Ok(Reply::Settled),
         }
     }
 }

@@ -7,18 +7,25 @@ mod commands;
 mod keys;
 mod law;
 mod listings;
+mod queues;
 mod rows;
 mod states;
 mod tallies;
+mod tasks;
 mod views;
 
 pub use commands::{Command, Entry, Reply};
 pub use keys::Keys;
-pub use law::{leases_are_accounted, passes_are_safe, plain_form_decides};
+pub use law::{
+    leases_are_accounted, passes_are_safe, peers_and_timers_queue_nothing, plain_form_decides,
+    plain_servers_decide,
+};
 pub use listings::Listing;
+pub use queues::{Queue, Queues};
 pub use rows::Rows;
 pub use states::State;
 pub use tallies::Tally;
+pub use tasks::Tasks;
 pub use views::{Counts, Listed, Query, Times, View};
 
 #[cfg(test)]

@@ -1,9 +1,9 @@
-//! A registry as plain data.
+//! A registry with its peers as plain data.
 
-use crate::{Listing, Rows};
+use crate::{Listing, Queues, Rows};
 use eu_base::{Config, Moment};
 
-/// A registry as plain data: what decides its next steps, and what is seen of it.
+/// A registry with its peers as plain data: what decides its next steps, and what is seen of it.
 #[derive(Debug, Drop)]
 pub struct State {
     /// The settings.
@@ -20,4 +20,6 @@ pub struct State {
     pub since: u64,
     /// The moment of the previous eviction pass, if there was one.
     pub previous: Option<Moment>,
+    /// What waits for each peer, by its number; a registry alone has no peers.
+    pub queues: Queues,
 }

@@ -35,6 +35,8 @@ pub data Asked : Type 0 where
   One : Key → Asked
   -- the changes since an earlier listing are asked for
   Delta : Asked
+  -- the commands that a peer tells in the body are to be done
+  Batch : Asked
   -- the page that tells how the registry is
   StatusPage : Asked
 
@@ -49,6 +51,7 @@ asked_of route.All = All
 asked_of (route.OfApp app) = OfApp app
 asked_of (route.One key) = One key
 asked_of route.Delta = Delta
+asked_of route.Batch = Batch
 asked_of route.StatusPage = StatusPage
 
 -- ---- what each method asks of each page
@@ -56,6 +59,10 @@ asked_of route.StatusPage = StatusPage
 -- GET apps
 unfoldable pub applications_ask : List ℕ → Result Asked Fault
 applications_ask method = if bytes_eq method (codes "GET") then Ok All else Err fault.NoRoute
+
+-- POST peerreplication/batch
+unfoldable pub batch_ask : List ℕ → Result Asked Fault
+batch_ask method = if bytes_eq method (codes "POST") then Ok Batch else Err fault.NoRoute
 
 -- GET status
 unfoldable pub page_ask : List ℕ → Result Asked Fault
@@ -123,6 +130,7 @@ ask_at (Some page.Applications) method path query = applications_ask method
 ask_at (Some page.Application) method path query = application_ask method path
 ask_at (Some page.Lease) method path query = lease_ask method path query
 ask_at (Some page.LeaseStatus) method path query = status_ask method path query
+ask_at (Some page.Batch) method path query = batch_ask method
 ask_at (Some page.StatusPage) method path query = page_ask method
 
 -- what a request of that method, target and query asks for

@@ -30,11 +30,13 @@ table =
     ∷ (codes "/eureka/v2/apps/{app}", page.Application)
     ∷ (codes "/eureka/v2/apps/{app}/{id}", page.Lease)
     ∷ (codes "/eureka/v2/apps/{app}/{id}/status", page.LeaseStatus)
+    ∷ (codes "/eureka/v2/peerreplication/batch", page.Batch)
     ∷ (codes "/eureka/v2/status", page.StatusPage)
     ∷ (codes "/eureka/apps", page.Applications)
     ∷ (codes "/eureka/apps/{app}", page.Application)
     ∷ (codes "/eureka/apps/{app}/{id}", page.Lease)
     ∷ (codes "/eureka/apps/{app}/{id}/status", page.LeaseStatus)
+    ∷ (codes "/eureka/peerreplication/batch", page.Batch)
     ∷ (codes "/eureka/status", page.StatusPage)
     ∷ []
 

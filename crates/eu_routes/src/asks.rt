@@ -1,7 +1,7 @@
 //! What requests ask for.
 use eu_base::{App, Key, Stamp, Status};
 
-/// What a request asks for. The body of a registration is read elsewhere.
+/// What a request asks for. The bodies of a registration and of a batch are read elsewhere.
 #[derive(Debug, Drop)]
 pub enum Route {
     /// An instance of that application is to be registered.
@@ -43,6 +43,8 @@ pub enum Route {
     One(Key),
     /// The changes since an earlier listing are asked for, which nobody gets.
     Delta,
+    /// The commands that a peer tells in the body are to be done (`PeerReplicationResource` in Eureka).
+    Batch,
     /// The page that tells how the registry is.
     StatusPage,
 }

@@ -29,6 +29,16 @@ fn ask_applications(method: &str) -> Result<Route, Fault>
     }
 }
 
+#[tactic(auto, unfolding(crate::specs::Route::batch_ask))]
+fn ask_batch(method: &str) -> Result<Route, Fault>
+    ensures { Reads result (spec.batch_ask method.now) }
+{
+    match method {
+        "POST" => Ok(Route::Batch),
+        _ => Err(Fault::NoRoute),
+    }
+}
+
 #[tactic(auto, unfolding(crate::specs::Route::page_ask))]
 fn ask_page(method: &str) -> Result<Route, Fault>
     ensures { Reads result (spec.page_ask method.now) }
@@ -140,12 +150,13 @@ impl Routes {
     /// | DELETE apps/{app}/{id}/status with `value`, `lastDirtyTimestamp` | no status to override the own one |
     /// | GET apps, GET apps/{app}, GET apps/{app}/{id} | all, of an application, one |
     /// | GET apps/delta | the changes |
+    /// | POST peerreplication/batch | the commands that a peer tells in the body |
     /// | GET status | the page that tells how the registry is |
     ///
     /// The first that holds: `NoRoute` for any other request, `BadPath` where a segment is no name, `BadValue` where a stamp or
     /// a status isn't one, or where `value` is missing from a PUT. `OutOfMemory` comes where memory is refused. The routes are
-    /// those of Eureka's `ApplicationsResource`, `ApplicationResource` and `InstanceResource`, and `status`, which is this
-    /// registry's own.
+    /// those of Eureka's `ApplicationsResource`, `ApplicationResource`, `InstanceResource` and `PeerReplicationResource`, and
+    /// `status`, which is this registry's own.
     pub fn find(&self, alloc: Global, method: &str, path: &str, query: &str) -> Result<Route, Fault>
         ensures { Reads result (route_of method.now path.now query.now) }
     {
@@ -158,6 +169,7 @@ impl Routes {
             Page::Application => ask_application(alloc, method, path),
             Page::Lease => ask_lease(alloc, method, path, query),
             Page::LeaseStatus => ask_status(alloc, method, path, query),
+            Page::Batch => ask_batch(method),
             Page::StatusPage => ask_page(method),
         }
     }

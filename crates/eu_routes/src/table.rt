@@ -17,21 +17,25 @@ pub enum Page {
     Lease,
     /// The status of a lease's instance.
     LeaseStatus,
+    /// What peers send.
+    Batch,
     /// The page that tells how the registry is.
     StatusPage,
 }
 
 /// Each page's path, under both prefixes.
-const PATHS: [(&str, Page); 10] = [
+const PATHS: [(&str, Page); 12] = [
     ("/eureka/v2/apps", Page::Applications),
     ("/eureka/v2/apps/{app}", Page::Application),
     ("/eureka/v2/apps/{app}/{id}", Page::Lease),
     ("/eureka/v2/apps/{app}/{id}/status", Page::LeaseStatus),
+    ("/eureka/v2/peerreplication/batch", Page::Batch),
     ("/eureka/v2/status", Page::StatusPage),
     ("/eureka/apps", Page::Applications),
     ("/eureka/apps/{app}", Page::Application),
     ("/eureka/apps/{app}/{id}", Page::Lease),
     ("/eureka/apps/{app}/{id}/status", Page::LeaseStatus),
+    ("/eureka/peerreplication/batch", Page::Batch),
     ("/eureka/status", Page::StatusPage),
 ];
 

@@ -48,6 +48,7 @@ fn tell(text: &mut String, route: &Route) -> Result<(), AllocError> {
         Route::OfApp(app) => write!(text, "app {}", app.as_str()),
         Route::One(key) => tell_key(text, "one", key),
         Route::Delta => write!(text, "delta"),
+        Route::Batch => write!(text, "batch"),
         Route::StatusPage => write!(text, "page"),
         _ => tell_values(text, route),
     }
@@ -140,7 +141,6 @@ fn other_requests_have_no_route(rt: HostRuntime) -> Result<(), Fail> {
         ("POST", "/eureka/apps/a/i"),
         ("GET", "/eureka/apps/a/i/status"),
         ("PUT", "/eureka/status"),
-        ("POST", "/eureka/peerreplication/batch"),
         ("GET", "/eureka/apps//x"),
         ("GET", "/eureka/apps/x//"),
         ("GET", "/eureka/apps//"),
@@ -164,6 +164,50 @@ fn other_requests_have_no_route(rt: HostRuntime) -> Result<(), Fail> {
         ("GET", "http://http://host/eureka/apps"),
         ("GET", "é/eureka/apps"),
         ("GET", "htté://eureka/apps"),
+    ];
+    for (method, path) in cases {
+        let told = told(alloc, &routes, method, path, "");
+        assert!(rt; told == Err(Fault::NoRoute), "at {method} {path}");
+    }
+    Ok(())
+}
+
+#[test]
+fn batches_are_posted(rt: HostRuntime) -> Result<(), Fail> {
+    let alloc = rt.alloc();
+    let routes = Routes::new(alloc)?;
+    let cases = [
+        ("/eureka/peerreplication/batch", ""),
+        ("/eureka/peerreplication/batch/", ""),
+        ("/eureka/v2/peerreplication/batch", "value=gone"),
+        ("/eureka/v2/peerreplication/batch/", "lastDirtyTimestamp=x"),
+        ("HTTP://host:8080/eureka/peerreplication/batch", ""),
+    ];
+    for (path, query) in cases {
+        let told = told(alloc, &routes, "POST", path, query)?;
+        assert_eq!(rt; told.as_str(), "batch", "at {path}");
+    }
+    Ok(())
+}
+
+#[test]
+fn other_batches_have_no_route(rt: HostRuntime) -> Result<(), Fail> {
+    let alloc = rt.alloc();
+    let routes = Routes::new(alloc)?;
+    let cases = [
+        ("GET", "/eureka/peerreplication/batch"),
+        ("PUT", "/eureka/v2/peerreplication/batch"),
+        ("DELETE", "/eureka/peerreplication/batch/"),
+        ("post", "/eureka/peerreplication/batch"),
+        ("POST", "/eureka/peerreplication/b%61tch"),
+        ("POST", "/eureka/peerreplication%2Fbatch"),
+        ("POST", "/eureka/peerreplication/Batch"),
+        ("POST", "/eureka/peerreplication/batch//"),
+        ("POST", "/eureka/peerreplication/batch/a"),
+        ("POST", "/eureka/peerreplication"),
+        ("POST", "/eureka/apps/peerreplication/batch"),
+        ("POST", "/peerreplication/batch"),
+        ("POST", "peerreplication/batch"),
     ];
     for (method, path) in cases {
         let told = told(alloc, &routes, method, path, "");

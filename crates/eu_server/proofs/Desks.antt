@@ -1,4 +1,4 @@
--- What a book answers to the lines of a script, against the lease machine
+-- What a book answers to the lines of a script, against a run of the server
 use Rattle.std.proofs.Common.{◌≡◌, ◌≢◌, ℕ, List, [], ◌∷◌, ◌++◌, length, length-append, Option, Some, None, Result, Ok, Err, OnOk, OnErr, IfOk, IfErr, refl, sym, ◌∙◌, ap, subst, inl, inr, arith, false}
 use Rattle.std.specs.Prelude.{◌==◌, if◌then◌else◌}
 use Rattle.eu_base.specs.declared.faults.Fault.{Fault}
@@ -13,30 +13,35 @@ use Rattle.eu_model.specs.declared.commands.Command.TheVariants as command
 use Rattle.eu_model.specs.declared.commands.Entry.{Entry}
 use Rattle.eu_model.specs.declared.commands.Reply.{Reply}
 use Rattle.eu_model.specs.declared.commands.Reply.TheVariants.{Evicted}
-use Rattle.eu_model.specs.Answers as model
 use Rattle.eu_model.specs.Answers.{Shows}
-use Rattle.eu_model.specs.Machine.{Machine, opening}
+use Rattle.eu_model.specs.Machine.{Machine}
 use Rattle.eu_model.specs.Plain.{Plain, plain}
-use Rattle.eu_model.specs.Run.{fault}
-use Rattle.eu_model.specs.Step.{Step}
+use Rattle.eu_model.specs.Server as model
+use Rattle.eu_model.specs.Server.{Server, ServerStep, server_fault}
+use Rattle.eu_model.specs.ServerAnswers.{ServerAnswers, IsServerAnswer}
 use Rattle.eu_model.specs.View.{counts, listing}
 use Rattle.eu_model.proofs.RunLemmas.{run_push}
 use Rattle.eu_page.specs.Page.{shown_page}
 use Rattle.eu_server.specs.declared.desk.Desk.{Desk}
 use Rattle.eu_server.specs.Desk.{Holds, HoldsRun, DeskAnswers, ClosedAnswers, OpenedAnswers, Told}
 use Rattle.eu_server.specs.Script.{Ran, is_full, Commands, Does, Draws, Sees, Says, SaysOpened, Tells}
-use Rattle.eu_server.specs.Texts.{answer_text}
+use Rattle.eu_server.specs.Texts.{answer_text, settled_text}
 use Rattle.eu_words.specs.Lines.{Said, line_of}
 
 -- the run with one entry more
-abbrev and_then : (r : Ran) (e : Entry) (mid : Machine) → fault r.machine e.command e.moment ≡ None → Step r.machine e.command e.moment e.reply mid → Ran
+abbrev and_then : (r : Ran) (e : Entry) (mid : Server) → server_fault r.server e.command e.moment ≡ None → ServerStep r.server e.command e.moment e.reply mid → Ran
 and_then r e mid none step = record {
   config = r.config;
   opened = r.opened;
+  peers = r.peers;
   entries = r.entries ++ e ∷ [];
-  machine = mid;
-  runs = run_push (opening r.config r.opened) r.entries r.machine e mid r.runs none step;
+  server = mid;
+  runs = run_push (model.opened r.config r.opened r.peers) r.entries r.server e mid r.runs none step;
 }
+
+-- the registry of an account is the plain form of the machine in each of its runs
+registry_is : (a : Account) (r : Ran) → Holds a r → plain r.server.machine ≡ a.state.registry
+registry_is a r h = ap (λ p. p.registry) (sym h.state)
 
 module _ {C : Type 0} (asks : C → ℕ → ℕ × C) (x : C) where
   -- what is drawn of a plain form is drawn of each machine of that form
@@ -49,19 +54,22 @@ module _ {C : Type 0} (asks : C → ℕ → ℕ × C) (x : C) where
   draws p s x' (command.Adopt n) t reply e chooses = chooses
   draws p s x' command.Roll t reply e chooses = chooses
   draws p s x' command.Update t reply e chooses = chooses
+  draws p s x' (command.Drain peer) t reply e chooses = chooses
+  draws p s x' (command.Landed peer codes) t reply e chooses = chooses
+  draws p s x' (command.Lost peer) t reply e chooses = chooses
   draws p s x' command.Evict t reply e chooses = let d = chooses.2 s e in (chooses.1 ∙ ap Evicted d.0, d.1)
 
   module _ (a b : Account) (x' : C) (c : Command) (t : ℕ) (out : List ℕ) where
     -- a command that is accepted is the next entry of each run of that account
-    accepted : (receipt : Receipt) → Applies asks a x 0 c t receipt.reply receipt.number b x' → out ≡ answer_text (Ok receipt)
+    accepted : (receipt : Receipt) → Applies asks a x 0 c t receipt.reply receipt.number b x' → out ≡ answer_text (settled_text c) (Ok receipt)
         → (r : Ran) → Holds a r → (next : Ran) × Does asks r x c t out next x' × Holds b next
-    unfolding model.Answers model.IsAnswer
+    unfolding ServerAnswers IsServerAnswer
     accepted receipt applies text r h =
         let e = entry 0 receipt.number c t receipt.reply in
-        let step = applies.step r.machine (sym h.state) in
+        let step = applies.step r.server (sym h.state) in
         let room : length r.entries ≢ most_entries = λ full. omega (arith, applies.fits, ap length h.entries, full) in (
           and_then r e step.1.0 step.0 step.1.1,
-          inl (e, refl, refl, refl, applies.numbered ∙ h.steps, differs (length r.entries) most_entries room, (refl, refl, refl, step.0, step.1.1), draws a.state r.machine x' c t receipt.reply (sym h.state) applies.chooses, text),
+          inl (e, refl, refl, refl, applies.numbered ∙ h.steps, differs (length r.entries) most_entries room, (refl, refl, refl, refl, step.0, step.1.1), draws a.state.registry r.server.machine x' c t receipt.reply (registry_is a r h) applies.chooses, text),
           record {
             entries = ap (λ y. y.entries) applies.whole ∙ ap (λ es. es ++ e ∷ []) h.entries;
             steps = omega (arith, ap (λ y. y.totals.steps) applies.whole, h.steps, length-append r.entries (e ∷ []));
@@ -70,15 +78,15 @@ module _ {C : Type 0} (asks : C → ℕ → ℕ × C) (x : C) where
         )
 
     -- one that is refused, but not for want of memory, is refused in each of those runs
-    refused : (f : Fault) → Refuses a c t f → b ≡ a → x' ≡ x → f ≢ OutOfMemory → out ≡ answer_text (Err f)
+    refused : (f : Fault) → Refuses a c t f → b ≡ a → x' ≡ x → f ≢ OutOfMemory → out ≡ answer_text (settled_text c) (Err f)
         → (r : Ran) → Holds a r → (next : Ran) × Does asks r x c t out next x' × Holds b next
-    refused f refuses same unasked known text r h = elim (refuses r.machine (sym h.state)) [
+    refused f refuses same unasked known text r h = elim (refuses r.server (sym h.state)) [
       | inl e ↦ absurd (known e)
-      | inr first ↦ (r, inr (f, subst (λ es. (if length es == most_entries then Some Exhausted else fault r.machine c t) ≡ Some f) h.entries first, text, refl, unasked), subst (λ y. Holds y r) (sym same) h)
+      | inr first ↦ (r, inr (f, subst (λ es. (if length es == most_entries then Some Exhausted else server_fault r.server c t) ≡ Some f) h.entries first, text, refl, unasked), subst (λ y. Holds y r) (sym same) h)
     ]
 
     does : (answer : Result Receipt Fault) → IfOk answer (λ receipt. Applies asks a x 0 c t receipt.reply receipt.number b x') → IfErr answer (λ f. Refuses a c t f)
-        → OnErr answer (b ≡ a) → OnErr answer (x' ≡ x) → answer ≢ Err OutOfMemory → out ≡ answer_text answer
+        → OnErr answer (b ≡ a) → OnErr answer (x' ≡ x) → answer ≢ Err OutOfMemory → out ≡ answer_text (settled_text c) answer
         → (r : Ran) → Holds a r → (next : Ran) × Does asks r x c t out next x' × Holds b next
     does (Ok receipt) applies refuses same unasked known text = accepted receipt applies text
     does (Err f) applies refuses same unasked known text = refused f refuses same unasked (λ e. known (ap Err e)) text
@@ -86,7 +94,7 @@ module _ {C : Type 0} (asks : C → ℕ → ℕ × C) (x : C) where
     -- what a line tells is done so
     pub told : (said : Said) (answer : Result Receipt Fault) (r : Result (Unit {0}) LineError) → Commands said c t
         → IfOk answer (λ receipt. Applies asks a x 0 c t receipt.reply receipt.number b x') → IfErr answer (λ f. Refuses a c t f)
-        → OnErr answer (b ≡ a) → OnErr answer (x' ≡ x) → OnOk r (answer ≢ Err OutOfMemory) → OnOk r (out ≡ answer_text answer)
+        → OnErr answer (b ≡ a) → OnErr answer (x' ≡ x) → OnOk r (answer ≢ Err OutOfMemory) → OnOk r (out ≡ answer_text (settled_text c) answer)
         → OnOk r (Told asks a x said out b x')
     told said answer (Err e) is applies refuses same unasked known text = tt
     told said answer (Ok u) is applies refuses same unasked known text =
@@ -94,7 +102,7 @@ module _ {C : Type 0} (asks : C → ℕ → ℕ × C) (x : C) where
 
   -- what tells a command isn't a question
   says : (said : Said) (x' : C) (y next : Ran) (out : List ℕ) → Tells asks said y x out next x' → SaysOpened asks said y x out next x'
-  says (Said.Open n) x' y next out s = s
+  says (Said.Open n peers) x' y next out s = s
   says (Said.Register t n replicated) x' y next out s = s
   says (Said.Renew t k dirty overridden replicated) x' y next out s = s
   says (Said.Cancel t k replicated) x' y next out s = s
@@ -104,6 +112,9 @@ module _ {C : Type 0} (asks : C → ℕ → ℕ × C) (x : C) where
   says (Said.Roll t) x' y next out s = s
   says (Said.Update t) x' y next out s = s
   says (Said.Evict t) x' y next out s = s
+  says (Said.Drain t peer) x' y next out s = s
+  says (Said.Landed t peer codes) x' y next out s = s
+  says (Said.Lost t peer) x' y next out s = s
   says (Said.Look t k) x' y next out s = absurd s.2
   says (Said.Counts t) x' y next out s = absurd s.2
   says (Said.Page t) x' y next out s = absurd s.2
@@ -114,15 +125,15 @@ module _ {C : Type 0} (asks : C → ℕ → ℕ × C) (x : C) where
   answered a b x' said (Ok u) out done = λ y h. let d = done y h in (d.0, says said x' y d.0 out d.1, d.2)
 
   -- a view that is printed is what is seen of each run of that account
-  pub sees : {V : Type 0} (a : Account) (see : Machine → V) (text : V → List ℕ) (out : List ℕ) (value : V) → Shows a.state see value → out ≡ text value
+  pub sees : {V : Type 0} (a : Account) (see : Machine → V) (text : V → List ℕ) (out : List ℕ) (value : V) → Shows a.state.registry see value → out ≡ text value
       → (r : Ran) → Holds a r → (next : Ran) × (Sees r (λ s. text (see s)) out next × (x ≡ x)) × Holds a next
-  sees a see text out value shows is r h = (r, ((is ∙ ap text (shows r.machine (sym h.state)), refl), refl), h)
+  sees a see text out value shows is r h = (r, ((is ∙ ap text (shows r.server.machine (registry_is a r h)), refl), refl), h)
 
   -- the same of the status page
-  pub pages : (a : Account) (t : ℕ) (r : Result (Unit {0}) LineError) (out : List ℕ) → OnOk r (Shows a.state (λ s. shown_page (counts s) (listing None s)) out)
+  pub pages : (a : Account) (t : ℕ) (r : Result (Unit {0}) LineError) (out : List ℕ) → OnOk r (Shows a.state.registry (λ s. shown_page (counts s) (listing None s)) out)
       → OnOk r (OpenedAnswers asks a x (Said.Page t) out a x)
   pages a t (Err e) out shows = tt
-  pages a t (Ok u) out shows = λ r h. (r, ((shows r.machine (sym h.state), refl), refl), h)
+  pages a t (Ok u) out shows = λ r h. (r, ((shows r.server.machine (registry_is a r h), refl), refl), h)
 
 module _ {C : Type 0} (asks : C → ℕ → ℕ × C) (x : C) (d d' : Desk) (line out : List ℕ) where
   -- a line once the registry is open

@@ -1,17 +1,17 @@
--- A desk, which keeps the account of a book, against the lease machine
+-- A desk, which keeps the account of a book, against a run of the server
 use Rattle.std.specs.Prelude.{◌≡◌, ℕ, Bool, true, false, List, length, Option, Some, None}
 use Rattle.eu_book.specs.Account.{Account}
-use Rattle.eu_model.specs.Plain.{plain}
+use Rattle.eu_model.specs.Server.{plain_server}
 use Rattle.eu_server.specs.declared.desk.Desk.{Desk}
 use Rattle.eu_server.specs.Script.{Ran, Answers, Refuses, SaysClosed, SaysOpened, Tells}
 use Rattle.eu_words.specs.Lines.{Said}
-use Rattle.eu_words.specs.Lines.Said.{Register, Renew, Cancel, SetStatus, UnsetStatus, Adopt, Roll, Update, Evict}
+use Rattle.eu_words.specs.Lines.Said.{Register, Renew, Cancel, SetStatus, UnsetStatus, Adopt, Roll, Update, Evict, Drain, Landed, Lost}
 
--- the account is that of this run: it has the entries and their number, and the plain form of the machine
+-- the account is that of this run: it has the entries and their number, and the plain form of the server
 pub record Holds (a : Account) (r : Ran) : Type 0 where
   pub entries : a.entries ≡ r.entries
   pub steps : a.totals.steps ≡ length r.entries
-  pub state : a.state ≡ plain r.machine
+  pub state : a.state ≡ plain_server r.server
 
 -- the same; None where none is open
 abbrev pub HoldsRun : Option Account → Option Ran → Type 0
@@ -59,6 +59,13 @@ is_of_status (SetStatus t k status dirty replicated) = true
 is_of_status (UnsetStatus t k status dirty replicated) = true
 is_of_status _ = false
 
+-- what is said tells a command that speaks of the tasks for a peer
+abbrev pub is_of_peer : Said → Bool
+is_of_peer (Drain t peer) = true
+is_of_peer (Landed t peer answers) = true
+is_of_peer (Lost t peer) = true
+is_of_peer _ = false
+
 -- what is said tells a command
 abbrev pub commands : Said → Bool
 commands (Register t n replicated) = true
@@ -70,4 +77,7 @@ commands (Adopt t n) = true
 commands (Roll t) = true
 commands (Update t) = true
 commands (Evict t) = true
+commands (Drain t peer) = true
+commands (Landed t peer answers) = true
+commands (Lost t peer) = true
 commands _ = false

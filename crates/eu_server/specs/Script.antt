@@ -1,4 +1,4 @@
--- What the lines of a script do to a registry, and what they print
+-- What the lines of a script do to a registry and its peers, and what they print
 use Rattle.std.specs.Prelude.{◌≡◌, ◌⊎◌, ℕ, Bool, true, false, not, IsTrue, List, [], ◌∷◌, ◌++◌, ◌==◌, length, Option, Some, None, Result, codes, if◌then◌else◌, refl}
 use Rattle.eu_base.specs.declared.faults.Fault.{Fault}
 use Rattle.eu_base.specs.declared.faults.Fault.TheVariants.{Exhausted}
@@ -13,43 +13,44 @@ use Rattle.eu_model.specs.declared.commands.Command.TheVariants as command
 use Rattle.eu_model.specs.declared.commands.Entry.{Entry}
 use Rattle.eu_model.specs.declared.commands.Reply.{Reply}
 use Rattle.eu_model.specs.declared.commands.Reply.TheVariants.{Evicted}
-use Rattle.eu_model.specs.Machine.{Machine, opening}
-use Rattle.eu_model.specs.Run.{Run, fault}
-use Rattle.eu_model.specs.Step.{Step}
+use Rattle.eu_model.specs.Machine.{Machine}
+use Rattle.eu_model.specs.Server as model
+use Rattle.eu_model.specs.Server.{Server, ServerStep, server_fault, Run}
 use Rattle.eu_model.specs.View.{one, counts, listing}
 use Rattle.eu_page.specs.Page.{shown_page}
 use Rattle.eu_core.specs.Evicts.{drawn_victims, drawn_state}
 use Rattle.eu_words.specs.Lines.{Said, newcomer_of, line_of}
-use Rattle.eu_words.specs.Lines.Said.{Open, Register, Renew, Cancel, SetStatus, UnsetStatus, Adopt, Roll, Update, Evict, Look, Counts, Page}
+use Rattle.eu_words.specs.Lines.Said.{Open, Register, Renew, Cancel, SetStatus, UnsetStatus, Adopt, Roll, Update, Evict, Drain, Landed, Lost, Look, Counts, Page}
 use Rattle.eu_words.specs.Words.{number_of}
-use Rattle.eu_server.specs.Texts.{reply_text, refused_text, look_text, counts_text}
+use Rattle.eu_server.specs.Texts.{reply_text, settled_text, refused_text, look_text, counts_text}
 
--- A run of the lease machine: its settings, the number of clients with which it was opened, its entries so far, and the
--- machine to which they lead
+-- A run of a server: its settings, the numbers of clients and of peers with which it was opened, its entries so far, and the
+-- server to which they lead
 pub record Ran : Type 0 where
   pub config : Config
   pub opened : ℕ
+  pub peers : ℕ
   pub entries : List Entry
-  pub machine : Machine
-  pub runs : Run (opening config opened) entries machine
+  pub server : Server
+  pub runs : Run (model.opened config opened peers) entries server
 
 -- the run before its first entry
-abbrev pub opened_with : Config → ℕ → Ran
-opened_with config n = record { config = config; opened = n; entries = []; machine = opening config n; runs = refl }
+abbrev pub opened_with : Config → ℕ → ℕ → Ran
+opened_with config n peers = record { config = config; opened = n; peers = peers; entries = []; server = model.opened config n peers; runs = refl }
 
--- one run is the other with one entry more, which is a step of the machine
+-- one run is the other with one entry more, which is a step of the server
 abbrev pub GoesOn : Ran → Entry → Ran → Type 0
 GoesOn r e next =
-    (next.config ≡ r.config) × (next.opened ≡ r.opened) × (next.entries ≡ r.entries ++ e ∷ [])
-    × (fault r.machine e.command e.moment ≡ None) × Step r.machine e.command e.moment e.reply next.machine
+    (next.config ≡ r.config) × (next.opened ≡ r.opened) × (next.peers ≡ r.peers) × (next.entries ≡ r.entries ++ e ∷ [])
+    × (server_fault r.server e.command e.moment ≡ None) × ServerStep r.server e.command e.moment e.reply next.server
 
 -- a run has so many entries at most
 abbrev pub is_full : Ran → Bool
 is_full r = length r.entries == most_entries
 
--- why a command is refused in a run, if it is: there is no room for its entry, or the machine refuses it
+-- why a command is refused in a run, if it is: there is no room for its entry, or the server refuses it
 abbrev pub refusal_in : Ran → Command → ℕ → Option Fault
-refusal_in r c t = if is_full r then Some Exhausted else fault r.machine c t
+refusal_in r c t = if is_full r then Some Exhausted else server_fault r.server c t
 
 -- what is said tells the registry this command at this moment
 abbrev pub Commands : Said → Command → ℕ → Type 0
@@ -65,18 +66,21 @@ Commands (Adopt t n) c moment = (moment ≡ t) × (i : Instance) × (newcomer_of
 Commands (Roll t) c moment = (moment ≡ t) × (c ≡ command.Roll)
 Commands (Update t) c moment = (moment ≡ t) × (c ≡ command.Update)
 Commands (Evict t) c moment = (moment ≡ t) × (c ≡ command.Evict)
+Commands (Drain t peer) c moment = (moment ≡ t) × (c ≡ command.Drain peer)
+Commands (Landed t peer answers) c moment = (moment ≡ t) × (c ≡ command.Landed peer answers)
+Commands (Lost t peer) c moment = (moment ≡ t) × (c ≡ command.Lost peer)
 Commands (Look t k) c moment = ⊥
 Commands (Counts t) c moment = ⊥
 Commands (Page t) c moment = ⊥
-Commands (Open n) c moment = ⊥
+Commands (Open n peers) c moment = ⊥
 
--- a question prints this text of the machine, and changes nothing
+-- a question prints this text of the server's machine, and changes nothing
 abbrev pub Sees : Ran → (Machine → List ℕ) → List ℕ → Ran → Type 0
-Sees r text out next = (out ≡ text r.machine) × (next ≡ r)
+Sees r text out next = (out ≡ text r.server.machine) × (next ≡ r)
 
 -- a line that says this prints out before the registry is open, and begins the run next: only one that opens it does
 abbrev pub SaysClosed : Config → Said → List ℕ → Ran → Type 0
-SaysClosed config (Open n) out next = (out ≡ codes "opened\n") × (next ≡ opened_with config n)
+SaysClosed config (Open n peers) out next = (out ≡ codes "opened\n") × (next ≡ opened_with config n peers)
 SaysClosed config _ out next = ⊥
 
 -- `asks` is the law of a chooser: its word below a bound, and its state after
@@ -91,7 +95,7 @@ module _ {C : Type 0} (asks : C → ℕ → ℕ × C) where
   -- refused prints the fault's number, and changes nothing
   abbrev pub Does : Ran → C → Command → ℕ → List ℕ → Ran → C → Type 0
   Does r x c t out next x' =
-      ((e : Entry) × (e.command ≡ c) × (e.moment ≡ t) × (e.pass ≡ 0) × (e.number ≡ length r.entries) × (is_full r ≡ false) × GoesOn r e next × Draws r.machine x c t e.reply x' × (out ≡ reply_text e.reply))
+      ((e : Entry) × (e.command ≡ c) × (e.moment ≡ t) × (e.pass ≡ 0) × (e.number ≡ length r.entries) × (is_full r ≡ false) × GoesOn r e next × Draws r.server.machine x c t e.reply x' × (out ≡ reply_text (settled_text c) e.reply))
       ⊎ ((f : Fault) × (refusal_in r c t ≡ Some f) × (out ≡ refused_text f) × (next ≡ r) × (x' ≡ x))
 
   -- what is said tells a command, which is done so
@@ -121,7 +125,7 @@ module _ {C : Type 0} (config : Config) (asks : C → ℕ → ℕ × C) where
 
 -- what is said is nothing, or may not be said here: the registry is opened once, and before anything else
 abbrev pub opens : Said → Bool
-opens (Open n) = true
+opens (Open n peers) = true
 opens _ = false
 
 abbrev pub IsMisplaced : Option Said → Option Ran → Type 0

@@ -4,11 +4,15 @@ use Rattle.std.specs.Fmt.{decimal}
 use Rattle.eu_base.specs.declared.faults.Fault.{Fault}
 use Rattle.eu_base.specs.declared.instances.Instance.{Instance}
 use Rattle.eu_base.specs.declared.names.Key.{Key}
+use Rattle.eu_base.specs.declared.tasks.Task.{Task}
+use Rattle.eu_base.specs.Action.{action_name}
 use Rattle.eu_base.specs.Fault.{fault_number}
 use Rattle.eu_base.specs.Status.{status_name}
 use Rattle.eu_book.specs.declared.book.Receipt.{Receipt}
+use Rattle.eu_model.specs.declared.commands.Command.{Command}
+use Rattle.eu_model.specs.declared.commands.Command.TheVariants.{Landed, Lost}
 use Rattle.eu_model.specs.declared.commands.Reply.{Reply}
-use Rattle.eu_model.specs.declared.commands.Reply.TheVariants.{Registered, Done, NotFound, Stale, Conflict, Last, Expected, Evicted}
+use Rattle.eu_model.specs.declared.commands.Reply.TheVariants.{Registered, Done, NotFound, Stale, Conflict, Last, Expected, Evicted, Batch, Settled}
 use Rattle.eu_model.specs.declared.views.Counts.{Counts}
 use Rattle.eu_model.specs.declared.views.Listed.{Listed}
 use Rattle.eu_model.specs.declared.views.Times.{Times}
@@ -23,17 +27,38 @@ keys_text (k ∷ ks) = codes " " ++ (k.app ++ (codes " " ++ (k.id ++ keys_text k
 abbrev pub evicted_text : List Key → List ℕ
 evicted_text ks = codes "evicted " ++ (decimal (length ks) ++ (keys_text ks ++ codes "\n"))
 
--- the printed line of a reply, by its HTTP status; a conflict tells the instance that is held
-abbrev pub reply_text : Reply → List ℕ
-reply_text (Registered fresh) = codes "204\n"
-reply_text Done = codes "200\n"
-reply_text NotFound = codes "404\n"
-reply_text Stale = codes "404\n"
-reply_text (Conflict i) =
+-- tasks, one after the other: the action and the key of each
+abbrev pub tasks_text : List Task → List ℕ
+tasks_text [] = []
+tasks_text (task ∷ tasks) = codes " " ++ (action_name task.action ++ (codes " " ++ (task.key.app ++ (codes " " ++ (task.key.id ++ tasks_text tasks)))))
+
+-- the printed line of the tasks that go in flight
+abbrev pub batch_text : List Task → List ℕ
+batch_text tasks = codes "batch " ++ (decimal (length tasks) ++ (tasks_text tasks ++ codes "\n"))
+
+-- the printed line of a command that ends a flight: whether its batch landed or was lost. No other does that
+abbrev pub settled_text : Command → List ℕ
+settled_text (Landed peer answers) = codes "landed\n"
+settled_text (Lost peer) = codes "lost\n"
+settled_text _ = []
+
+-- the printed line of a conflict: of the instance that is held, the statuses and the stamp
+abbrev pub conflict_text : Instance → List ℕ
+conflict_text i =
     codes "409 " ++ (status_name i.status ++ (codes " " ++ (status_name i.overridden ++ (codes " " ++ (decimal i.dirty ++ codes "\n")))))
-reply_text (Last n) = codes "last " ++ (decimal n ++ codes "\n")
-reply_text (Expected n) = codes "expected " ++ (decimal n ++ codes "\n")
-reply_text (Evicted ks) = evicted_text ks
+
+-- The printed line of a reply, by its HTTP status where it has one. `settled` is that of the command, if it ends a flight
+abbrev pub reply_text : List ℕ → Reply → List ℕ
+reply_text settled (Registered fresh) = codes "204\n"
+reply_text settled Done = codes "200\n"
+reply_text settled NotFound = codes "404\n"
+reply_text settled Stale = codes "404\n"
+reply_text settled (Conflict i) = conflict_text i
+reply_text settled (Last n) = codes "last " ++ (decimal n ++ codes "\n")
+reply_text settled (Expected n) = codes "expected " ++ (decimal n ++ codes "\n")
+reply_text settled (Evicted ks) = evicted_text ks
+reply_text settled (Batch tasks) = batch_text tasks
+reply_text settled Settled = settled
 
 -- the printed line of a command that is refused
 abbrev pub refused_text : Fault → List ℕ
@@ -59,6 +84,6 @@ look_text None = codes "404\n"
 look_text (Some l) = found_text l.instance l.times
 
 -- the printed line of a command's answer
-abbrev pub answer_text : Result Receipt Fault → List ℕ
-answer_text (Ok receipt) = reply_text receipt.reply
-answer_text (Err fault) = refused_text fault
+abbrev pub answer_text : List ℕ → Result Receipt Fault → List ℕ
+answer_text settled (Ok receipt) = reply_text settled receipt.reply
+answer_text settled (Err fault) = refused_text fault

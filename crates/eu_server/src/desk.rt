@@ -1,12 +1,12 @@
 //! A book that answers the lines of a script.
 ghost use Rattle.std.specs.Prelude.{◌≡◌, ◌≢◌, ◌++◌, [], None, OnOk, IfErr, IfSome, Err, IsTrue, not, string_bytes};
-ghost use Rattle.eu_server.specs.Texts.{answer_text};
+ghost use Rattle.eu_server.specs.Texts.{answer_text, settled_text};
 ghost use Rattle.eu_model.specs.Answers.{Shows};
 ghost use Rattle.eu_model.specs.View.{counts, listing};
 ghost use Rattle.eu_page.specs.Page.{shown_page};
 ghost use Rattle.eu_words.specs.Lines.{said_of};
 ghost use Rattle.eu_server.specs.Script.{opens, Commands};
-ghost use Rattle.eu_server.specs.Desk.{DeskAnswers, DeskRefuses, ClosedAnswers, OpenedAnswers, Told, commands, is_stamped, is_of_status};
+ghost use Rattle.eu_server.specs.Desk.{DeskAnswers, DeskRefuses, ClosedAnswers, OpenedAnswers, Told, commands, is_of_peer, is_stamped, is_of_status};
 
 use crate::printing::{print_counts, print_look, print_page, print_refusal, print_reply};
 use eu_base::{Config, Fault, Moment};
@@ -43,11 +43,12 @@ impl Desk {
         ensures ok { OnOk result (ClosedAnswers self.old (said_of line) (string_bytes out.new) self.new) }
         ensures bad { result ≡ Err LineError.Bad → IsTrue (not (opens (said_of line))) }
     {
-        let Line::Open(expected) = line else {
+        let Line::Open(opening) = line else {
             return Err(LineError::Bad);
         };
+        let book = Book::open(alloc, self.config, opening.expected, opening.peers)?;
         out.push_str("opened\n")?;
-        self.book = Some(Book::open(alloc, self.config, expected));
+        self.book = Some(book);
         Ok(())
     }
 }
@@ -119,7 +120,9 @@ fn answer_command<C: Chooser>(
     let Some((command, moment)) = command_of(line) else {
         return Err(LineError::Bad);
     };
-    print_answer(out, book.apply(alloc, PASS, command, moment, chooser))
+    let settled = settled_line(&command);
+    let answer = book.apply(alloc, PASS, command, moment, chooser);
+    print_answer(out, settled, answer)
 }
 
 /// The command that a line tells, and its moment; `None` where it tells none.
@@ -148,6 +151,24 @@ fn command_of(line: Line) -> Option<(Command, Moment)>
         Line::Roll { moment } => Some((Command::Roll, moment)),
         Line::Update { moment } => Some((Command::Update, moment)),
         Line::Evict { moment } => Some((Command::Evict, moment)),
+        line => peer_command_of(line),
+    }
+}
+
+/// The same of a line that speaks of the tasks for a peer, or whose stamp may be absent.
+fn peer_command_of(line: Line) -> Option<(Command, Moment)>
+    ensures some { IfSome result (λ told. Commands (said_of line) told.0 told.1) }
+    ensures none_of_peer { result ≡ None → IsTrue (not (is_of_peer (said_of line))) }
+    ensures none_stamped { result ≡ None → IsTrue (not (is_stamped (said_of line))) }
+{
+    match line {
+        Line::Drain { moment, peer } => Some((Command::Drain { peer }, moment)),
+        Line::Landed {
+            moment,
+            peer,
+            codes,
+        } => Some((Command::Landed { peer, codes }, moment)),
+        Line::Lost { moment, peer } => Some((Command::Lost { peer }, moment)),
         line => stamped_command_of(line),
     }
 }
@@ -217,14 +238,30 @@ fn status_command_of(line: Line) -> Option<(Command, Moment)>
     }
 }
 
-/// Prints the line of a command's answer. `OutOfMemory` where that is the answer, or none was left to print it.
-fn print_answer(out: &mut String, answer: Result<Receipt, Fault>) -> Result<(), LineError>
-    ensures text { OnOk result (string_bytes out.new ≡ string_bytes out.old ++ answer_text answer) }
+/// What a command prints that ends a flight; nothing for any other.
+fn settled_line(command: &Command) -> &'static str
+    ensures { result.now ≡ settled_text command.now }
+{
+    match command {
+        Command::Landed { .. } => "landed\n",
+        Command::Lost { .. } => "lost\n",
+        _ => "",
+    }
+}
+
+/// Prints the line of a command's answer; `settled` is what it prints where it ended a flight. `OutOfMemory` where that is the
+/// answer, or none was left to print it.
+fn print_answer(
+    out: &mut String,
+    settled: &str,
+    answer: Result<Receipt, Fault>,
+) -> Result<(), LineError>
+    ensures text { OnOk result (string_bytes out.new ≡ string_bytes out.old ++ answer_text settled.now answer) }
     ensures known { OnOk result (answer ≢ Err Fault.OutOfMemory) }
     ensures err { IfErr result (λ e. e ≡ LineError.OutOfMemory) }
 {
     match answer {
-        Ok(receipt) => Ok(print_reply(out, &receipt.reply)?),
+        Ok(receipt) => Ok(print_reply(out, settled, &receipt.reply)?),
         Err(Fault::OutOfMemory) => Err(LineError::OutOfMemory),
         Err(fault) => Ok(print_refusal(out, fault)?),
     }

@@ -6,7 +6,7 @@ use std::alloc::{AllocError, Global};
 use std::test::Fail;
 
 /// Whether a script of these lines, with the default settings, prints these lines.
-fn prints(alloc: Global, lines: &[(&str, &str)]) -> Result<bool, AllocError> {
+pub(crate) fn prints(alloc: Global, lines: &[(&str, &str)]) -> Result<bool, AllocError> {
     let Ok(config) = Config::new(true, 85, 30, 60_000) else {
         return Ok(false);
     };

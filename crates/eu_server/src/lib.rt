@@ -11,4 +11,6 @@ pub use script::{answer_script, run_script};
 #[cfg(test)]
 mod examples;
 #[cfg(test)]
+mod peer_tests;
+#[cfg(test)]
 mod tests;

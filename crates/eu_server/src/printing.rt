@@ -1,18 +1,19 @@
 //! What is printed.
 ghost use Rattle.std.specs.Prelude.{◌≡◌, ◌++◌, OnOk, codes, string_bytes};
-ghost use Rattle.eu_server.specs.Texts.{reply_text, evicted_text, keys_text, refused_text, found_text, look_text, counts_text};
+ghost use Rattle.eu_server.specs.Texts.{reply_text, conflict_text, evicted_text, keys_text, batch_text, tasks_text, refused_text, found_text, look_text, counts_text};
 ghost use Rattle.eu_core.specs.Shown.{shown};
 ghost use Rattle.eu_page.specs.Page.{shown_page};
-ghost use Rattle.eu_model.specs.declared.commands.Reply.TheVariants.{Conflict};
+ghost use Rattle.eu_base.specs.Action.{action_name};
 
-use eu_base::{Fault, Instance, Key};
+use eu_base::{Fault, Instance, Key, Task};
 use eu_model::{Counts, Listed, Reply, Times};
 use eu_page::{page_of, status_page};
 use std::alloc::{AllocError, Global};
 
 /// Prints the line of a reply: its HTTP status and, of a conflict, the held instance's status, overridden status and stamp.
-pub fn print_reply(out: &mut String, reply: &Reply) -> Result<(), AllocError>
-    ensures { OnOk result (string_bytes out.new ≡ string_bytes out.old ++ reply_text reply.now) }
+/// `settled` is what is printed where a batch is in flight no more.
+pub fn print_reply(out: &mut String, settled: &str, reply: &Reply) -> Result<(), AllocError>
+    ensures { OnOk result (string_bytes out.new ≡ string_bytes out.old ++ reply_text settled.now reply.now) }
 {
     match reply {
         Reply::Registered { .. } => out.push_str("204\n"),
@@ -22,11 +23,13 @@ pub fn print_reply(out: &mut String, reply: &Reply) -> Result<(), AllocError>
         Reply::Last(renewals) => writeln!(out, "last {renewals}"),
         Reply::Expected(clients) => writeln!(out, "expected {clients}"),
         Reply::Evicted(victims) => print_victims(out, victims.as_slice()),
+        Reply::Batch(tasks) => print_batch(out, tasks.as_slice()),
+        Reply::Settled => out.push_str(settled),
     }
 }
 
 fn print_conflict(out: &mut String, held: &Instance) -> Result<(), AllocError>
-    ensures { OnOk result (string_bytes out.new ≡ string_bytes out.old ++ reply_text (Conflict held.now)) }
+    ensures { OnOk result (string_bytes out.new ≡ string_bytes out.old ++ conflict_text held.now) }
 {
     let status = held.status.name();
     let overridden = held.overridden.name();
@@ -59,6 +62,32 @@ fn print_key(out: &mut String, key: &Key) -> Result<(), AllocError>
     out.push_str(key.app.as_str())?;
     out.push_str(" ")?;
     out.push_str(key.id.as_str())
+}
+
+fn print_batch(out: &mut String, tasks: &[Task]) -> Result<(), AllocError>
+    ensures { OnOk result (string_bytes out.new ≡ string_bytes out.old ++ batch_text tasks.now) }
+{
+    let number = tasks.len();
+    write!(out, "batch {number}")?;
+    print_tasks(out, tasks)?;
+    out.push_str("\n")
+}
+
+fn print_tasks(out: &mut String, tasks: &[Task]) -> Result<(), AllocError>
+    ensures { OnOk result (string_bytes out.new ≡ string_bytes out.old ++ tasks_text tasks.now) }
+{
+    for task in tasks {
+        print_task(out, task)?;
+    }
+    Ok(())
+}
+
+fn print_task(out: &mut String, task: &Task) -> Result<(), AllocError>
+    ensures { OnOk result (string_bytes out.new ≡ string_bytes out.old ++ (codes " " ++ (action_name task.now.action ++ (codes " " ++ (task.now.key.app ++ (codes " " ++ task.now.key.id)))))) }
+{
+    out.push_str(" ")?;
+    out.push_str(task.action.name())?;
+    print_key(out, &task.key)
 }
 
 /// Prints the line of a command that is refused: the fault's number.

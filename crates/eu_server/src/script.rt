@@ -17,7 +17,8 @@ use std::io::{Read, Write};
 /// Lines end with LF, and the last one may end with the text. An empty line prints nothing. In any other, words stand
 /// between single spaces:
 ///
-/// - `open N` opens the registry, which expects N clients, and prints `opened`. It stands once, before the others.
+/// - `open N` or `open N P` opens the registry, which expects N clients and has P peers (none where P isn't told), and prints
+///   `opened`. It stands once, before the others.
 /// - `register T APP ID SECS STATUS OVR DIRTY SRC` registers an instance of this status and overridden status with a lease
 ///   of SECS seconds (0 stands for 90) and the stamp DIRTY (`-` stands for T), and prints `204`.
 /// - `renew T APP ID DIRTY OVR SRC` renews a lease, and prints `200`, or `404` where none is held, or its status would be
@@ -37,6 +38,13 @@ use std::io::{Read, Write};
 /// - `update T` counts the clients anew, and prints `expected N`: how many are expected from now on.
 /// - `evict T` makes a pass, and prints `evicted K` and the application and the id of each of the K victims, in the order in
 ///   which the chooser drew them.
+/// - `drain T P` drops the tasks for the peer P that were queued more than 30 s before, has the first 250 of the others go in
+///   flight to it, and prints `batch K` and the action, the application and the id of each of these K, in their order. An action
+///   is `Register`, `Heartbeat`, `Cancel`, `StatusUpdate` or `DeleteStatusOverride`.
+/// - `landed T P CODE ..` ends that flight, and prints `landed`: the peer answered the tasks by these HTTP statuses, one for each,
+///   in their order. Where it answered a heartbeat by 404, the registration of that instance is queued.
+/// - `lost T P` ends that flight, and prints `lost`: of its tasks, those that were queued no more than 30 s before and of whose
+///   action and key none waits now wait again, before the others.
 /// - `look T APP ID` prints `found STATUS OVERRIDDEN dirty D secs S registered R up U updated P`, or `404` where no lease
 ///   is visible: none is held, or it has expired and eviction is permitted.
 /// - `counts T` prints `held H expected E threshold V last L permitted yes`, or `no`.
@@ -45,7 +53,8 @@ use std::io::{Read, Write};
 /// T is a moment in milliseconds, up to 2^62. APP and ID have 1 to 255 bytes of UTF-8; APP's ASCII letters are put in
 /// capitals. SECS is at most 2,147,483, and DIRTY at most 2^63 - 1. STATUS and OVR are `UP`, `DOWN`, `STARTING`,
 /// `OUT_OF_SERVICE` or `UNKNOWN`. SRC is `c` for a client, and `r` for a peer that replicates. A number has 1 to 20
-/// digits. Where a command is refused, the line prints `refused` and the fault's number, nothing changes, and the script goes on:
+/// digits. There are 8 peers at most, which are numbered from 0; P in the other lines is below 2^32, and a CODE is 100 to 999.
+/// Where a command is refused, the line prints `refused` and the fault's number, nothing changes, and the script goes on:
 /// `refused 6` comes before every other where 65,536 commands were answered, since their journal is kept.
 ///
 /// `BadLine` comes where a line is none of these, or has more than 4,096 bytes; `Read` where a read failed, or the script

@@ -23,7 +23,7 @@ fn run<R: Read>(
 }
 
 /// Whether a script of these settings runs to its end and prints this.
-fn prints(alloc: Global, config: Config, text: &[u8], printed: &[u8]) -> bool {
+pub(crate) fn prints(alloc: Global, config: Config, text: &[u8], printed: &[u8]) -> bool {
     let mut reader = text;
     let mut out = Vec::new(alloc);
     let result = run_script(alloc, &mut reader, &mut out, config, &mut FirstChooser);
@@ -495,6 +495,17 @@ fn bad_lines_are_told(rt: HostRuntime) -> Result<(), Fail> {
         (b"open 1\npage 0 A\n", b"opened\n", 2),
         (b"open 1\npage x\n", b"opened\n", 2),
         (b"open 1\npage 4611686018427387905\n", b"opened\n", 2),
+        (b"open 0 9\n", b"", 1),
+        (b"open 0 1 1\n", b"", 1),
+        (b"open 0 1\nopen 0 1\n", b"opened\n", 2),
+        (b"open 0 1\ndrain 0\n", b"opened\n", 2),
+        (b"open 0 1\ndrain 0 4294967296\n", b"opened\n", 2),
+        (b"open 0 1\nlanded 0 0 99\n", b"opened\n", 2),
+        (b"open 0 1\nlanded 0 0 200 1000\n", b"opened\n", 2),
+        (b"open 0 1\nlost 0 0 200\n", b"opened\n", 2),
+        (b"drain 0 0\n", b"", 1),
+        (b"landed 0 0\n", b"", 1),
+        (b"lost 0 0\n", b"", 1),
         (b"page 0\n", b"", 1),
         (b"look 0 A i1\n", b"", 1),
         (b"set 0 A i1 UP - c\n", b"", 1),
@@ -555,10 +566,10 @@ fn conflicts_and_refusals_are_told(rt: HostRuntime) -> Result<(), Fail> {
         interval: 30,
         rest: Rest::of_host(rt.alloc(), "h")?,
     };
-    print_reply(&mut out, &Reply::Conflict(held))?;
+    print_reply(&mut out, "", &Reply::Conflict(held))?;
     print_refusal(&mut out, Fault::Full)?;
-    print_reply(&mut out, &Reply::Last(4))?;
-    print_reply(&mut out, &Reply::Expected(9))?;
+    print_reply(&mut out, "", &Reply::Last(4))?;
+    print_reply(&mut out, "", &Reply::Expected(9))?;
     assert_eq!(rt;
         out.as_str(),
         "409 OUT_OF_SERVICE UNKNOWN 7\nrefused 7\nlast 4\nexpected 9\n"

@@ -10,9 +10,8 @@ use Rattle.eu_http.specs.declared.exchange.Ask.TheVariants.{Do, See}
 use Rattle.eu_http.specs.declared.exchange.Outcome.{Outcome}
 use Rattle.eu_http.specs.declared.exchange.Outcome.TheVariants.{Refused, Forbidden, Answers}
 use Rattle.eu_model.specs.declared.commands.Entry.{Entry}
-use Rattle.eu_model.specs.Answers as model
-use Rattle.eu_model.specs.Machine.{Machine}
-use Rattle.eu_model.specs.Run.{Run}
+use Rattle.eu_model.specs.Server.{Server, Run}
+use Rattle.eu_model.specs.ServerAnswers as model
 use Rattle.eu_session.specs.declared.faults.SessionFault.{SessionFault}
 use Rattle.eu_session.specs.declared.faults.SessionFault.TheVariants.{Read, Write, OutOfMemory}
 use Rattle.eu_session.specs.Book.{BookAsks, BookTurns, BookSession, GrewBy, entry_of, entries_of, AddsTurn, AddTurns}
@@ -21,7 +20,7 @@ use Rattle.eu_session.specs.Session.{Ends}
 use Rattle.eu_session.specs.Turn.{State, Turn, Step, ComesOf}
 
 -- one run after another
-run_on : (s : Machine) (es fs : List Entry) (mid new : Machine) → Run s es mid → Run mid fs new → Run s (es ++ fs) new
+run_on : (s : Server) (es fs : List Entry) (mid new : Server) → Run s es mid → Run mid fs new → Run s (es ++ fs) new
 run_on s [] fs mid new e run = subst (λ m. Run m fs new) e run
 run_on s (e ∷ es) fs mid new (next, none, step, rest) run = (next, none, step, run_on next es fs mid new rest run)
 
@@ -42,7 +41,7 @@ goes_on a b c es fs one two = record {
 
 -- one ask
 asks : (a b : Account) (ask : Ask) (t : ℕ) (r : Result Answer Fault) → BookAsks a ask t r b → GrewBy a (entry_of a.totals.steps t ask r) b
-unfolding model.Answers model.IsAnswer
+unfolding model.ServerAnswers model.IsServerAnswer
 asks a b (Do c) t (Ok (Did reply)) (number, x, x', applies) =
     let whole = applies.whole in
     let same = ap (λ n. entry 0 n c t reply ∷ []) applies.numbered in record {

@@ -13,9 +13,7 @@ use Rattle.eu_http.specs.declared.exchange.Outcome.TheVariants.{Refused, Forbidd
 use Rattle.eu_http.specs.Asks.{said_by, asks_of}
 use Rattle.eu_model.specs.declared.commands.Entry.{Entry}
 use Rattle.eu_model.specs.Answers.{Shows}
-use Rattle.eu_model.specs.Machine.{Machine}
-use Rattle.eu_model.specs.Plain.{Plain, plain}
-use Rattle.eu_model.specs.Run.{Run}
+use Rattle.eu_model.specs.Server.{Server, PlainServer, Run, plain_server}
 use Rattle.eu_model.specs.View.{view}
 use Rattle.eu_session.specs.declared.faults.SessionFault.{SessionFault}
 use Rattle.eu_session.specs.Chain.{Chain}
@@ -32,7 +30,7 @@ BookAsks a (Do c) t (Ok (Did reply)) b = (number : ℕ) × (x : FirstChooser) ×
 BookAsks a (Do c) t (Ok (Saw v)) b = ⊥
 BookAsks a (Do c) t (Err f) b = Refuses a c t f × (b ≡ a)
 BookAsks a (See q) t (Ok (Did reply)) b = ⊥
-BookAsks a (See q) t (Ok (Saw v)) b = Shows a.state (λ s. view s q t) v × (b ≡ a)
+BookAsks a (See q) t (Ok (Saw v)) b = Shows a.state.registry (λ s. view s q t) v × (b ≡ a)
 BookAsks a (See q) t (Err f) b = (f ≡ OutOfMemory) × (b ≡ a)
 
 -- what an ask at a moment adds to the journal, by its answer: the entry of a command that was answered, with the pass 0 and the number n
@@ -59,11 +57,11 @@ AddTurns n [] entries = entries ≡ []
 AddTurns n (t ∷ ts) entries =
     (here : List Entry) × (others : List Entry) × (entries ≡ here ++ others) × AddsTurn n t t.outcome here × AddTurns (n + length here) ts others
 
--- from each machine with the plain form p, the entries are a run to one with the plain form q
-abbrev pub RunsFrom : Plain → List Entry → Plain → Type 0
-RunsFrom p entries q = (s : Machine) → plain s ≡ p → (s' : Machine) × Run s entries s' × (plain s' ≡ q)
+-- from each server with the plain form p, the entries are a run to one with the plain form q
+abbrev pub RunsFrom : PlainServer → List Entry → PlainServer → Type 0
+RunsFrom p entries q = (s : Server) → plain_server s ≡ p → (s' : Server) × Run s entries s' × (plain_server s' ≡ q)
 
--- a journal goes on: it has these entries more, which are a run from what the registry was to what it is
+-- a journal goes on: it has these entries more, which are a run from what the registry and its peers' queues were to what they are
 pub record GrewBy (a : Account) (entries : List Entry) (b : Account) : Type 0 where
   pub base : b.base ≡ a.base
   pub first : b.first ≡ a.first

@@ -9,7 +9,7 @@ use Rattle.eu_base.specs.declared.instances.Instance.{Instance}
 use Rattle.eu_lines.specs.declared.faults.LineError.{LineError}
 use Rattle.eu_words.specs.declared.lines.Line.{Line}
 use Rattle.eu_words.specs.declared.lines.Line.TheVariants as line
-use Rattle.eu_words.specs.Words.{◌>>=◌, Field, Fails, words_of, word_at, end_at, number_at, moment_at, key_at, status_at, maybe_status_at, secs_at, number_of, stamp_at, dirty_at, source_at}
+use Rattle.eu_words.specs.Words.{◌>>=◌, Field, Fails, words_of, word_at, end_at, number_at, moment_at, key_at, status_at, maybe_status_at, secs_at, number_of, stamp_at, dirty_at, source_at, peers_at, peer_at, codes_of}
 
 -- an instance as a line says it
 pub record Newcomer : Type 0 where
@@ -26,8 +26,8 @@ newcomer_of i = record { key = i.key; status = i.status; overridden = i.overridd
 
 -- what a line says, and first its moment in milliseconds
 pub data Said : Type 0 where
-  -- the registry is to be opened, with so many clients expected
-  Open : ℕ → Said
+  -- the registry is to be opened, with so many clients expected, and so many peers
+  Open : ℕ → ℕ → Said
   -- the instance is to be registered, and whether a peer sends it
   Register : ℕ → Newcomer → Bool → Said
   -- the lease is to be renewed; the instance's stamp and the status that overrides its own, if they are told, and whether a peer sends it
@@ -47,6 +47,12 @@ pub data Said : Type 0 where
   Update : ℕ → Said
   -- leases that have expired are to be evicted
   Evict : ℕ → Said
+  -- the next tasks are to go in flight to the peer
+  Drain : ℕ → ℕ → Said
+  -- the batch in flight to the peer has landed, and its tasks were answered by these codes
+  Landed : ℕ → ℕ → List ℕ → Said
+  -- the batch in flight to the peer was lost
+  Lost : ℕ → ℕ → Said
   -- the lease is asked for
   Look : ℕ → Key → Said
   -- the counts are asked for
@@ -56,7 +62,7 @@ pub data Said : Type 0 where
 
 -- what a line that was read says
 abbrev pub said_of : Line → Said
-said_of (line.Open n) = Open n
+said_of (line.Open opening) = Open opening.expected opening.peers
 said_of (line.Register t i replicated) = Register t (newcomer_of i) replicated
 said_of (line.Renew t k dirty overridden replicated) = Renew t k (number_of dirty) overridden replicated
 said_of (line.Cancel t k replicated) = Cancel t k replicated
@@ -66,16 +72,44 @@ said_of (line.Adopt t i) = Adopt t (newcomer_of i)
 said_of (line.Roll t) = Roll t
 said_of (line.Update t) = Update t
 said_of (line.Evict t) = Evict t
+said_of (line.Drain t peer) = Drain t peer
+said_of (line.Landed t peer codes) = Landed t peer codes
+said_of (line.Lost t peer) = Lost t peer
 said_of (line.Look t k) = Look t k
 said_of (line.Counts t) = Counts t
 said_of (line.Page t) = Page t
 
--- N, below 2^32
+-- N, below 2^32, and P, up to 8, which may be left out for 0
 unfoldable pub open_says : List (List ℕ) → Option Said
 open_says ws = do
   n ← number_at (2 ^ 32 - 1) ws
-  e ← end_at n.1
-  Some (Open n.0)
+  peers ← peers_at n.1
+  e ← end_at peers.1
+  Some (Open n.0 peers.0)
+
+-- T P
+unfoldable pub drain_says : List (List ℕ) → Option Said
+drain_says ws = do
+  t ← moment_at ws
+  peer ← peer_at t.1
+  e ← end_at peer.1
+  Some (Drain t.0 peer.0)
+
+-- the same
+unfoldable pub lost_says : List (List ℕ) → Option Said
+lost_says ws = do
+  t ← moment_at ws
+  peer ← peer_at t.1
+  e ← end_at peer.1
+  Some (Lost t.0 peer.0)
+
+-- T P and any number of codes
+unfoldable pub landed_says : List (List ℕ) → Option Said
+landed_says ws = do
+  t ← moment_at ws
+  peer ← peer_at t.1
+  codes ← codes_of peer.1
+  Some (Landed t.0 peer.0 codes)
 
 -- APP ID SECS STATUS OVR DIRTY: an absent stamp is the moment. The host is the id, and renewals are meant to come each 30 s
 unfoldable pub newcomer_at : ℕ → Field Newcomer
@@ -166,6 +200,15 @@ moment_says verb ws = do
       else if bytes_eq verb (codes "page") then Some (Page t.0)
       else None
 
+-- the words behind any other verb than those of clients and of adoptions
+abbrev pub others_say : List ℕ → List (List ℕ) → Option Said
+others_say verb ws =
+    if bytes_eq verb (codes "drain") then drain_says ws
+    else if bytes_eq verb (codes "landed") then landed_says ws
+    else if bytes_eq verb (codes "lost") then lost_says ws
+    else if bytes_eq verb (codes "look") then look_says ws
+    else moment_says verb ws
+
 -- the verb, which stands first, tells which line it is
 unfoldable pub words_say : List (List ℕ) → Option Said
 words_say ws = do
@@ -177,8 +220,7 @@ words_say ws = do
       else if bytes_eq verb.0 (codes "set") then set_says verb.1
       else if bytes_eq verb.0 (codes "unset") then unset_says verb.1
       else if bytes_eq verb.0 (codes "adopt") then adopt_says verb.1
-      else if bytes_eq verb.0 (codes "look") then look_says verb.1
-      else moment_says verb.0 verb.1
+      else others_say verb.0 verb.1
 
 -- what a line says, if it says anything
 abbrev pub line_of : List ℕ → Option Said

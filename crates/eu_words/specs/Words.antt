@@ -134,3 +134,31 @@ source_at ws = do
   if bytes_eq w.0 (codes "c") then Some (false, w.1)
       else if bytes_eq w.0 (codes "r") then Some (true, w.1)
       else None
+
+-- how many peers there are: up to 8; 0 where no word is left
+unfoldable pub peers_at : Field ℕ
+peers_at [] = Some (0, [])
+peers_at (w ∷ ws) = number_at 8 (w ∷ ws)
+
+-- the number of a peer, below 2^32
+abbrev pub peer_at : Field ℕ
+peer_at ws = number_at (2 ^ 32 - 1) ws
+
+-- an HTTP status: 100 to 999
+unfoldable pub code_at : Field ℕ
+code_at ws = do
+  n ← number_at 999 ws
+  if nat_lt n.0 100 then None else Some n
+
+-- each word that is left is one
+abbrev pub codes_of : List (List ℕ) → Option (List ℕ)
+codes_of [] = Some []
+codes_of (w ∷ ws) = do
+  n ← code_at (w ∷ [])
+  ns ← codes_of ws
+  Some (n.0 ∷ ns)
+
+-- the codes that were read are what is said; where memory ran out, nothing is known
+abbrev pub IsCodes : Result (List ℕ) LineError → Option (List ℕ) → Type 0
+IsCodes (Ok codes) said = said ≡ Some codes
+IsCodes (Err e) said = Fails e said

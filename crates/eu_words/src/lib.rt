@@ -2,9 +2,11 @@
 #![tactic(auto)]
 
 mod lines;
+mod openings;
 mod words;
 
 pub use lines::{Line, read_line};
+pub use openings::Opening;
 
 #[cfg(test)]
 mod tests;

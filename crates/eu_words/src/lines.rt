@@ -1,18 +1,19 @@
 //! What a line says.
 ghost use Rattle.std.specs.Prelude.{◌≢◌, Err};
 ghost use Rattle.eu_words.specs.Words.{Gives};
-ghost use Rattle.eu_words.specs.Lines.{IsReading, line_of, words_say, open_says, newcomer_of, newcomer_at, register_says, renew_says, cancel_says, set_says, unset_says, adopt_says, look_says, moment_says};
+ghost use Rattle.eu_words.specs.Lines.{IsReading, line_of, words_say, open_says, drain_says, landed_says, lost_says, others_say, newcomer_of, newcomer_at, register_says, renew_says, cancel_says, set_says, unset_says, adopt_says, look_says, moment_says};
 
+use crate::openings::Opening;
 use crate::words::{Words, is_text};
-use eu_base::{Instance, Key, Moment, Rest, Stamp, Status};
+use eu_base::{Codes, Instance, Key, Moment, Rest, Stamp, Status};
 use eu_lines::LineError;
 use std::alloc::Global;
 
 /// What a line says.
 #[derive(Drop)]
 pub enum Line {
-    /// The registry is to be opened, with so many clients expected.
-    Open(u32),
+    /// The registry is to be opened.
+    Open(Opening),
     /// An instance is to be registered.
     Register {
         /// When.
@@ -92,6 +93,29 @@ pub enum Line {
         /// When.
         moment: Moment,
     },
+    /// The next tasks are to go in flight to a peer.
+    Drain {
+        /// When.
+        moment: Moment,
+        /// The peer's number, from 0.
+        peer: u32,
+    },
+    /// The batch in flight to a peer has landed.
+    Landed {
+        /// When.
+        moment: Moment,
+        /// The peer's number, from 0.
+        peer: u32,
+        /// What its tasks were answered.
+        codes: Codes,
+    },
+    /// The batch in flight to a peer was lost.
+    Lost {
+        /// When.
+        moment: Moment,
+        /// The peer's number, from 0.
+        peer: u32,
+    },
     /// A lease is asked for.
     Look {
         /// When.
@@ -113,12 +137,14 @@ pub enum Line {
 
 /// What a line says, by its words. The first is its verb, and T is a moment in milliseconds.
 ///
-/// - `open N`: N is below 2^32.
+/// - `open N`, `open N P`: N is below 2^32, and P, the number of peers, up to 8; without it there are none.
 /// - `register T APP ID SECS STATUS OVR DIRTY SRC`, `adopt T APP ID SECS STATUS OVR DIRTY`: SECS is 0 to 2,147,483, and 0
 ///   means 90. DIRTY is a stamp, and `-` means T.
 /// - `renew T APP ID DIRTY OVR SRC`, `set T APP ID STATUS DIRTY SRC`, `unset T APP ID STATUS DIRTY SRC`: DIRTY may be `-` for
 ///   none, as may the OVR of `renew` and the STATUS of `unset`.
 /// - `cancel T APP ID SRC`, `look T APP ID`.
+/// - `drain T P`, `lost T P`, `landed T P CODE..`: P is the number of a peer, from 0, below 2^32; a CODE is 100 to 999, and there are
+///   any number of them.
 /// - `roll T`, `update T`, `evict T`, `counts T`, `page T`.
 ///
 /// APP and ID are names, STATUS and OVR statuses in capitals. SRC is `c` for a client, or `r` for a peer.
@@ -156,6 +182,22 @@ fn say(alloc: Global, words: &mut Words<'_>) -> Result<Line, LineError>
     if is_text(verb, "adopt") {
         return adopt_line(alloc, words);
     }
+    other_line(alloc, verb, words)
+}
+
+/// What the words behind another verb say.
+fn other_line(alloc: Global, verb: &[u8], words: &mut Words<'_>) -> Result<Line, LineError>
+    ensures { IsReading result (others_say verb.now words.old) }
+{
+    if is_text(verb, "drain") {
+        return drain_line(words);
+    }
+    if is_text(verb, "landed") {
+        return landed_line(alloc, words);
+    }
+    if is_text(verb, "lost") {
+        return lost_line(words);
+    }
     if is_text(verb, "look") {
         return look_line(alloc, words);
     }
@@ -168,8 +210,48 @@ fn open_line(words: &mut Words<'_>) -> Result<Line, LineError>
     ensures memory { result ≢ Err LineError.OutOfMemory }
 {
     let expected = words.number_at(u64::from(u32::MAX))?;
+    let peers = words.peers_at()?;
     words.end()?;
-    Ok(Line::Open(expected as u32))
+    Ok(Line::Open(Opening {
+        expected: expected as u32,
+        peers,
+    }))
+}
+
+#[tactic(auto, unfolding(crate::specs::Lines::drain_says))]
+fn drain_line(words: &mut Words<'_>) -> Result<Line, LineError>
+    ensures said { IsReading result (drain_says words.old) }
+    ensures memory { result ≢ Err LineError.OutOfMemory }
+{
+    let moment = words.moment_at()?;
+    let peer = words.peer_at()?;
+    words.end()?;
+    Ok(Line::Drain { moment, peer })
+}
+
+#[tactic(auto, unfolding(crate::specs::Lines::lost_says))]
+fn lost_line(words: &mut Words<'_>) -> Result<Line, LineError>
+    ensures said { IsReading result (lost_says words.old) }
+    ensures memory { result ≢ Err LineError.OutOfMemory }
+{
+    let moment = words.moment_at()?;
+    let peer = words.peer_at()?;
+    words.end()?;
+    Ok(Line::Lost { moment, peer })
+}
+
+#[tactic(auto, unfolding(crate::specs::Lines::landed_says))]
+fn landed_line(alloc: Global, words: &mut Words<'_>) -> Result<Line, LineError>
+    ensures { IsReading result (landed_says words.old) }
+{
+    let moment = words.moment_at()?;
+    let peer = words.peer_at()?;
+    let codes = words.codes(alloc)?;
+    Ok(Line::Landed {
+        moment,
+        peer,
+        codes,
+    })
 }
 
 #[tactic(auto, unfolding(crate::specs::Lines::register_says))]

@@ -68,10 +68,27 @@ fn tell_stamped(text: &mut String, line: &Line) -> Result<(), AllocError> {
     }
 }
 
+/// Writes what a line says of the tasks for a peer.
+fn tell_peer(text: &mut String, line: &Line) -> Result<(), AllocError> {
+    match line {
+        Line::Drain { moment, peer } => write!(text, "drain {} {peer}", moment.ms()),
+        Line::Landed {
+            moment,
+            peer,
+            codes,
+        } => {
+            let codes = codes.as_slice();
+            write!(text, "landed {} {peer} {codes:?}", moment.ms())
+        }
+        Line::Lost { moment, peer } => write!(text, "lost {} {peer}", moment.ms()),
+        _ => tell_stamped(text, line),
+    }
+}
+
 /// Writes what a line says, field by field.
 fn tell(text: &mut String, line: &Line) -> Result<(), AllocError> {
     match line {
-        Line::Open(expected) => write!(text, "open {expected}"),
+        Line::Open(opening) => write!(text, "open {} {}", opening.expected, opening.peers),
         Line::Register {
             moment,
             instance,
@@ -95,7 +112,7 @@ fn tell(text: &mut String, line: &Line) -> Result<(), AllocError> {
         Line::Look { moment, key } => tell_key(text, "look", moment, key),
         Line::Counts { moment } => write!(text, "counts {}", moment.ms()),
         Line::Page { moment } => write!(text, "page {}", moment.ms()),
-        _ => tell_stamped(text, line),
+        _ => tell_peer(text, line),
     }
 }
 
@@ -110,8 +127,11 @@ fn told(alloc: Global, line: &str) -> Result<String, LineError> {
 #[test]
 fn lines_are_read(rt: HostRuntime) -> Result<(), Fail> {
     let cases = [
-        ("open 0", "open 0"),
-        ("open 4294967295", "open 4294967295"),
+        // there is no peer where none is told
+        ("open 0", "open 0 0"),
+        ("open 4294967295", "open 4294967295 0"),
+        ("open 1 0", "open 1 0"),
+        ("open 1 00000000000000000008", "open 1 8"),
         (
             "register 5 my-app I-1 30 UP UNKNOWN 7 c",
             "register 5 MY-APP I-1 30 Up Unknown 7 false",
@@ -150,6 +170,15 @@ fn lines_are_read(rt: HostRuntime) -> Result<(), Fail> {
         ("roll 00000000000000000005", "roll 5"),
         ("update 5", "update 5"),
         ("evict 5", "evict 5"),
+        ("drain 5 0", "drain 5 0"),
+        (
+            "drain 00000000000000000005 04294967295",
+            "drain 5 4294967295",
+        ),
+        ("landed 5 1", "landed 5 1 []"),
+        ("landed 5 1 100", "landed 5 1 [100]"),
+        ("landed 5 1 999 0404 200", "landed 5 1 [999, 404, 200]"),
+        ("lost 5 7", "lost 5 7"),
         ("look 5 a i", "look 5 A i"),
         ("counts 0", "counts 0"),
         ("page 00000000000000000007", "page 7"),
@@ -170,6 +199,10 @@ fn bad_lines_are_refused(rt: HostRuntime) {
         "open 4294967296",
         "open +1",
         "open 1 ",
+        "open 1 9",
+        "open 1 -",
+        "open 1 8 0",
+        "open 1  1",
         " open 1",
         "OPEN 1",
         "close",
@@ -195,6 +228,24 @@ fn bad_lines_are_refused(rt: HostRuntime) {
         "roll 000000000000000000005",
         "update",
         "evict 5 5",
+        "drain 5",
+        "drain 4611686018427387905 0",
+        "drain 5 4294967296",
+        "drain 5 -1",
+        "drain 5 0 0",
+        "drain 5 0 ",
+        "drain 5  0",
+        "landed 5",
+        "landed 5 4294967296 200",
+        "landed 5 0 99",
+        "landed 5 0 1000",
+        "landed 5 0 200 x",
+        "landed 5 0 200  404",
+        "landed 5 0 ",
+        "lost 5",
+        "lost 5 4294967296",
+        "lost 5 0 200",
+        "lost 5  0",
         "look 5 A",
         "counts 5\r",
         "page",

@@ -1,9 +1,9 @@
 //! The words of a line.
 ghost use Rattle.std.specs.Prelude.{◌≡◌, ◌≢◌, ◌∷◌, ◌^◌, ◌<◌, ◌≤◌, List, ℕ, IfOk, Err};
 ghost use Rattle.std.specs.Str.{bytes_eq};
-ghost use Rattle.eu_words.specs.Words.{words_of, words_left, number, Gives, word_at, absent_at, number_at, moment_at, app_at, id_at, key_at, status_at, maybe_status_at, secs_at, number_of, stamp_at, dirty_at, source_at, end_at};
+ghost use Rattle.eu_words.specs.Words.{words_of, words_left, number, Gives, word_at, absent_at, number_at, moment_at, app_at, id_at, key_at, status_at, maybe_status_at, secs_at, number_of, stamp_at, dirty_at, source_at, peers_at, peer_at, code_at, codes_of, IsCodes, end_at};
 
-use eu_base::{App, Fault, Id, Instance, Key, Moment, Stamp, Status};
+use eu_base::{App, Codes, Fault, Id, Instance, Key, Moment, Stamp, Status};
 use eu_lines::LineError;
 use std::alloc::Global;
 use std::marker::Model;
@@ -14,6 +14,9 @@ const LAST_STAMP: u64 = 0x7fff_ffff_ffff_ffff;
 
 /// The last moment, 2^62 ms.
 const LAST_MOMENT: u64 = 1 << 62;
+
+/// The most peers.
+const MOST_PEERS: u64 = 8;
 
 /// The longest duration of a lease, in seconds.
 const LONGEST_SECS: u64 = 2_147_483;
@@ -91,6 +94,53 @@ impl<'a> Words<'a> {
             return Err(LineError::Bad);
         }
         Ok(n as u64)
+    }
+
+    /// The number of peers, up to 8, or 0 where no word is left; else `Bad`.
+    #[tactic(auto, unfolding(crate::specs::Words::peers_at))]
+    pub fn peers_at(&mut self) -> Result<u32, LineError>
+        ensures said { Gives (λ n. n) result self.new (peers_at self.old) }
+        ensures few { IfOk result (λ n. n ≤ 8) }
+        ensures memory { result ≢ Err LineError.OutOfMemory }
+    {
+        if self.rest.is_none() {
+            return Ok(0);
+        }
+        let peers = self.number_at(MOST_PEERS)?;
+        Ok(peers as u32)
+    }
+
+    /// The number of a peer, below 2^32, else `Bad`.
+    pub fn peer_at(&mut self) -> Result<u32, LineError>
+        ensures said { Gives (λ n. n) result self.new (peer_at self.old) }
+        ensures memory { result ≢ Err LineError.OutOfMemory }
+    {
+        let peer = self.number_at(u64::from(u32::MAX))?;
+        Ok(peer as u32)
+    }
+
+    /// An HTTP status, 100 to 999, else `Bad`.
+    #[tactic(auto, unfolding(crate::specs::Words::code_at))]
+    fn code(&mut self) -> Result<u16, LineError>
+        ensures said { Gives (λ n. n) result self.new (code_at self.old) }
+        ensures memory { result ≢ Err LineError.OutOfMemory }
+    {
+        let code = self.number_at(999)?;
+        if code < 100 {
+            return Err(LineError::Bad);
+        }
+        Ok(code as u16)
+    }
+
+    /// The HTTP statuses that are left, each 100 to 999, else `Bad`; `OutOfMemory`. No word is left behind them.
+    pub fn codes(&mut self, alloc: Global) -> Result<Codes, LineError>
+        ensures { IsCodes result (codes_of self.old) }
+    {
+        let mut codes = Vec::new(alloc);
+        'words: while self.rest.is_some() {
+            codes.push(self.code()?)?;
+        }
+        Ok(Codes::new(codes))
     }
 
     /// A moment, else `Bad`.

@@ -1,8 +1,9 @@
 //! Values from the rules of Eureka's registry, worked out by hand.
+use crate::tests::texts::{joined, push_number, push_numbers};
 use eu_base::{App, Config, Fault, Id, Instance, Key, Moment, Rest, Stamp, Status};
 use eu_clock::{Chooser, FirstChooser, ListChooser};
 use eu_core::Registry;
-use eu_model::Reply;
+use eu_model::{Keys, Reply};
 use std::alloc::{AllocError, Global};
 use std::test::Fail;
 
@@ -28,6 +29,23 @@ enum Call {
     Roll,
     Update,
     Evict,
+}
+
+/// What is told of a registry, or asked of it.
+#[derive(Clone, Copy)]
+enum Line {
+    Do(Call),
+    /// The lease of that id.
+    Look(&'static str),
+    Counts,
+    /// The ids that are listed of that application.
+    Of(&'static str),
+    /// The ids that are listed of all applications.
+    All,
+}
+
+pub fn at(ms: u64) -> Result<Moment, Fault> {
+    Moment::new(ms).ok_or(Fault::BadValue)
 }
 
 pub fn key(alloc: Global, app: &str, id: &str) -> Result<Key, Fault> {
@@ -71,6 +89,66 @@ fn join(
     registry.register(alloc, instance, false, now)
 }
 
+fn adopt(
+    alloc: Global,
+    registry: &mut Registry,
+    id: &str,
+    over: Status,
+    dirty: u64,
+    secs: u32,
+    now: Moment,
+) -> Result<Reply, Fault> {
+    let instance = instance(alloc, id, (Status::Up, over), dirty, secs)?;
+    registry.adopt(alloc, instance, now)
+}
+
+fn renew(
+    alloc: Global,
+    registry: &mut Registry,
+    id: &str,
+    stamp: Option<u64>,
+    over: Option<Status>,
+    replicated: bool,
+    now: Moment,
+) -> Result<Reply, Fault> {
+    let key = key(alloc, "A", id)?;
+    registry.renew(
+        alloc,
+        &key,
+        stamp.and_then(Stamp::new),
+        over,
+        replicated,
+        now,
+    )
+}
+
+fn set(
+    alloc: Global,
+    registry: &mut Registry,
+    id: &str,
+    status: Status,
+    now: Moment,
+) -> Result<Reply, Fault> {
+    let key = key(alloc, "A", id)?;
+    registry.set_status(alloc, &key, status, None, now)
+}
+
+fn unset(
+    alloc: Global,
+    registry: &mut Registry,
+    id: &str,
+    status: Option<Status>,
+    now: Moment,
+) -> Result<Reply, Fault> {
+    let key = key(alloc, "A", id)?;
+    Ok(registry.unset_status(&key, status, None, now))
+}
+
+fn cancel(alloc: Global, registry: &mut Registry, app: &str, id: &str) -> Result<Reply, Fault> {
+    let key = key(alloc, app, id)?;
+    Ok(registry.cancel(&key))
+}
+
 fn answer<C: Chooser>(
     alloc: Global,
     registry: &mut Registry,
@@ -80,38 +158,22 @@ fn answer<C: Chooser>(
 ) -> Result<Reply, Fault> {
     match call {
         Call::Join(id, status, dirty, secs) => {
-            join(
-                alloc,
-                registry,
-                id,
-                (status, Status::Unknown),
-                dirty,
-                secs,
-                now,
-            )
+            let statuses = (status, Status::Unknown);
+            join(alloc, registry, id, statuses, dirty, secs, now)
         }
         Call::Override(id, over) => join(alloc, registry, id, (Status::Up, over), 0, 90, now),
-        Call::Renew(id) => registry.renew(alloc, &key(alloc, "A", id)?, None, None, false, now),
+        Call::Renew(id) => renew(alloc, registry, id, None, None, false, now),
         Call::Stamped(id, stamp, replicated) => {
-            let key = key(alloc, "A", id)?;
-            registry.renew(alloc, &key, Stamp::new(stamp), None, replicated, now)
+            renew(alloc, registry, id, Some(stamp), None, replicated, now)
         }
         Call::Brings(id, stamp, over) => {
-            let key = key(alloc, "A", id)?;
-            registry.renew(alloc, &key, Stamp::new(stamp), Some(over), true, now)
+            renew(alloc, registry, id, Some(stamp), Some(over), true, now)
         }
-        Call::Set(id, status) => {
-            registry.set_status(alloc, &key(alloc, "A", id)?, status, None, now)
-        }
-        Call::Unset(id, status) => {
-            Ok(registry.unset_status(&key(alloc, "A", id)?, status, None, now))
-        }
-        Call::Adopt(id, over, dirty, secs) => {
-            let instance = instance(alloc, id, (Status::Up, over), dirty, secs)?;
-            registry.adopt(alloc, instance, now)
-        }
-        Call::Cancel(id) => Ok(registry.cancel(&key(alloc, "A", id)?)),
-        Call::CancelOther(id) => Ok(registry.cancel(&key(alloc, "B", id)?)),
+        Call::Set(id, status) => set(alloc, registry, id, status, now),
+        Call::Unset(id, status) => unset(alloc, registry, id, status, now),
+        Call::Adopt(id, over, dirty, secs) => adopt(alloc, registry, id, over, dirty, secs, now),
+        Call::Cancel(id) => cancel(alloc, registry, "A", id),
+        Call::CancelOther(id) => cancel(alloc, registry, "B", id),
         Call::Roll => Ok(registry.roll()),
         Call::Update => Ok(registry.update()),
         Call::Evict => registry.evict(alloc, now, chooser),
@@ -126,360 +188,364 @@ pub fn tell(out: &mut String, reply: &Reply) -> Result<(), AllocError> {
         Reply::Done => out.push_str("done "),
         Reply::NotFound => out.push_str("none "),
         Reply::Stale => out.push_str("stale "),
-        Reply::Conflict(held) => {
-            let dirty = held.dirty;
-            write!(out, "conflict={dirty} ")
-        }
-        Reply::Last(renewals) => write!(out, "last={renewals} "),
-        Reply::Expected(clients) => write!(out, "expected={clients} "),
-        Reply::Evicted(victims) => tell_ids(out, victims.as_slice()),
+        Reply::Conflict(held) => tell_number(out, "conflict", held.dirty),
+        Reply::Last(renewals) => tell_number(out, "last", *renewals),
+        Reply::Expected(clients) => tell_number(out, "expected", *clients),
+        Reply::Evicted(victims) => tell_ids(out, victims),
+        Reply::Batch(_) => out.push_str("batch "),
+        Reply::Settled => out.push_str("settled "),
     }
 }
 
-fn tell_ids(out: &mut String, keys: &[Key]) -> Result<(), AllocError> {
+fn tell_number(out: &mut String, word: &str, number: u64) -> Result<(), AllocError> {
+    out.push_str(word)?;
+    out.push_str("=")?;
+    push_number(out, number)?;
+    out.push_str(" ")
+}
+
+fn tell_ids(out: &mut String, keys: &Keys) -> Result<(), AllocError> {
     out.push_str("evicted")?;
-    for key in keys {
+    for key in keys.as_slice() {
         out.push_str("-")?;
         out.push_str(key.id.as_str())?;
     }
     out.push_str(" ")
 }
 
-/// Makes the calls, each at its moment, and gives the replies as words.
-fn play<C: Chooser>(
-    alloc: Global,
-    registry: &mut Registry,
-    calls: &[(u64, Call)],
-    chooser: &mut C,
-) -> Result<String, Fault> {
-    let mut out = String::new(alloc);
-    for (ms, call) in calls {
-        let now = Moment::new(*ms).ok_or(Fault::BadValue)?;
-        let reply = answer(alloc, registry, *call, now, chooser)?;
-        tell(&mut out, &reply)?;
+/// Writes what came of a call as a word; a fault as its number.
+fn tell_answer(out: &mut String, answer: Result<Reply, Fault>) -> Result<(), AllocError> {
+    match answer {
+        Ok(reply) => tell(out, &reply),
+        Err(fault) => tell_number(out, "fault", u64::from(fault.number())),
     }
-    Ok(out)
+}
+
+/// Writes a status and numbers as one word.
+fn tell_lease(out: &mut String, status: Status, numbers: &[u64]) -> Result<(), AllocError> {
+    out.push_str(status.name())?;
+    push_numbers(out, numbers)?;
+    out.push_str(" ")
+}
+
+/// Writes the status, the stamp, the duration and the last update of the lease of an id, where it is visible.
+fn look(
+    alloc: Global,
+    out: &mut String,
+    registry: &Registry,
+    id: &str,
+    now: Moment,
+) -> Result<(), Fault> {
+    let key = key(alloc, "A", id)?;
+    let Some((instance, times)) = registry.look(&key, now) else {
+        return Ok(out.push_str("hidden ")?);
+    };
+    let numbers = [instance.dirty, u64::from(instance.secs), times.updated];
+    Ok(tell_lease(out, instance.status, numbers.as_slice())?)
+}
+
+/// Writes leases held, clients expected, threshold, last minute's renewals, and whether eviction is permitted.
+fn tell_counts(out: &mut String, registry: &Registry) -> Result<(), AllocError> {
+    let counts = registry.counts();
+    let numbers = [counts.held, counts.expected, counts.threshold, counts.last];
+    push_numbers(out, numbers.as_slice())?;
+    out.push_str(if counts.permitted { ":yes " } else { ":no " })
+}
+
+/// Writes the ids that are listed of an application, or of all.
+fn list(
+    alloc: Global,
+    out: &mut String,
+    registry: &Registry,
+    app: Option<&App>,
+) -> Result<(), AllocError> {
+    for listed in registry.list(alloc, app)? {
+        out.push_str("-")?;
+        out.push_str(listed.instance.key.id.as_str())?;
+    }
+    out.push_str(" ")
+}
+
+fn list_of(alloc: Global, out: &mut String, registry: &Registry, app: &str) -> Result<(), Fault> {
+    let app = App::read(alloc, app)?;
+    Ok(list(alloc, out, registry, Some(&app))?)
+}
+
+fn go<C: Chooser>(
+    alloc: Global,
+    out: &mut String,
+    registry: &mut Registry,
+    line: Line,
+    now: Moment,
+    chooser: &mut C,
+) -> Result<(), Fault> {
+    match line {
+        Line::Do(call) => {
+            let answer = answer(alloc, registry, call, now, chooser);
+            Ok(tell_answer(out, answer)?)
+        }
+        Line::Look(id) => look(alloc, out, registry, id, now),
+        Line::Counts => Ok(tell_counts(out, registry)?),
+        Line::Of(app) => list_of(alloc, out, registry, app),
+        Line::All => Ok(list(alloc, out, registry, None)?),
+    }
 }
 
 /// A registry with an eviction interval of a minute and renewals each 30 s.
-fn opened(
-    alloc: Global,
-    preservation: bool,
-    percent: u32,
-    expected: u32,
-) -> Result<Registry, Fault> {
+fn opened(alloc: Global, settings: (bool, u32, u32)) -> Result<Registry, Fault> {
+    let (preservation, percent, expected) = settings;
     let config = Config::new(preservation, percent, 30, 60_000)?;
     Ok(Registry::open(alloc, config, expected))
 }
 
-/// Leases held, clients expected, threshold, last minute's renewals, and whether eviction is permitted.
-fn counts(registry: &Registry) -> (u64, u64, u64, u64, bool) {
-    let counts = registry.counts();
-    (
-        counts.held,
-        counts.expected,
-        counts.threshold,
-        counts.last,
-        counts.permitted,
-    )
-}
-
-/// The status, the stamp, the duration and the last update of the lease of an id, where it is visible.
-fn seen(
+/// What comes of each line at its moment, as words.
+fn told<C: Chooser>(
     alloc: Global,
-    registry: &Registry,
-    id: &str,
-    ms: u64,
-) -> Result<Option<(Status, u64, u32, u64)>, Fault> {
-    let now = Moment::new(ms).ok_or(Fault::BadValue)?;
-    let key = key(alloc, "A", id)?;
-    match registry.look(&key, now) {
-        Some((instance, times)) => Ok(Some((
-            instance.status,
-            instance.dirty,
-            instance.secs,
-            times.updated,
-        ))),
-        None => Ok(None),
+    registry: &mut Registry,
+    lines: &[(u64, Line)],
+    chooser: &mut C,
+) -> Result<String, Fault> {
+    let mut out = String::new(alloc);
+    for (ms, line) in lines {
+        go(alloc, &mut out, registry, *line, at(*ms)?, chooser)?;
     }
+    Ok(out)
 }
 
-const UP: Call = Call::Join("i1", Status::Up, 0, 90);
+/// The same of a registry that is opened with preservation on or off, at that percentage, with so many clients expected.
+fn drawn<C: Chooser>(
+    alloc: Global,
+    settings: (bool, u32, u32),
+    lines: &[(u64, Line)],
+    chooser: &mut C,
+) -> Result<String, Fault> {
+    let mut registry = opened(alloc, settings)?;
+    told(alloc, &mut registry, lines, chooser)
+}
+
+/// The same where the first is always drawn.
+fn played(
+    alloc: Global,
+    settings: (bool, u32, u32),
+    lines: &[(u64, Line)],
+) -> Result<String, Fault> {
+    drawn(alloc, settings, lines, &mut FirstChooser)
+}
+
+const UP: Line = Line::Do(Call::Join("i1", Status::Up, 0, 90));
 
 #[test]
 fn a_client_comes_and_renews(rt: HostRuntime) -> Result<(), Fail> {
-    let mut registry = opened(rt.alloc(), true, 85, 1)?;
-    let calls = [
+    let lines = [
         (0u64, UP),
         (0, UP),
-        (5, Call::Renew("i1")),
-        (5, Call::Renew("i2")),
+        (5, Line::Do(Call::Renew("i1"))),
+        (5, Line::Do(Call::Renew("i2"))),
+        (5, Line::Counts),
+        (5, Line::Look("i1")),
     ];
-    let told = play(
-        rt.alloc(),
-        &mut registry,
-        calls.as_slice(),
-        &mut FirstChooser,
-    )?;
-    assert_eq!(rt; told.as_str(), "new again done none ");
-    assert!(rt; counts(&registry) == (1, 2, 3, 0, false));
-    assert!(rt; seen(rt.alloc(), &registry, "i1", 5)? == Some((Status::Up, 0, 90, 90_005)));
+    let told = played(rt.alloc(), (true, 85, 1), lines.as_slice())?;
+    assert_eq!(rt;
+        told.as_str(),
+        "new again done none :1:2:3:0:no UP:0:90:90005 "
+    );
     Ok(())
 }
 
 #[test]
 fn nobody_is_expected_where_none_was(rt: HostRuntime) -> Result<(), Fail> {
-    let mut registry = opened(rt.alloc(), false, 85, 0)?;
-    let calls = [
-        (0u64, Call::Join("i1", Status::Unknown, 0, 90)),
-        (0, Call::Renew("i1")),
+    let lines = [
+        (0u64, Line::Do(Call::Join("i1", Status::Unknown, 0, 90))),
+        (0, Line::Do(Call::Renew("i1"))),
+        (0, Line::Counts),
     ];
-    let told = play(
-        rt.alloc(),
-        &mut registry,
-        calls.as_slice(),
-        &mut FirstChooser,
-    )?;
-    assert_eq!(rt; told.as_str(), "new none ");
-    assert!(rt; counts(&registry) == (1, 0, 0, 0, true));
+    let told = played(rt.alloc(), (false, 85, 0), lines.as_slice())?;
+    assert_eq!(rt; told.as_str(), "new none :1:0:0:0:yes ");
     Ok(())
 }
 
 #[test]
 fn minutes_end(rt: HostRuntime) -> Result<(), Fail> {
-    let mut registry = opened(rt.alloc(), true, 85, 1)?;
-    let calls = [
+    let lines = [
         (0u64, UP),
-        (0, Call::Renew("i1")),
-        (1, Call::Roll),
-        (2, Call::Roll),
+        (0, Line::Do(Call::Renew("i1"))),
+        (1, Line::Do(Call::Roll)),
+        (2, Line::Do(Call::Roll)),
     ];
-    let told = play(
-        rt.alloc(),
-        &mut registry,
-        calls.as_slice(),
-        &mut FirstChooser,
-    )?;
+    let told = played(rt.alloc(), (true, 85, 1), lines.as_slice())?;
     assert_eq!(rt; told.as_str(), "new done last=1 last=0 ");
     Ok(())
 }
 
 #[test]
 fn more_than_the_percentage_is_expected(rt: HostRuntime) -> Result<(), Fail> {
-    let calls = [(0u64, UP), (0, Call::Update)];
-    let mut tie = opened(rt.alloc(), true, 50, 1)?;
-    let told = play(rt.alloc(), &mut tie, calls.as_slice(), &mut FirstChooser)?;
-    assert_eq!(rt; told.as_str(), "new expected=2 ");
-    let mut more = opened(rt.alloc(), true, 49, 1)?;
-    let told = play(rt.alloc(), &mut more, calls.as_slice(), &mut FirstChooser)?;
-    assert_eq!(rt; told.as_str(), "new expected=1 ");
+    let lines = [(0u64, UP), (0, Line::Do(Call::Update))];
+    for (percent, words) in [(50u32, "new expected=2 "), (49, "new expected=1 ")] {
+        let told = played(rt.alloc(), (true, percent, 1), lines.as_slice())?;
+        assert_eq!(rt; told.as_str(), words);
+    }
     Ok(())
 }
 
 #[test]
 fn a_client_leaves(rt: HostRuntime) -> Result<(), Fail> {
-    let mut registry = opened(rt.alloc(), true, 85, 1)?;
-    let calls = [(0u64, UP), (0, Call::Cancel("i1")), (0, Call::Cancel("i1"))];
-    let told = play(
-        rt.alloc(),
-        &mut registry,
-        calls.as_slice(),
-        &mut FirstChooser,
-    )?;
-    assert_eq!(rt; told.as_str(), "new done none ");
-    assert!(rt; counts(&registry) == (0, 1, 1, 0, false));
-    assert!(rt; seen(rt.alloc(), &registry, "i1", 0)?.is_none());
-    Ok(())
-}
-
-#[test]
-fn nobody_leaves_below_none(rt: HostRuntime) -> Result<(), Fail> {
-    let mut registry = opened(rt.alloc(), true, 85, 0)?;
-    let calls = [(0u64, UP), (0, Call::Cancel("i1"))];
-    let told = play(
-        rt.alloc(),
-        &mut registry,
-        calls.as_slice(),
-        &mut FirstChooser,
-    )?;
-    assert_eq!(rt; told.as_str(), "new done ");
-    assert!(rt; counts(&registry) == (0, 0, 0, 0, false));
+    let lines = [
+        (0u64, UP),
+        (0, Line::Do(Call::Cancel("i1"))),
+        (0, Line::Do(Call::Cancel("i1"))),
+        (0, Line::Counts),
+        (0, Line::Look("i1")),
+    ];
+    let told = played(rt.alloc(), (true, 85, 1), lines.as_slice())?;
+    assert_eq!(rt; told.as_str(), "new done none :0:1:1:0:no hidden ");
+    let told = played(rt.alloc(), (true, 85, 0), lines.as_slice())?;
+    assert_eq!(rt; told.as_str(), "new done none :0:0:0:0:no hidden ");
     Ok(())
 }
 
 #[test]
 fn a_row_goes_with_a_cancel_of_another(rt: HostRuntime) -> Result<(), Fail> {
-    let mut registry = opened(rt.alloc(), true, 85, 1)?;
-    let calls = [
-        (0u64, Call::Override("i1", Status::OutOfService)),
-        (0, Call::CancelOther("i1")),
-        (0, Call::Cancel("i1")),
+    let lines = [
+        (0u64, Line::Do(Call::Override("i1", Status::OutOfService))),
+        (0, Line::Do(Call::CancelOther("i1"))),
+        (0, Line::Do(Call::Cancel("i1"))),
         (0, UP),
+        (0, Line::Look("i1")),
     ];
-    let told = play(
-        rt.alloc(),
-        &mut registry,
-        calls.as_slice(),
-        &mut FirstChooser,
-    )?;
-    assert_eq!(rt; told.as_str(), "new none done new ");
-    assert!(rt; seen(rt.alloc(), &registry, "i1", 0)? == Some((Status::Up, 0, 90, 0)));
+    let told = played(rt.alloc(), (true, 85, 1), lines.as_slice())?;
+    assert_eq!(rt; told.as_str(), "new none done new UP:0:90:0 ");
     Ok(())
 }
 
 #[test]
 fn the_greater_stamp_is_kept(rt: HostRuntime) -> Result<(), Fail> {
-    let mut registry = opened(rt.alloc(), true, 85, 1)?;
-    let calls = [
-        (5u64, Call::Join("i1", Status::Starting, 2, 90)),
-        (6, Call::Join("i1", Status::Down, 1, 30)),
+    let lines = [
+        (5u64, Line::Do(Call::Join("i1", Status::Starting, 2, 90))),
+        (6, Line::Do(Call::Join("i1", Status::Down, 1, 30))),
+        (6, Line::Look("i1")),
+        (7, Line::Do(Call::Join("i1", Status::Down, 2, 60))),
+        (7, Line::Look("i1")),
     ];
-    play(
-        rt.alloc(),
-        &mut registry,
-        calls.as_slice(),
-        &mut FirstChooser,
-    )?;
-    assert!(rt; seen(rt.alloc(), &registry, "i1", 6)? == Some((Status::Starting, 2, 30, 6)));
-    let tie = [(7u64, Call::Join("i1", Status::Down, 2, 60))];
-    play(rt.alloc(), &mut registry, tie.as_slice(), &mut FirstChooser)?;
-    assert!(rt; seen(rt.alloc(), &registry, "i1", 7)? == Some((Status::Down, 2, 60, 7)));
+    let told = played(rt.alloc(), (true, 85, 1), lines.as_slice())?;
+    assert_eq!(rt;
+        told.as_str(),
+        "new again STARTING:2:30:6 again DOWN:2:60:7 "
+    );
     Ok(())
 }
 
 #[test]
 fn an_expired_lease_is_hidden_where_it_may_be_evicted(rt: HostRuntime) -> Result<(), Fail> {
-    let mut registry = opened(rt.alloc(), false, 85, 1)?;
-    play(
-        rt.alloc(),
-        &mut registry,
-        [(0u64, UP)].as_slice(),
-        &mut FirstChooser,
-    )?;
-    assert!(rt; seen(rt.alloc(), &registry, "i1", 90_000)?.is_some());
-    assert!(rt; seen(rt.alloc(), &registry, "i1", 90_001)?.is_none());
+    let lines = [
+        (0u64, UP),
+        (90_000, Line::Look("i1")),
+        (90_001, Line::Look("i1")),
+    ];
+    let told = played(rt.alloc(), (false, 85, 1), lines.as_slice())?;
+    assert_eq!(rt; told.as_str(), "new UP:0:90:0 hidden ");
     Ok(())
-}
-
-/// The ids that are listed of an application, or of all.
-fn listed(alloc: Global, registry: &Registry, app: Option<&App>) -> Result<String, AllocError> {
-    let mut told = String::new(alloc);
-    for listed in registry.list(alloc, app)? {
-        told.push_str(listed.instance.key.id.as_str())?;
-        told.push_str(" ")?;
-    }
-    Ok(told)
 }
 
 #[test]
 fn what_is_held_is_listed_in_key_order(rt: HostRuntime) -> Result<(), Fail> {
-    let mut registry = opened(rt.alloc(), false, 85, 1)?;
-    let calls = [
-        (0u64, Call::Join("i2", Status::Up, 0, 10)),
-        (0, Call::Join("i10", Status::Down, 0, 10)),
-        (0, Call::Join("i1", Status::Starting, 0, 10)),
-    ];
-    play(
-        rt.alloc(),
-        &mut registry,
-        calls.as_slice(),
-        &mut FirstChooser,
-    )?;
     // at 10,001 ms all three have expired, and eviction is permitted
-    assert!(rt; seen(rt.alloc(), &registry, "i1", 10_001)?.is_none());
-    let (own, other) = (App::read(rt.alloc(), "a")?, App::read(rt.alloc(), "B")?);
-    let all = listed(rt.alloc(), &registry, None)?;
-    assert_eq!(rt; all.as_str(), "i1 i10 i2 ");
-    let of_own = listed(rt.alloc(), &registry, Some(&own))?;
-    assert_eq!(rt; of_own.as_str(), "i1 i10 i2 ");
-    let of_other = listed(rt.alloc(), &registry, Some(&other))?;
-    assert_eq!(rt; of_other.as_str(), "");
+    let lines = [
+        (0u64, Line::Do(Call::Join("i2", Status::Up, 0, 10))),
+        (0, Line::Do(Call::Join("i10", Status::Down, 0, 10))),
+        (0, Line::Do(Call::Join("i1", Status::Starting, 0, 10))),
+        (10_001, Line::Look("i1")),
+        (10_001, Line::All),
+        (10_001, Line::Of("a")),
+        (10_001, Line::Of("B")),
+    ];
+    let told = played(rt.alloc(), (false, 85, 1), lines.as_slice())?;
+    assert_eq!(rt; told.as_str(), "new new new hidden -i1-i10-i2 -i1-i10-i2  ");
     Ok(())
 }
 
-const FOUR: [(u64, Call); 5] = [
-    (0, Call::Join("i0", Status::Up, 0, 90)),
-    (0, Call::Join("i1", Status::Up, 0, 90)),
-    (0, Call::Join("i2", Status::Up, 0, 90)),
-    (0, Call::Join("i3", Status::Up, 0, 90)),
-    (90_001, Call::Evict),
+const FOUR: [(u64, Line); 6] = [
+    (0, Line::Do(Call::Join("i0", Status::Up, 0, 90))),
+    (0, Line::Do(Call::Join("i1", Status::Up, 0, 90))),
+    (0, Line::Do(Call::Join("i2", Status::Up, 0, 90))),
+    (0, Line::Do(Call::Join("i3", Status::Up, 0, 90))),
+    (90_001, Line::Do(Call::Evict)),
+    (90_001, Line::Counts),
 ];
 
 #[test]
 fn half_of_the_expired_are_drawn(rt: HostRuntime) -> Result<(), Fail> {
-    let mut registry = opened(rt.alloc(), false, 50, 0)?;
     let mut chooser = ListChooser::new(Vec::from_slice(rt.alloc(), [3u64, 0].as_slice())?);
-    let told = play(rt.alloc(), &mut registry, FOUR.as_slice(), &mut chooser)?;
-    assert_eq!(rt; told.as_str(), "new new new new evicted-i3-i1 ");
-    assert!(rt; counts(&registry) == (2, 0, 0, 0, true));
+    let told = drawn(rt.alloc(), (false, 50, 0), FOUR.as_slice(), &mut chooser)?;
+    assert_eq!(rt;
+        told.as_str(),
+        "new new new new evicted-i3-i1 :2:0:0:0:yes "
+    );
     Ok(())
 }
 
 #[test]
 fn nobody_is_evicted_while_preservation_forbids_it(rt: HostRuntime) -> Result<(), Fail> {
-    let mut registry = opened(rt.alloc(), true, 50, 0)?;
-    let told = play(
-        rt.alloc(),
-        &mut registry,
-        FOUR.as_slice(),
-        &mut FirstChooser,
-    )?;
-    assert_eq!(rt; told.as_str(), "new new new new evicted ");
+    let told = played(rt.alloc(), (true, 50, 0), FOUR.as_slice())?;
+    assert_eq!(rt; told.as_str(), "new new new new evicted :4:0:0:0:no ");
     Ok(())
 }
 
-/// Registers i0, i1 and so on at 0, so many.
-fn fill(alloc: Global, registry: &mut Registry, leases: u32) -> Result<(), Fault> {
-    let now = Moment::new(0).ok_or(Fault::BadValue)?;
-    for number in 0..leases {
-        let mut id = String::new(alloc);
-        write!(id, "i{number}")?;
-        join(
-            alloc,
-            registry,
-            id.as_str(),
-            (Status::Up, Status::Unknown),
-            0,
-            90,
-            now,
-        )?;
+/// Registers the client i and that number, and tells whether it is taken.
+fn is_joined(
+    alloc: Global,
+    registry: &mut Registry,
+    number: u64,
+    now: Moment,
+) -> Result<bool, Fault> {
+    let mut id = joined(alloc, &["i"])?;
+    push_number(&mut id, number)?;
+    let statuses = (Status::Up, Status::Unknown);
+    Ok(join(alloc, registry, id.as_str(), statuses, 0, 90, now).is_ok())
+}
+
+/// A registry with 65,536 leases, i0 to i65535.
+fn full(alloc: Global) -> Result<Registry, Fault> {
+    let now = at(0)?;
+    let mut registry = opened(alloc, (true, 85, 1))?;
+    for number in 0..65_536 {
+        if !is_joined(alloc, &mut registry, number, now)? {
+            return Err(Fault::BadValue);
+        }
     }
-    Ok(())
+    Ok(registry)
 }
 
 #[test]
 fn a_full_registry_takes_back_who_is_held(rt: HostRuntime) -> Result<(), Fail> {
-    let mut registry = opened(rt.alloc(), true, 85, 1)?;
-    fill(rt.alloc(), &mut registry, 65_536)?;
-    let now = Moment::new(7).ok_or(Fault::BadValue)?;
-    let up = (Status::Up, Status::Unknown);
-    let stranger = join(rt.alloc(), &mut registry, "stranger", up, 0, 90, now);
-    assert!(rt; matches!(stranger, Err(Fault::Full)));
-    assert!(rt; counts(&registry) == (65_536, 65_537, 111_412, 0, false));
-    let held = join(rt.alloc(), &mut registry, "i65535", up, 0, 90, now)?;
-    assert!(rt; matches!(held, Reply::Registered { fresh: false }));
+    let lines = [
+        (7u64, Line::Do(Call::Join("stranger", Status::Up, 0, 90))),
+        (7, Line::Counts),
+        (7, Line::Do(Call::Join("i65535", Status::Up, 0, 90))),
+    ];
+    let mut registry = full(rt.alloc())?;
+    let told = told(
+        rt.alloc(),
+        &mut registry,
+        lines.as_slice(),
+        &mut FirstChooser,
+    )?;
+    assert_eq!(rt; told.as_str(), "fault=7 :65536:65537:111412:0:no again ");
     Ok(())
 }
 
 #[test]
 fn stamps_settle_a_quarrel(rt: HostRuntime) -> Result<(), Fail> {
-    let mut registry = opened(rt.alloc(), true, 85, 0)?;
-    let calls = [
-        (0u64, Call::Join("i1", Status::Up, 10, 90)),
-        (1, Call::Stamped("i1", 9, false)),
-        (1, Call::Stamped("i1", 10, false)),
-        (1, Call::Stamped("i1", 11, false)),
-        (1, Call::Stamped("i1", 9, true)),
-        (1, Call::Stamped("i1", 10, true)),
-        (1, Call::Stamped("i1", 11, true)),
-        (1, Call::Roll),
+    let lines = [
+        (0u64, Line::Do(Call::Join("i1", Status::Up, 10, 90))),
+        (1, Line::Do(Call::Stamped("i1", 9, false))),
+        (1, Line::Do(Call::Stamped("i1", 10, false))),
+        (1, Line::Do(Call::Stamped("i1", 11, false))),
+        (1, Line::Do(Call::Stamped("i1", 9, true))),
+        (1, Line::Do(Call::Stamped("i1", 10, true))),
+        (1, Line::Do(Call::Stamped("i1", 11, true))),
+        (1, Line::Do(Call::Roll)),
     ];
-    let told = play(
-        rt.alloc(),
-        &mut registry,
-        calls.as_slice(),
-        &mut FirstChooser,
-    )?;
+    let told = played(rt.alloc(), (true, 85, 0), lines.as_slice())?;
     assert_eq!(rt;
         told.as_str(),
         "new done done stale conflict=10 done stale last=6 "
@@ -489,66 +555,45 @@ fn stamps_settle_a_quarrel(rt: HostRuntime) -> Result<(), Fail> {
 
 #[test]
 fn a_status_is_set_and_unset(rt: HostRuntime) -> Result<(), Fail> {
-    let mut registry = opened(rt.alloc(), true, 85, 0)?;
-    let set = [
+    let lines = [
         (0u64, UP),
-        (1, Call::Set("i1", Status::OutOfService)),
-        (2, Call::Renew("i1")),
+        (1, Line::Do(Call::Set("i1", Status::OutOfService))),
+        (2, Line::Do(Call::Renew("i1"))),
+        (2, Line::Look("i1")),
+        (3, Line::Do(Call::Unset("i1", None))),
+        (4, Line::Do(Call::Renew("i1"))),
+        (5, Line::Do(Call::Set("i2", Status::Up))),
+        (6, Line::Do(Call::Roll)),
     ];
-    play(rt.alloc(), &mut registry, set.as_slice(), &mut FirstChooser)?;
-    let out = seen(rt.alloc(), &registry, "i1", 2)?;
-    assert!(rt; out == Some((Status::OutOfService, 0, 90, 90_002)));
-    let unset = [
-        (3u64, Call::Unset("i1", None)),
-        (4, Call::Renew("i1")),
-        (5, Call::Set("i2", Status::Up)),
-        (6, Call::Roll),
-    ];
-    let told = play(
-        rt.alloc(),
-        &mut registry,
-        unset.as_slice(),
-        &mut FirstChooser,
-    )?;
-    assert_eq!(rt; told.as_str(), "done none none last=1 ");
+    let told = played(rt.alloc(), (true, 85, 0), lines.as_slice())?;
+    assert_eq!(rt;
+        told.as_str(),
+        "new done done OUT_OF_SERVICE:0:90:90002 done none none last=1 "
+    );
     Ok(())
 }
 
 #[test]
 fn an_instance_is_adopted(rt: HostRuntime) -> Result<(), Fail> {
-    let mut registry = opened(rt.alloc(), true, 85, 0)?;
-    let calls = [
-        (0u64, Call::Join("i1", Status::Up, 3, 90)),
-        (1, Call::Adopt("i1", Status::OutOfService, 7, 30)),
+    let lines = [
+        (0u64, Line::Do(Call::Join("i1", Status::Up, 3, 90))),
+        (1, Line::Do(Call::Adopt("i1", Status::OutOfService, 7, 30))),
+        (1, Line::Look("i1")),
     ];
-    let told = play(
-        rt.alloc(),
-        &mut registry,
-        calls.as_slice(),
-        &mut FirstChooser,
-    )?;
-    assert_eq!(rt; told.as_str(), "new again ");
-    let adopted = seen(rt.alloc(), &registry, "i1", 1)?;
-    assert!(rt; adopted == Some((Status::OutOfService, 7, 30, 1)));
+    let told = played(rt.alloc(), (true, 85, 0), lines.as_slice())?;
+    assert_eq!(rt; told.as_str(), "new again OUT_OF_SERVICE:7:30:1 ");
     Ok(())
 }
 
 #[test]
 fn a_peer_brings_a_row(rt: HostRuntime) -> Result<(), Fail> {
-    let mut registry = opened(rt.alloc(), true, 85, 0)?;
-    let calls = [
+    let lines = [
         (0u64, UP),
-        (1, Call::Brings("i1", 5, Status::OutOfService)),
-        (2, Call::Renew("i1")),
+        (1, Line::Do(Call::Brings("i1", 5, Status::OutOfService))),
+        (2, Line::Do(Call::Renew("i1"))),
+        (2, Line::Look("i1")),
     ];
-    let told = play(
-        rt.alloc(),
-        &mut registry,
-        calls.as_slice(),
-        &mut FirstChooser,
-    )?;
-    assert_eq!(rt; told.as_str(), "new stale done ");
-    let out = seen(rt.alloc(), &registry, "i1", 2)?;
-    assert!(rt; out == Some((Status::OutOfService, 0, 90, 90_002)));
+    let told = played(rt.alloc(), (true, 85, 0), lines.as_slice())?;
+    assert_eq!(rt; told.as_str(), "new stale done OUT_OF_SERVICE:0:90:90002 ");
     Ok(())
 }

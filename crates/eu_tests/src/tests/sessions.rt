@@ -1,7 +1,8 @@
 //! Sessions as clients hold them, byte for byte.
 ghost use Rattle.std.specs.Prelude.{None};
 
-use eu_base::{App, Fault, Instance, Moment};
+use crate::tests::texts::{joined, push_number, repeated};
+use eu_base::{App, Fault, Moment};
 use eu_clock::{Clock, ListClock};
 use eu_http::{Answer, Ask};
 use eu_json::read_instance;
@@ -9,7 +10,7 @@ use eu_model::{Command, Listed, Query, Reply, Times, View};
 use eu_routes::Routes;
 use eu_session::{Desk, MAX_REQUESTS, SessionFault, serve_session};
 use eu_stream::{ReadFault, Sink, Source, WriteFault};
-use std::alloc::Global;
+use std::alloc::{AllocError, Global};
 use std::cell::RefCell;
 use std::test::Fail;
 
@@ -132,41 +133,100 @@ impl Sink for Narrow {
     }
 }
 
-/// Gives its answers, the last one first, and keeps what it is asked.
+/// Has every lease and finds all done, but for the faults that it has first, and writes what it is asked.
 #[derive(Drop)]
 struct Stored {
-    answers: Vec<Result<Answer, Fault>>,
-    asked: Vec<(Ask, Moment)>,
+    faults: Vec<Fault>,
+    asked: String,
+    count: u64,
 }
 
 impl Stored {
     fn of(alloc: Global) -> Stored {
         Stored {
-            answers: Vec::new(alloc),
-            asked: Vec::new(alloc),
+            faults: Vec::new(alloc),
+            asked: String::new(alloc),
+            count: 0,
         }
-    }
-
-    /// Answers so many renewals.
-    fn renewing(alloc: Global, count: u32) -> Result<Stored, Fault> {
-        let mut desk = Stored::of(alloc);
-        for _ in 0..count {
-            desk.answers.push(Ok(Answer::Did(Reply::Done)))?;
-        }
-        Ok(desk)
     }
 }
 
 impl Desk for Stored {
     ghost asked = { λ _ _ _ _ _. Unit {0} };
 
-    fn ask(&mut self, _alloc: Global, ask: Ask, moment: Moment) -> Result<Answer, Fault> {
-        self.asked.push((ask, moment))?;
-        match self.answers.pop() {
-            Some(answer) => answer,
-            None => Err(Fault::Full),
+    fn ask(&mut self, alloc: Global, ask: Ask, moment: Moment) -> Result<Answer, Fault> {
+        self.count = self.count.saturating_add(1);
+        let kind = kind_of(&ask);
+        note_ask(&mut self.asked, ask, moment)?;
+        match self.faults.pop() {
+            Some(fault) => Err(fault),
+            None => found(alloc, kind),
         }
     }
+}
+
+/// What kind of ask it is.
+#[derive(Clone, Copy)]
+enum Kind {
+    Registration,
+    Other,
+    Query,
+}
+
+fn kind_of(ask: &Ask) -> Kind {
+    match ask {
+        Ask::Do(Command::Register { .. }) => Kind::Registration,
+        Ask::Do(_) => Kind::Other,
+        Ask::See(_) => Kind::Query,
+    }
+}
+
+/// What is answered to an ask of a kind.
+fn found(alloc: Global, kind: Kind) -> Result<Answer, Fault> {
+    match kind {
+        Kind::Registration => Ok(Answer::Did(Reply::Registered { fresh: true })),
+        Kind::Other => Ok(Answer::Did(Reply::Done)),
+        Kind::Query => Ok(Answer::Saw(View::One(Some(listed(alloc)?)))),
+    }
+}
+
+/// Writes an ask with its moment: a registration of a client, a look at a lease, or another.
+fn note_ask(out: &mut String, ask: Ask, moment: Moment) -> Result<(), AllocError> {
+    match &ask {
+        Ask::Do(
+            Command::Register {
+                instance,
+                replicated: false,
+            },
+        ) => note_number(out, "register", instance.dirty, moment),
+        Ask::See(Query::One(key)) => note(out, key.app.as_str(), key.id.as_str(), moment),
+        _ => note(out, "other", "", moment),
+    }
+}
+
+fn note_number(
+    out: &mut String,
+    word: &str,
+    number: u64,
+    moment: Moment,
+) -> Result<(), AllocError> {
+    out.push_str(word)?;
+    out.push_str(" ")?;
+    push_number(out, number)?;
+    note_moment(out, moment)
+}
+
+fn note(out: &mut String, first: &str, second: &str, moment: Moment) -> Result<(), AllocError> {
+    out.push_str(first)?;
+    out.push_str(" ")?;
+    out.push_str(second)?;
+    note_moment(out, moment)
+}
+
+fn note_moment(out: &mut String, moment: Moment) -> Result<(), AllocError> {
+    out.push_str(" at ")?;
+    push_number(out, moment.ms())?;
+    out.push_str(";")
 }
 
 pub fn clock(alloc: Global, times: &[u64]) -> Result<ListClock, Fault> {
@@ -177,130 +237,158 @@ pub fn clock(alloc: Global, times: &[u64]) -> Result<ListClock, Fault> {
     Ok(ListClock::new(moments))
 }
 
-/// Serves a session at the moments 1000, 1001 and 1002.
-fn serve<R: Source>(
-    alloc: Global,
-    desk: &mut Stored,
-    reader: &mut R,
-    writer: &mut Narrow,
-) -> Result<u32, SessionFault> {
-    let Ok(routes) = Routes::new(alloc) else {
-        return Err(SessionFault::OutOfMemory);
-    };
-    let Ok(mut clock) = clock(alloc, &[1000, 1001, 1002]) else {
-        return Err(SessionFault::OutOfMemory);
-    };
-    serve_session(alloc, &routes, desk, &mut clock, reader, writer)
-}
-
 fn listed(alloc: Global) -> Result<Listed, Fault> {
     let moment = Moment::new(1000).ok_or(Fault::BadValue)?;
-    let instance = read_instance(alloc, REGISTRATION, &App::read(alloc, "A")?, moment)?;
+    let app = App::read(alloc, "A")?;
     let times = Times {
         registered: 1000,
         updated: 1000,
         up: 1000,
     };
-    Ok(Listed { instance, times })
+    Ok(Listed {
+        instance: read_instance(alloc, REGISTRATION, &app, moment)?,
+        times,
+    })
 }
 
-/// Whether these were the asks of the registration and the look after it, at their moments.
-fn are_the_two(asked: &[(Ask, Moment)]) -> bool {
-    match asked {
-        [
-            (
-                Ask::Do(
-                    Command::Register {
-                        instance: Instance { dirty: 5, .. },
-                        replicated: false,
-                    },
-                ),
-                first,
-            ),
-            (Ask::See(Query::One(key)), second),
-        ] => key.app.as_str() == "A" && first.ms() == 1000 && second.ms() == 1001,
-        _ => false,
+/// Writes how many requests a session had, or the number of its fault.
+fn tell_end(out: &mut String, served: Result<u32, SessionFault>) -> Result<(), AllocError> {
+    match served {
+        Ok(count) => tell_number(out, "requests ", u64::from(count)),
+        Err(fault) => tell_number(out, "fault ", u64::from(fault.fault().number())),
     }
+}
+
+fn tell_number(out: &mut String, word: &str, number: u64) -> Result<(), AllocError> {
+    out.push_str(word)?;
+    push_number(out, number)
+}
+
+/// Serves a session at the moments 1000, 1001 and 1002 to a writer that holds so much. Tells the requests or the fault of the
+/// session, the asks, the moment that the clock tells next, and what was written.
+fn served<R: Source>(
+    alloc: Global,
+    desk: &mut Stored,
+    reader: &mut R,
+    most: usize,
+) -> Result<String, Fault> {
+    let mut out = String::new(alloc);
+    let mut clock = clock(alloc, &[1000, 1001, 1002])?;
+    let mut writer = Narrow::of(alloc, most);
+    let served = serve(alloc, desk, &mut clock, reader, &mut writer);
+    tell_end(&mut out, served)?;
+    tell_number(&mut out, " asks ", desk.count)?;
+    tell_number(&mut out, " next ", clock.now().ms())?;
+    out.push_str(" ")?;
+    out.push_str(writer.text())?;
+    Ok(out)
+}
+
+fn serve<R: Source>(
+    alloc: Global,
+    desk: &mut Stored,
+    clock: &mut ListClock,
+    reader: &mut R,
+    writer: &mut Narrow,
+) -> Result<u32, SessionFault> {
+    match Routes::new(alloc) {
+        Ok(routes) => serve_session(alloc, &routes, desk, clock, reader, writer),
+        Err(_error) => Err(SessionFault::OutOfMemory),
+    }
+}
+
+/// The same of a session of a text, whose desk has no faults.
+fn told(alloc: Global, text: &str) -> Result<String, Fault> {
+    let mut reader = text.as_bytes();
+    served(alloc, &mut Stored::of(alloc), &mut reader, usize::MAX)
+}
+
+/// The same where the text is cut, followed by the asks.
+fn cut(alloc: Global, text: &str, at: usize) -> Result<String, Fault> {
+    let Some((first, second)) = text.as_bytes().split_at_checked(at) else {
+        return Err(Fault::BadValue);
+    };
+    let mut desk = Stored::of(alloc);
+    let mut reader = Parts::ending(first, second);
+    let mut told = served(alloc, &mut desk, &mut reader, usize::MAX)?;
+    told.push_str(desk.asked.as_str())?;
+    Ok(told)
+}
+
+/// Whether each cut of the text gives a session of which that is told.
+fn each_cut_tells(alloc: Global, text: &str, session: &str) -> Result<bool, Fault> {
+    for at in 0..text.len() {
+        let told = cut(alloc, text, at)?;
+        if told.as_str() != session {
+            return Ok(false);
+        }
+    }
+    Ok(true)
 }
 
 #[test]
 fn any_cut_gives_the_same_session(rt: HostRuntime) -> Result<(), Fail> {
     let alloc = rt.alloc();
-    let text = format!(in alloc;
-        "POST /eureka/v2/apps/a HTTP/1.1\r\nHost: x\r\nContent-Length: 150\r\n\r\n{REGISTRATION}GET /eureka/apps/A/i1 HTTP/1.1\r\nHost: x\r\n\r\nGET /eureka/apps/delta HTTP/1.1\r\nHost: x\r\n\r\n"
+    let text = joined(
+        alloc,
+        &[
+            "POST /eureka/v2/apps/a HTTP/1.1\r\nHost: x\r\nContent-Length: 150\r\n\r\n",
+            REGISTRATION,
+            "GET /eureka/apps/A/i1 HTTP/1.1\r\nHost: x\r\n\r\nGET /eureka/apps/delta HTTP/1.1\r\nHost: x\r\n\r\n",
+        ],
     )?;
-    let responses = format!(in alloc;
-        "HTTP/1.1 204 No Content\r\n\r\nHTTP/1.1 200 OK\r\nContent-Type: application/json\r\nContent-Length: 345\r\n\r\n{LISTED}HTTP/1.1 403 Forbidden\r\nContent-Length: 0\r\n\r\n"
+    let session = joined(
+        alloc,
+        &[
+            "requests 3 asks 2 next 1002 HTTP/1.1 204 No Content\r\n\r\nHTTP/1.1 200 OK\r\nContent-Type: application/json\r\nContent-Length: 345\r\n\r\n",
+            LISTED,
+            "HTTP/1.1 403 Forbidden\r\nContent-Length: 0\r\n\r\nregister 5 at 1000;A i1 at 1001;",
+        ],
     )?;
-    let bytes = text.as_bytes();
-    for cut in 0..bytes.len() {
-        let mut desk = Stored::of(alloc);
-        let look = View::One(Some(listed(alloc)?));
-        desk.answers.push(Ok(Answer::Saw(look)))?;
-        let reply = Reply::Registered { fresh: true };
-        desk.answers.push(Ok(Answer::Did(reply)))?;
-        let mut reader = Parts::ending(&bytes[..cut], &bytes[cut..]);
-        let mut writer = Narrow::of(alloc, usize::MAX);
-        let served = serve(alloc, &mut desk, &mut reader, &mut writer);
-        assert!(rt; served == Ok(3), "cut at {cut}");
-        assert!(rt; writer.text() == responses.as_str(), "cut at {cut}");
-        assert!(rt; are_the_two(&desk.asked), "cut at {cut}");
-    }
+    assert!(rt; each_cut_tells(alloc, &text, &session)?);
     Ok(())
 }
 
 #[test]
 fn the_hundredth_request_is_the_last(rt: HostRuntime) -> Result<(), Fail> {
     let alloc = rt.alloc();
-    let mut text = String::new(alloc);
-    let mut responses = String::new(alloc);
-    for n in 0..=MAX_REQUESTS {
-        text.push_str(RENEWAL)?;
-        if n < MAX_REQUESTS - 1 {
-            responses.push_str(RENEWED)?;
-        }
-    }
-    responses.push_str("HTTP/1.1 200 OK\r\nContent-Length: 0\r\nConnection: close\r\n\r\n")?;
-    let mut desk = Stored::renewing(alloc, MAX_REQUESTS + 1)?;
-    let mut reader = text.as_bytes();
-    let mut writer = Narrow::of(alloc, usize::MAX);
-    assert!(rt; serve(alloc, &mut desk, &mut reader, &mut writer) == Ok(100));
-    assert!(rt; writer.text() == responses.as_str());
-    assert!(rt; desk.asked.len() == 100 && desk.answers.len() == 1);
+    let text = repeated(alloc, RENEWAL, MAX_REQUESTS + 1)?;
+    let responses = repeated(alloc, RENEWED, 99)?;
+    let session = joined(
+        alloc,
+        &[
+            "requests 100 asks 100 next 1002 ",
+            &responses,
+            "HTTP/1.1 200 OK\r\nContent-Length: 0\r\nConnection: close\r\n\r\n",
+        ],
+    )?;
+    assert!(rt; told(alloc, &text)? == session);
     Ok(())
 }
 
 #[test]
-fn a_request_closes_its_session(rt: HostRuntime) -> Result<(), Fail> {
+fn a_session_ends(rt: HostRuntime) -> Result<(), Fail> {
     let alloc = rt.alloc();
     let heads = [
-        "DELETE /eureka/apps/A/i1 HTTP/1.0\r\n\r\n",
-        "DELETE /eureka/apps/A/i1 HTTP/1.1\r\nHost: x\r\nConnection: Close\r\n\r\n",
+        // with a request that closes it
+        (
+            "DELETE /eureka/apps/A/i1 HTTP/1.0\r\n\r\nPUT /eureka/apps/A/i1 HTTP/1.1\r\nHost: x\r\n\r\n",
+            "requests 1 asks 1 next 1001 HTTP/1.1 200 OK\r\nContent-Length: 0\r\nConnection: close\r\n\r\n",
+        ),
+        (
+            "DELETE /eureka/apps/A/i1 HTTP/1.1\r\nHost: x\r\nConnection: Close\r\n\r\nPUT /eureka/apps/A/i1 HTTP/1.1\r\nHost: x\r\n\r\n",
+            "requests 1 asks 1 next 1001 HTTP/1.1 200 OK\r\nContent-Length: 0\r\nConnection: close\r\n\r\n",
+        ),
+        // before a request
+        ("", "requests 0 asks 0 next 1000 "),
+        ("\r\n\r\n", "requests 0 asks 0 next 1000 "),
+        (
+            RENEWAL,
+            "requests 1 asks 1 next 1001 HTTP/1.1 200 OK\r\nContent-Length: 0\r\n\r\n",
+        ),
     ];
-    for head in heads {
-        let text = format!(in alloc; "{head}{RENEWAL}")?;
-        let mut desk = Stored::renewing(alloc, 2)?;
-        let mut reader = text.as_bytes();
-        let mut writer = Narrow::of(alloc, usize::MAX);
-        assert!(rt; serve(alloc, &mut desk, &mut reader, &mut writer) == Ok(1));
-        assert_eq!(rt;
-            writer.text(),
-            "HTTP/1.1 200 OK\r\nContent-Length: 0\r\nConnection: close\r\n\r\n"
-        );
-        assert!(rt; desk.asked.len() == 1);
-    }
-    Ok(())
-}
-
-#[test]
-fn a_session_ends_before_a_request(rt: HostRuntime) -> Result<(), Fail> {
-    let alloc = rt.alloc();
-    for (text, count) in [("", 0u32), ("\r\n\r\n", 0), (RENEWAL, 1)] {
-        let mut desk = Stored::renewing(alloc, 1)?;
-        let mut reader = text.as_bytes();
-        let mut writer = Narrow::of(alloc, usize::MAX);
-        assert!(rt; serve(alloc, &mut desk, &mut reader, &mut writer) == Ok(count));
-        assert_eq!(rt; writer.text(), if count == 1 { RENEWED } else { "" });
+    for (text, session) in heads {
+        assert!(rt; told(alloc, text)?.as_str() == session);
     }
     Ok(())
 }
@@ -308,80 +396,72 @@ fn a_session_ends_before_a_request(rt: HostRuntime) -> Result<(), Fail> {
 #[test]
 fn a_framing_fault_counts_and_closes(rt: HostRuntime) -> Result<(), Fail> {
     let alloc = rt.alloc();
-    let routes = Routes::new(alloc)?;
-    let text = format!(in alloc; "{RENEWAL}{LONG}{RENEWAL}")?;
-    let mut desk = Stored::renewing(alloc, 3)?;
-    let mut clock = clock(alloc, &[1000, 1001])?;
-    let mut reader = text.as_bytes();
-    let mut writer = Narrow::of(alloc, usize::MAX);
-    let served = serve_session(
+    let text = joined(alloc, &[RENEWAL, LONG, RENEWAL])?;
+    let session = joined(
         alloc,
-        &routes,
-        &mut desk,
-        &mut clock,
-        &mut reader,
-        &mut writer,
-    );
-    assert!(rt; served == Ok(2));
-    let responses = format!(in alloc; "{RENEWED}{LONG_REFUSED}")?;
-    assert_eq!(rt; writer.text(), responses.as_str());
-    assert!(rt; desk.asked.len() == 1);
-    assert!(rt; clock.now().ms() == 1001);
+        &["requests 2 asks 1 next 1001 ", RENEWED, LONG_REFUSED],
+    )?;
+    assert!(rt; told(alloc, &text)? == session);
     Ok(())
 }
 
 #[test]
 fn a_fault_behind_the_framing_goes_on(rt: HostRuntime) -> Result<(), Fail> {
     let alloc = rt.alloc();
-    let text = format!(in alloc;
-        "GET /eureka/peers HTTP/1.1\r\nHost: x\r\n\r\nPUT /eureka/apps/%FF/i1 HTTP/1.1\r\nHost: x\r\n\r\n{RENEWAL}{RENEWAL}"
-    )?;
     let mut desk = Stored::of(alloc);
-    desk.answers.push(Err(Fault::Full))?;
-    desk.answers.push(Err(Fault::OutOfMemory))?;
+    desk.faults.push(Fault::Full)?;
+    desk.faults.push(Fault::OutOfMemory)?;
+    let text =
+        "GET /eureka/peers HTTP/1.1\r\nHost: x\r\n\r\nPUT /eureka/apps/%FF/i1 HTTP/1.1\r\nHost: x\r\n\r\nPUT /eureka/apps/A/i1 HTTP/1.1\r\nHost: x\r\n\r\nPUT /eureka/apps/A/i1 HTTP/1.1\r\nHost: x\r\n\r\n";
     let mut reader = text.as_bytes();
-    let mut writer = Narrow::of(alloc, usize::MAX);
-    assert!(rt; serve(alloc, &mut desk, &mut reader, &mut writer) == Ok(4));
-    let json = "Content-Type: application/json\r\nContent-Length:";
-    let responses = format!(in alloc;
-        "HTTP/1.1 404 Not Found\r\nContent-Length: 0\r\n\r\nHTTP/1.1 400 Bad Request\r\n{json} 12\r\n\r\n{{\"fault\":37}}HTTP/1.1 503 Service Unavailable\r\n{json} 11\r\n\r\n{{\"fault\":3}}HTTP/1.1 503 Service Unavailable\r\n{json} 11\r\n\r\n{{\"fault\":7}}"
-    )?;
-    assert_eq!(rt; writer.text(), responses.as_str());
-    assert!(rt; desk.asked.len() == 2);
+    let told = served(alloc, &mut desk, &mut reader, usize::MAX)?;
+    assert!(rt;
+        told.as_str()
+            == "requests 4 asks 2 next 1002 HTTP/1.1 404 Not Found\r\nContent-Length: 0\r\n\r\nHTTP/1.1 400 Bad Request\r\nContent-Type: application/json\r\nContent-Length: 12\r\n\r\n{\"fault\":37}HTTP/1.1 503 Service Unavailable\r\nContent-Type: application/json\r\nContent-Length: 11\r\n\r\n{\"fault\":3}HTTP/1.1 503 Service Unavailable\r\nContent-Type: application/json\r\nContent-Length: 11\r\n\r\n{\"fault\":7}"
+    );
     Ok(())
 }
 
 #[test]
 fn a_reader_fails(rt: HostRuntime) -> Result<(), Fail> {
     let alloc = rt.alloc();
-    let text = format!(in alloc; "{RENEWAL}PUT /eureka/apps/A/i1 HTTP/1.1\r\n")?;
-    let mut desk = Stored::renewing(alloc, 2)?;
+    let mut desk = Stored::of(alloc);
+    let text = joined(alloc, &[RENEWAL, "PUT /eureka/apps/A/i1 HTTP/1.1\r\n"])?;
+    let session = joined(alloc, &["fault 40 asks 1 next 1001 ", RENEWED])?;
     let mut reader = Parts::failing(text.as_bytes());
-    let mut writer = Narrow::of(alloc, usize::MAX);
-    let served = serve(alloc, &mut desk, &mut reader, &mut writer);
-    assert!(rt; served == Err(SessionFault::Read));
-    assert_eq!(rt; writer.text(), RENEWED);
-    assert!(rt; desk.asked.len() == 1);
+    let told = served(alloc, &mut desk, &mut reader, usize::MAX)?;
+    assert!(rt; told == session);
     Ok(())
+}
+
+/// Whether a session of the text has written that where the writer held so much, and failed.
+fn fails_at(alloc: Global, text: &str, responses: &str, most: usize) -> Result<bool, Fault> {
+    let Some((written, _)) = responses.split_at_checked(most) else {
+        return Err(Fault::BadValue);
+    };
+    let session = joined(alloc, &["fault 41 asks 1 next 1001 ", written])?;
+    let mut desk = Stored::of(alloc);
+    let mut reader = text.as_bytes();
+    let told = served(alloc, &mut desk, &mut reader, most)?;
+    Ok(told == session)
+}
+
+/// Whether it fails so at each place of the responses.
+fn fails_at_each(alloc: Global, text: &str, responses: &str) -> Result<bool, Fault> {
+    for most in 0..=responses.len() {
+        if !fails_at(alloc, text, responses, most)? {
+            return Ok(false);
+        }
+    }
+    Ok(true)
 }
 
 #[test]
 fn a_writer_fails(rt: HostRuntime) -> Result<(), Fail> {
     let alloc = rt.alloc();
-    let text = format!(in alloc; "{RENEWAL}{LONG}")?;
-    let responses = format!(in alloc; "{RENEWED}{LONG_REFUSED}")?;
-    for most in 0..=responses.len() {
-        let mut desk = Stored::renewing(alloc, 2)?;
-        let mut reader = text.as_bytes();
-        let mut writer = Narrow::of(alloc, most);
-        let served = serve(alloc, &mut desk, &mut reader, &mut writer);
-        assert!(rt; served == Err(SessionFault::Write), "at {most}");
-        assert!(rt;
-            writer.held.as_slice() == &responses.as_bytes()[..most],
-            "at {most}"
-        );
-        assert!(rt; desk.asked.len() == 1, "at {most}");
-    }
+    let text = joined(alloc, &[RENEWAL, LONG])?;
+    let responses = joined(alloc, &[RENEWED, LONG_REFUSED])?;
+    assert!(rt; fails_at_each(alloc, &text, &responses)?);
     Ok(())
 }
 
@@ -392,27 +472,17 @@ fn faults_have_their_numbers(rt: HostRuntime) {
     assert!(rt; SessionFault::OutOfMemory.fault().number() == 3);
 }
 
-/// What a session calls.
-#[derive(Clone, Copy, Debug, PartialEq, Eq)]
-enum Call {
-    Read,
-    Told,
-    Asked,
-    Write,
-    Flush,
-}
-
-/// Notes a call in the list that all share.
-fn note(calls: &RefCell<Vec<Call>>, call: Call) {
+/// Writes a call behind those before.
+fn call(calls: &RefCell<String>, word: &str) {
     if let Ok(mut calls) = calls.try_borrow_mut() {
-        let _noted = calls.push(call);
+        let _noted = calls.push_str(word);
     }
 }
 
 /// Reads from a reader, and notes it.
 #[derive(Drop)]
 struct NotingReader<'a> {
-    calls: &'a RefCell<Vec<Call>>,
+    calls: &'a RefCell<String>,
     parts: Parts<'a>,
 }
 
@@ -424,7 +494,7 @@ impl Source for NotingReader<'_> {
     ghost failed = { λ s. s.parts.has_failed };
 
     fn read_some(&mut self, buffer: &mut [u8]) -> Result<usize, ReadFault> {
-        note(self.calls, Call::Read);
+        call(self.calls, "read ");
         self.parts.read_some(buffer)
     }
 }
@@ -432,7 +502,7 @@ impl Source for NotingReader<'_> {
 /// Takes what is written, and notes it.
 #[derive(Drop)]
 struct NotingWriter<'a> {
-    calls: &'a RefCell<Vec<Call>>,
+    calls: &'a RefCell<String>,
 }
 
 impl Sink for NotingWriter<'_> {
@@ -445,12 +515,12 @@ impl Sink for NotingWriter<'_> {
     ghost failed = { λ _. false };
 
     fn write_some(&mut self, bytes: &[u8]) -> Result<usize, WriteFault> {
-        note(self.calls, Call::Write);
+        call(self.calls, "write ");
         Ok(bytes.len())
     }
 
     fn flush(&mut self) -> Result<(), WriteFault> {
-        note(self.calls, Call::Flush);
+        call(self.calls, "flush ");
         Ok(())
     }
 }
@@ -458,7 +528,7 @@ impl Sink for NotingWriter<'_> {
 /// Tells the moment 7, and notes it.
 #[derive(Drop)]
 struct NotingClock<'a> {
-    calls: &'a RefCell<Vec<Call>>,
+    calls: &'a RefCell<String>,
     moment: Moment,
 }
 
@@ -466,7 +536,7 @@ impl Clock for NotingClock<'_> {
     ghost tells = { λ _ _ _. Unit {0} };
 
     fn now(&mut self) -> Moment {
-        note(self.calls, Call::Told);
+        call(self.calls, "told ");
         self.moment
     }
 }
@@ -474,14 +544,14 @@ impl Clock for NotingClock<'_> {
 /// Finds nothing that it is asked for, and notes it.
 #[derive(Drop)]
 struct NotingDesk<'a> {
-    calls: &'a RefCell<Vec<Call>>,
+    calls: &'a RefCell<String>,
 }
 
 impl Desk for NotingDesk<'_> {
     ghost asked = { λ _ _ _ _ _. Unit {0} };
 
     fn ask(&mut self, _alloc: Global, _ask: Ask, _moment: Moment) -> Result<Answer, Fault> {
-        note(self.calls, Call::Asked);
+        call(self.calls, "asked ");
         Ok(Answer::Did(Reply::NotFound))
     }
 }
@@ -489,7 +559,7 @@ impl Desk for NotingDesk<'_> {
 /// Serves a session of these two texts, and notes the calls.
 fn serve_noting(
     alloc: Global,
-    calls: &RefCell<Vec<Call>>,
+    calls: &RefCell<String>,
     first: &[u8],
     second: &[u8],
 ) -> Result<u32, Fault> {
@@ -516,24 +586,13 @@ fn serve_noting(
 #[test]
 fn calls_come_in_their_order(rt: HostRuntime) -> Result<(), Fail> {
     let alloc = rt.alloc();
-    let calls = RefCell::new(Vec::new(alloc));
+    let calls = RefCell::new(String::new(alloc));
     let first = b"PUT /eureka/apps/A/i1 HTTP/1.1\r\nHost: x\r\nContent-Length: 4\r\n\r\nbo";
     let second = b"dyGET /eureka/status HTTP/1.1\r\nHost: x\r\n\r\n";
-    assert!(rt; serve_noting(alloc, &calls, first, second) == Ok(2));
-    let expected = [
-        Call::Read,
-        Call::Read,
-        Call::Told,
-        Call::Asked,
-        Call::Write,
-        Call::Flush,
-        Call::Told,
-        Call::Asked,
-        Call::Asked,
-        Call::Write,
-        Call::Flush,
-        Call::Read,
-    ];
-    assert!(rt; calls.into_inner().as_slice() == &expected[..]);
+    assert!(rt; serve_noting(alloc, &calls, first, second)? == 2);
+    assert_eq!(rt;
+        calls.into_inner().as_str(),
+        "read read told asked write flush told asked asked write flush read "
+    );
     Ok(())
 }

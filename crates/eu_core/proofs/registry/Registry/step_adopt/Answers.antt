@@ -5,7 +5,8 @@ use Rattle.eu_base.specs.declared.instances.Instance.{Instance}
 use Rattle.eu_model.specs.declared.commands.Command.TheVariants.{Adopt}
 use Rattle.eu_model.specs.Answers.{Answers, IsRefusal}
 use Rattle.eu_model.proofs.AdoptLemmas.{adopt_refused}
-use Rattle.eu_core.specs.Stepped.{instance_at, taken}
+use Rattle.eu_model.specs.Plain.{kept_instance}
+use Rattle.eu_core.specs.Stepped.{taken}
 use Rattle.eu_core.proofs.StepLemmas.{refused_as, no_memory, are_of, adopt_plain, adopt_held}
 use Rattle.eu_core.proofs.registry.Registry.step_adopt.Goals as goal
 
@@ -36,5 +37,5 @@ finish-requires-clause-own c =
     let p = c.args.self.now in
     let q = c.adopt.new.self in
     let a = subst (λ (x : Instance). Answers p (Adopt x) c.args.moment (Ok c.in_ok-reply.reply) q) c.in_ok-own.ensures c.in_ok-reply.ensures.answers in
-    are_of c.args.held (Some (taken (instance_at p n.key) n)) (instance_at q n.key) c.in_ok-prepared.prepared.copies.items
+    are_of c.args.held (Some (taken (kept_instance p n.key) n)) (kept_instance q n.key) c.in_ok-prepared.prepared.copies.items
     (adopt_held c.args.moment p q c.in_ok-reply.reply n a) c.in_ok-prepared.ensures.copies

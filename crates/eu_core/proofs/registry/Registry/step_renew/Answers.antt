@@ -2,7 +2,7 @@ use Rattle.std.proofs.Common.{sym, subst, ◌∙◌}
 use Rattle.std.specs.Prelude.{Ok}
 use Rattle.eu_model.specs.declared.commands.Command.TheVariants.{Renew}
 use Rattle.eu_model.specs.Answers.{Answers}
-use Rattle.eu_core.specs.Stepped.{instance_at}
+use Rattle.eu_model.specs.Plain.{kept_instance}
 use Rattle.eu_core.proofs.StepLemmas.{are_of, renew_is, renew_held}
 use Rattle.eu_core.proofs.registry.Registry.step_renew.Goals as goal
 
@@ -11,7 +11,7 @@ as_held-held-requires c =
     let a = c.args in
     let k = a.key.now in
     let q = c.renew.new.self in
-    are_of a.held (instance_at a.self.now k) (instance_at q k) c.in_ok-room.field-0.copies.items
+    are_of a.held (kept_instance a.self.now k) (kept_instance q k) c.in_ok-room.field-0.copies.items
     (renew_held k a.moment a.self.now q c.in_ok-renew.field-0 a.dirty a.overridden a.replicated c.in_ok-renew.ensures.answers) c.in_ok-room.ensures.copies
 
 pub returns-clause-ok : goal.returns-clause-ok

@@ -1,6 +1,6 @@
 use Rattle.std.proofs.Common.{true, refl}
 use Rattle.eu_model.specs.declared.commands.Command.TheVariants.{SetStatus}
-use Rattle.eu_core.specs.Stepped.{instance_at}
+use Rattle.eu_model.specs.Plain.{kept_instance}
 use Rattle.eu_core.proofs.StepLemmas.{no_memory, memory_refused, are_of, set_plain, set_held}
 use Rattle.eu_core.proofs.registry.Registry.step_set_status.Goals as goal
 
@@ -16,5 +16,5 @@ finish-requires-clause-own c =
     let k = c.args.key.now in
     let p = c.args.self.now in
     let q = c.set_status.new.self in
-    are_of c.args.held (instance_at p k) (instance_at q k) c.in_ok-prepared.prepared.copies.items
+    are_of c.args.held (kept_instance p k) (kept_instance q k) c.in_ok-prepared.prepared.copies.items
     (set_held k c.args.moment p q c.in_ok-reply.reply c.args.status c.args.dirty true (c.in_ok-reply.ensures.answers true)) c.in_ok-prepared.ensures.copies

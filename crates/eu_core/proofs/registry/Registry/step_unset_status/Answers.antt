@@ -1,6 +1,6 @@
 use Rattle.std.proofs.Common.{true, refl}
 use Rattle.eu_model.specs.declared.commands.Command.TheVariants.{UnsetStatus}
-use Rattle.eu_core.specs.Stepped.{instance_at}
+use Rattle.eu_model.specs.Plain.{kept_instance}
 use Rattle.eu_core.proofs.StepLemmas.{no_memory, memory_refused, are_of, unset_plain, unset_held}
 use Rattle.eu_core.proofs.registry.Registry.step_unset_status.Goals as goal
 
@@ -16,5 +16,5 @@ finish-requires-clause-own c =
     let k = c.args.key.now in
     let p = c.args.self.now in
     let q = c.unset_status-reply.new.self in
-    are_of c.args.held (instance_at p k) (instance_at q k) c.in_ok-prepared.prepared.copies.items
+    are_of c.args.held (kept_instance p k) (kept_instance q k) c.in_ok-prepared.prepared.copies.items
     (unset_held k c.args.moment p q c.unset_status-reply.result c.args.status c.args.dirty true (c.unset_status-reply.ensures true)) c.in_ok-prepared.ensures.copies

@@ -1,16 +1,14 @@
--- Faults, and runs of the lease machine
-use Rattle.std.specs.Prelude.{◌≡◌, ℕ, ◌^◌, ◌==◌, ◌&&◌, if◌then◌else◌, Option, Some, None, List, [], ◌∷◌}
+-- Why the lease machine refuses a command
+use Rattle.std.specs.Prelude.{ℕ, ◌^◌, ◌==◌, ◌&&◌, if◌then◌else◌, Option, Some, None}
 use Rattle.std.specs.FinMap.{get, len, contains_key}
 use Rattle.eu_base.specs.declared.faults.Fault.{Fault}
 use Rattle.eu_base.specs.declared.faults.Fault.TheVariants.{Full, Exhausted}
 use Rattle.eu_base.specs.declared.names.Key.{Key}
 use Rattle.eu_model.specs.declared.commands.Command.{Command}
-use Rattle.eu_model.specs.declared.commands.Command.TheVariants.{Register, Renew, Cancel, SetStatus, UnsetStatus, Adopt, Roll, Update, Evict}
-use Rattle.eu_model.specs.declared.commands.Entry.{Entry}
+use Rattle.eu_model.specs.declared.commands.Command.TheVariants.{Register, Renew, Cancel, SetStatus, UnsetStatus, Adopt, Roll, Update, Evict, Drain, Landed, Lost}
 use Rattle.eu_model.specs.Marks.{since}
 use Rattle.eu_model.specs.Machine.{Machine}
 use Rattle.eu_model.specs.Change.{renew}
-use Rattle.eu_model.specs.Step.{Step}
 
 -- a lease that comes finds no room, or as many expected as can be
 abbrev pub join_fault : Machine → Key → Option Fault
@@ -33,9 +31,7 @@ fault s (Adopt n) t = join_fault s n.key
 fault s Roll t = None
 fault s Update t = None
 fault s Evict t = None
-
--- each entry is a step that isn't refused, from the machine where the one before ended. Pass and number play no part
-abbrev pub Run : Machine → List Entry → Machine → Type 0
-Run old [] new = new ≡ old
-Run old (e ∷ es) new =
-    (mid : Machine) × (fault old e.command e.moment ≡ None) × Step old e.command e.moment e.reply mid × Run mid es new
+-- what goes to peers is refused by their queues
+fault s (Drain peer) t = None
+fault s (Landed peer codes) t = None
+fault s (Lost peer) t = None

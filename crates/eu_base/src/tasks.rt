@@ -1,0 +1,136 @@
+//! Tasks for peers.
+ghost use Rattle.std.specs.Prelude.{◌≡◌, IfOk};
+ghost use Rattle.eu_base.specs.Action.{action_name, action_of};
+
+use crate::instances::Instance;
+use crate::names::Key;
+use crate::statuses::Status;
+use crate::times::Moment;
+use std::alloc::{AllocError, Global};
+use std::marker::Model;
+
+/// What a task does at a peer (`PeerAwareInstanceRegistryImpl.Action` in Eureka).
+#[derive(Clone, Copy, Debug, PartialEq, Eq, Hash)]
+pub enum Action {
+    /// Registers the instance.
+    Register,
+    /// Renews its lease.
+    Heartbeat,
+    /// Ends its lease.
+    Cancel,
+    /// Has a status override its own.
+    StatusUpdate,
+    /// Takes that back.
+    DeleteStatusOverride,
+}
+
+impl Action {
+    /// The action in Eureka's spelling, as `StatusUpdate`.
+    pub fn name(self) -> &'static str
+        ensures { result.now ≡ action_name self }
+    {
+        match self {
+            Action::Register => "Register",
+            Action::Heartbeat => "Heartbeat",
+            Action::Cancel => "Cancel",
+            Action::StatusUpdate => "StatusUpdate",
+            Action::DeleteStatusOverride => "DeleteStatusOverride",
+        }
+    }
+
+    /// The action of that name. None for any other text.
+    pub fn read(text: &str) -> Option<Action>
+        ensures { result ≡ action_of text.now }
+    {
+        match text {
+            "Register" => Some(Action::Register),
+            "Heartbeat" => Some(Action::Heartbeat),
+            "Cancel" => Some(Action::Cancel),
+            "StatusUpdate" => Some(Action::StatusUpdate),
+            "DeleteStatusOverride" => Some(Action::DeleteStatusOverride),
+            _ => None,
+        }
+    }
+}
+
+/// The name of a task. Of tasks with one name, one waits at most.
+#[derive(Debug, Drop, PartialEq, Eq, Hash)]
+pub struct TaskName {
+    /// What it does.
+    pub action: Action,
+    /// The lease of which it speaks.
+    pub key: Key,
+}
+
+/// What a peer is to be told of a lease.
+#[derive(Debug, Drop)]
+pub struct Task {
+    /// What is to be done.
+    pub action: Action,
+    /// The lease of which it speaks.
+    pub key: Key,
+    /// The status: of a `StatusUpdate` the one that is set, of a `DeleteStatusOverride` the one that the instance has then.
+    pub status: Option<Status>,
+    /// The instance that was held then; a `Cancel` has none.
+    pub instance: Option<Instance>,
+    /// When it was queued, in milliseconds.
+    pub queued: Moment,
+}
+
+impl Task {
+    /// The same task once more.
+    pub fn copy(&self, alloc: Global) -> Result<Task, AllocError>
+        ensures { IfOk result (λ t. t ≡ self.now) }
+    {
+        let key = self.key.copy(alloc)?;
+        let instance = match &self.instance {
+            Some(instance) => Some(instance.copy(alloc)?),
+            None => None,
+        };
+        Ok(Task {
+            action: self.action,
+            key,
+            status: self.status,
+            instance,
+            queued: self.queued,
+        })
+    }
+}
+
+/// The HTTP statuses by which a peer answered the tasks of a batch, in their order. Contracts see the list.
+#[derive(Debug, Drop)]
+pub struct Codes {
+    codes: Vec<u16>,
+}
+
+impl Model for Codes {
+    ghost use Rattle.std.specs.Prelude.{ℕ, List};
+
+    ghost Value = { List ℕ };
+
+    ghost view = { λ c. c.codes.items };
+}
+
+impl Codes {
+    /// These statuses. Takes no memory.
+    pub fn new(codes: Vec<u16>) -> Codes
+        ensures { result ≡ codes.items }
+    {
+        Codes { codes }
+    }
+
+    /// The statuses, one after the other.
+    pub fn as_slice(&self) -> &[u16]
+        ensures { result.now ≡ self.now }
+    {
+        self.codes.as_slice()
+    }
+
+    /// The same statuses once more. `AllocError` where no memory is left.
+    pub fn copy(&self, alloc: Global) -> Result<Codes, AllocError>
+        ensures { IfOk result (λ c. c ≡ self.now) }
+    {
+        let codes = Vec::from_slice(alloc, self.codes.as_slice())?;
+        Ok(Codes { codes })
+    }
+}

@@ -1,0 +1,177 @@
+-- What is copied for each peer, what each is told, and what is done with one peer's outbox
+use Rattle.std.proofs.Common.{◌≡◌, ℕ, zero, suc, ◌<◌, Bool, true, false, true≢false, List, [], ◌∷◌, ◌++◌, length, map, Option, Some, None, Result, OnOk, OnErr, refl, sym, ap, ◌∙◌, subst, arith}
+use Rattle.std.specs.Prelude.{Ok, Err, is_some, option_to_list, replicate, slice_get, slice_index_or, slice_set}
+use Rattle.std.proofs.Math.Seq.{map-set_same}
+use Rattle.std.specs.Option.{option_map}
+use Rattle.std.proofs.lemmas.List.{append-nil, length-replicate, map-append, map-id, map-set}
+use Rattle.std.proofs.lemmas.Option.{slice_get-map, slice_get-get_or, slice_get_past, get_or_from_slice_get}
+use Rattle.eu_base.specs.declared.faults.Fault.{Fault}
+use Rattle.eu_base.specs.declared.faults.Fault.TheVariants.{NoPeer}
+use Rattle.eu_base.specs.declared.instances.Instance.{Instance}
+use Rattle.eu_base.specs.declared.names.Key.{Key}
+use Rattle.eu_core.specs.Stepped.{copies_of}
+use Rattle.eu_model.specs.declared.commands.Command.{Command}
+use Rattle.eu_model.specs.declared.commands.Command.TheVariants.{Register, Renew, Cancel, SetStatus, UnsetStatus, Adopt, Roll, Update, Evict, Drain, Landed, Lost}
+use Rattle.eu_model.specs.declared.commands.Reply.{Reply}
+use Rattle.eu_model.specs.declared.commands.Reply.TheVariants.{Batch, Settled}
+use Rattle.eu_model.specs.declared.queues.Queue.{Queue}
+use Rattle.eu_model.specs.Answers.{Answers, IsRefusal}
+use Rattle.eu_model.specs.Plain.{Plain, held_under}
+use Rattle.eu_model.specs.Queue.{drained, drain_fault, landed, landed_fault, lost, lost_fault}
+use Rattle.eu_model.specs.Server.{key_of, is_for_peers, task_for, with_task}
+use Rattle.eu_model.specs.ServerAnswers.{ServerAnswers}
+use Rattle.eu_model.proofs.ServedLemmas.{server, registry_answers, drain_answers, landed_answers, lost_answers, drain_refuses, landed_refuses, lost_refuses, drain_of_nobody, landed_at_nobody, lost_to_nobody}
+use Rattle.eu_outbox.specs.Boxed.{Boxed}
+use Rattle.eu_book.specs.Peers.{queues_of, served, told_key, QueuesAnswer}
+
+-- ---- copies
+
+abbrev heads : {X : Type 0} → X → List X → X
+heads d [] = d
+heads d (x ∷ xs) = x
+
+abbrev tails : {X : Type 0} → List X → List X
+tails [] = []
+tails (x ∷ xs) = xs
+
+not_empty : {X : Type 0} (y : X) (ys : List X) → y ∷ ys ≡ [] → ⊥
+not_empty y ys e = cc
+
+-- the last of some equal values, and those before it
+pub popped : {X : Type 0} (m : ℕ) (x y : X) (rest : List X) → rest ++ y ∷ [] ≡ replicate (suc m) x → (y ≡ x) × (rest ≡ replicate m x)
+popped zero x y [] e = (ap (heads y) e, refl)
+popped zero x y (z ∷ []) e = cc
+popped zero x y (z ∷ (w ∷ rest)) e = cc
+popped (suc m) x y [] e = cc
+popped (suc m) x y (z ∷ rest) e =
+    let before = popped m x y rest (ap tails e) in
+    (before.0, λ i. ap (heads z) e i ∷ before.1 i)
+
+-- the last of some copies, where there are any, and those before it; `old` is long as n says, and something was taken from it if it could be
+pub pop_copies : {X : Type 0} (m n : ℕ) (i last : Option X) (rest old : List X) → old ≡ rest ++ option_to_list last → old ≡ copies_of (suc m) i → n ≡ length old
+    → (0 < n → is_some last ≡ true) → (last ≡ i) × (rest ≡ copies_of m i)
+pop_copies m n None None rest old e is long some = (refl, sym (append-nil rest) ∙ sym e ∙ is)
+pop_copies m n None (Some y) [] old e is long some = absurd (not_empty y [] (sym e ∙ is))
+pop_copies m n None (Some y) (z ∷ rest) old e is long some = absurd (not_empty z (rest ++ y ∷ []) (sym e ∙ is))
+pop_copies m n (Some x) None rest old e is long some =
+    let many : n ≡ suc m = long ∙ ap length is ∙ length-replicate (suc m) x in
+    absurd (true≢false (sym (some (omega (arith, many)))))
+pop_copies m n (Some x) (Some y) rest old e is long some = let p = popped m x y rest (sym e ∙ is) in (ap Some p.0, p.1)
+
+-- ---- what is told
+
+pub untold : (c : Command) (t : ℕ) (r : Reply) (i : Option Instance) → told_key c ≡ None → task_for c t r i ≡ None
+untold (Register n true) t r i e = refl
+untold (Register n false) t r i e = cc
+untold (Renew k dirty overridden true) t r i e = refl
+untold (Renew k dirty overridden false) t r i e = cc
+untold (Cancel k true) t r i e = refl
+untold (Cancel k false) t r i e = cc
+untold (SetStatus k status dirty true) t r i e = refl
+untold (SetStatus k status dirty false) t r i e = cc
+untold (UnsetStatus k suggested dirty true) t r i e = refl
+untold (UnsetStatus k suggested dirty false) t r i e = cc
+untold (Adopt n) t r i e = refl
+untold Roll t r i e = refl
+untold Update t r i e = refl
+untold Evict t r i e = refl
+untold (Drain peer) t r i e = refl
+untold (Landed peer codes) t r i e = refl
+untold (Lost peer) t r i e = refl
+
+-- the registry's step alone, where nobody is told of it
+pub told_nobody : (p : Plain) (boxes : List Boxed) (c : Command) (t : ℕ) (reply : Reply) (new : Plain) → is_for_peers c ≡ false → told_key c ≡ None → Answers p c t (Ok reply) new
+    → ServerAnswers (served p boxes) c t (Ok reply) (served new boxes)
+told_nobody p boxes c t reply new kind none answers =
+    let i = held_under new (key_of c) in
+    subst (λ qs. ServerAnswers (served p boxes) c t (Ok reply) (server new qs)) (ap (λ x. map (with_task x) (queues_of boxes)) (untold c t reply i none) ∙ map-id (queues_of boxes))
+    (registry_answers p (queues_of boxes) c t reply new kind answers)
+
+-- the registry's step, of which each peer is told
+pub told_all : (p : Plain) (old boxes : List Boxed) (c : Command) (t : ℕ) (reply : Reply) (new : Plain) → is_for_peers c ≡ false → Answers p c t (Ok reply) new
+    → queues_of boxes ≡ map (with_task (task_for c t reply (held_under new (key_of c)))) (queues_of old)
+    → ServerAnswers (served p old) c t (Ok reply) (served new boxes)
+told_all p old boxes c t reply new kind answers told =
+    subst (λ qs. ServerAnswers (served p old) c t (Ok reply) (server new qs)) (sym told) (registry_answers p (queues_of old) c t reply new kind answers)
+
+-- queues of which each is changed, and one more
+pub told_push : (f : Queue → Queue) (old xs ys : List Boxed) (last next : Boxed) (new : List Boxed) → old ≡ xs ++ last ∷ [] → new ≡ ys ++ next ∷ []
+    → queues_of ys ≡ map f (queues_of xs) → next.queue ≡ f last.queue → queues_of new ≡ map f (queues_of old)
+told_push f old xs ys last next new from to others one =
+    ap queues_of to ∙ map-append (λ b. b.queue) ys (next ∷ []) ∙ (λ i. others i ++ one i ∷ [])
+    ∙ sym (ap (λ l. map f (queues_of l)) from ∙ ap (map f) (map-append (λ b. b.queue) xs (last ∷ [])) ∙ map-append f (queues_of xs) (last.queue ∷ []))
+
+-- ---- results
+
+pub on_ok : {A E : Type 0} {P Q R : Type 0} → (r : Result A E) → (P → Q → R) → OnOk r P → OnOk r Q → OnOk r R
+on_ok (Ok x) f p q = f p q
+on_ok (Err e) f p q = tt
+
+pub on_err : {A E : Type 0} {P Q : Type 0} → (r : Result A E) → (P → Q) → OnErr r P → OnErr r Q
+on_err (Ok x) f p = tt
+on_err (Err e) f p = f p
+
+-- ---- places
+
+-- what stands at a place within, as it is lent
+pub lent : {X : Type 0} (xs : List X) (i n : ℕ) (x : X) → n ≡ length xs → (true ≡ true → i < n) → x ≡ slice_index_or xs i x → slice_get xs i ≡ Some x
+lent xs i n x long within is = slice_get-get_or xs i x (subst (λ m. i < m) long (within refl)) ∙ ap Some (sym is)
+
+pub past : {X : Type 0} (xs : List X) (i n : ℕ) → n ≡ length xs → (i < n → false ≡ true) → slice_get xs i ≡ None
+past xs i n long within = slice_get_past xs i (omega (arith, long, λ (lt : i < n). true≢false (sym (within lt))))
+
+-- ---- one peer's outbox
+
+module _ (boxes : List Boxed) (peer : ℕ) (b : Boxed) (found : slice_get boxes peer ≡ Some b) where
+  queue_at : slice_get (queues_of boxes) peer ≡ Some b.queue
+  queue_at = slice_get-map (λ x. x.queue) boxes peer ∙ ap (option_map (λ x. x.queue)) found
+
+  -- with what its queue becomes
+  with_queue : (next : Boxed) (q : Queue) → next.queue ≡ q → ◌≡◌ {A = Queue × List Queue} (q, slice_set (queues_of boxes) peer q) (next.queue, queues_of (slice_set boxes peer next))
+  with_queue next q is i = (sym is i, (ap (slice_set (queues_of boxes) peer) (sym is) ∙ sym (map-set (λ x. x.queue) boxes peer next)) i)
+
+  -- with an outbox of the same queue, nothing is changed
+  pub same_queue : (next : Boxed) → next.queue ≡ b.queue → queues_of (slice_set boxes peer next) ≡ queues_of boxes
+  same_queue next is = map-set_same (λ x. x.queue) boxes peer next b (is ∙ ap (λ x. x.queue) (sym (get_or_from_slice_get boxes peer b b found)))
+
+  pub drains : (t : ℕ) (next : Boxed) → drain_fault t b.queue ≡ None → next.queue ≡ drained t b.queue
+      → QueuesAnswer boxes (Drain peer) t (Ok (Batch next.queue.flight)) (slice_set boxes peer next)
+  drains t next none is p =
+      subst (λ x. ServerAnswers (served p boxes) (Drain peer) t (Ok (Batch x.0.flight)) (server p x.1)) (with_queue next (drained t b.queue) is)
+      (drain_answers p (queues_of boxes) peer b.queue queue_at t none)
+
+  pub lands : (t : ℕ) (codes : List ℕ) (next : Boxed) → landed_fault codes b.queue ≡ None → next.queue ≡ landed t codes b.queue
+      → QueuesAnswer boxes (Landed peer codes) t (Ok Settled) (slice_set boxes peer next)
+  lands t codes next none is p =
+      subst (λ x. ServerAnswers (served p boxes) (Landed peer codes) t (Ok Settled) (server p x.1)) (with_queue next (landed t codes b.queue) is)
+      (landed_answers p (queues_of boxes) peer b.queue queue_at t codes none)
+
+  pub loses : (t : ℕ) (next : Boxed) → lost_fault b.queue ≡ None → next.queue ≡ lost t b.queue
+      → QueuesAnswer boxes (Lost peer) t (Ok Settled) (slice_set boxes peer next)
+  loses t next none is p =
+      subst (λ x. ServerAnswers (served p boxes) (Lost peer) t (Ok Settled) (server p x.1)) (with_queue next (lost t b.queue) is)
+      (lost_answers p (queues_of boxes) peer b.queue queue_at t none)
+
+  pub refuses_to_drain : (t : ℕ) (f : Fault) → IsRefusal (drain_fault t b.queue) f → QueuesAnswer boxes (Drain peer) t (Err f) boxes
+  refuses_to_drain t f is p = drain_refuses p (queues_of boxes) peer b.queue queue_at t f is
+
+  pub refuses_to_land : (t : ℕ) (codes : List ℕ) (f : Fault) → IsRefusal (landed_fault codes b.queue) f → QueuesAnswer boxes (Landed peer codes) t (Err f) boxes
+  refuses_to_land t codes f is p = landed_refuses p (queues_of boxes) peer b.queue queue_at t codes f is
+
+  pub refuses_to_lose : (t : ℕ) (f : Fault) → IsRefusal (lost_fault b.queue) f → QueuesAnswer boxes (Lost peer) t (Err f) boxes
+  refuses_to_lose t f is p = lost_refuses p (queues_of boxes) peer b.queue queue_at t f is
+
+-- ---- no peer of that number
+
+module _ (boxes : List Boxed) (peer : ℕ) (none : slice_get boxes peer ≡ None) where
+  nobody_at : slice_get (queues_of boxes) peer ≡ None
+  nobody_at = slice_get-map (λ x. x.queue) boxes peer ∙ ap (option_map (λ x. x.queue)) none
+
+  pub nobody_drains : (t : ℕ) → QueuesAnswer boxes (Drain peer) t (Err NoPeer) boxes
+  nobody_drains t p = drain_of_nobody p (queues_of boxes) peer nobody_at t
+
+  pub nobody_lands : (t : ℕ) (codes : List ℕ) → QueuesAnswer boxes (Landed peer codes) t (Err NoPeer) boxes
+  nobody_lands t codes p = landed_at_nobody p (queues_of boxes) peer nobody_at t codes
+
+  pub nobody_loses : (t : ℕ) → QueuesAnswer boxes (Lost peer) t (Err NoPeer) boxes
+  nobody_loses t p = lost_to_nobody p (queues_of boxes) peer nobody_at t

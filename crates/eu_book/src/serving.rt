@@ -1,0 +1,127 @@
+//! What a registry and the outboxes of its peers answer together.
+ghost use Rattle.std.specs.Prelude.{◌≡◌, false, None, Some, Ok, Err, replicate, IfOk, IfErr, OnErr};
+ghost use Rattle.eu_base.specs.declared.names.Key.{Key};
+ghost use Rattle.eu_core.specs.Stepped.{Chooses};
+ghost use Rattle.eu_model.specs.Server.{is_for_peers};
+ghost use Rattle.eu_model.specs.ServerAnswers.{ServerAnswers};
+ghost use Rattle.eu_book.specs.Peers.{MayRefuse, served, told_key};
+
+use crate::peers::Peers;
+use crate::tasks::told_key;
+use eu_base::{Fault, Key, Moment};
+use eu_clock::Chooser;
+use eu_core::Registry;
+use eu_model::{Command, Reply};
+use std::alloc::{AllocError, Global};
+
+/// Answers a command, in two equal replies.
+pub(crate) fn serve<C: Chooser>(
+    alloc: Global,
+    registry: &mut Registry,
+    peers: &mut Peers,
+    command: &Command,
+    moment: Moment,
+    chooser: &mut C,
+) -> Result<(Reply, Reply), Fault>
+    ensures same { IfOk result (λ r. r.1 ≡ r.0) }
+    ensures answers { IfOk result (λ r. ServerAnswers (served registry.old peers.old) command.now moment (Ok r.0) (served registry.new peers.new)) }
+    ensures chooses { IfOk result (λ r. Chooses C.asks registry.old chooser.old command.now moment r.0 chooser.new) }
+    ensures refused { IfErr result (λ f. MayRefuse (served registry.old peers.old) command.now moment f) }
+    ensures err { OnErr result (served registry.new peers.new ≡ served registry.old peers.old) }
+    ensures unasked { OnErr result (chooser.new ≡ chooser.old) }
+{
+    match command {
+        Command::Drain { peer } => peers.drain(alloc, *peer, moment),
+        Command::Landed { peer, codes } => {
+            peers.landed(*peer, codes, moment)?;
+            Ok(settled())
+        }
+        Command::Lost { peer } => {
+            peers.lost(*peer, moment)?;
+            Ok(settled())
+        }
+        command => match told_key(command) {
+            Some(key) => step_and_tell(alloc, registry, peers, command, key, moment, chooser),
+            None => step(alloc, registry, peers, command, moment, chooser),
+        },
+    }
+}
+
+/// The step of a command of which the peers aren't told.
+fn step<C: Chooser>(
+    alloc: Global,
+    registry: &mut Registry,
+    peers: &Peers,
+    command: &Command,
+    moment: Moment,
+    chooser: &mut C,
+) -> Result<(Reply, Reply), Fault>
+    requires kind { is_for_peers command.now ≡ false }
+    requires untold { told_key command.now ≡ None }
+    ensures same { IfOk result (λ r. r.1 ≡ r.0) }
+    ensures answers { IfOk result (λ r. ServerAnswers (served registry.old peers.now) command.now moment (Ok r.0) (served registry.new peers.now)) }
+    ensures chooses { IfOk result (λ r. Chooses C.asks registry.old chooser.old command.now moment r.0 chooser.new) }
+    ensures refused { IfErr result (λ f. MayRefuse (served registry.old peers.now) command.now moment f) }
+    ensures err { OnErr result (registry.new ≡ registry.old) }
+    ensures unasked { OnErr result (chooser.new ≡ chooser.old) }
+{
+    let stepped = registry.step(alloc, command, moment, 2, 0, chooser)?;
+    Ok(both(stepped.replies))
+}
+
+/// The step of a command of which the peers may be told, and what they are told.
+fn step_and_tell<C: Chooser>(
+    alloc: Global,
+    registry: &mut Registry,
+    peers: &mut Peers,
+    command: &Command,
+    key: &Key,
+    moment: Moment,
+    chooser: &mut C,
+) -> Result<(Reply, Reply), Fault>
+    requires kind { is_for_peers command.now ≡ false }
+    requires key { told_key command.now ≡ Some key.now }
+    ensures same { IfOk result (λ r. r.1 ≡ r.0) }
+    ensures answers { IfOk result (λ r. ServerAnswers (served registry.old peers.old) command.now moment (Ok r.0) (served registry.new peers.new)) }
+    ensures chooses { IfOk result (λ r. Chooses C.asks registry.old chooser.old command.now moment r.0 chooser.new) }
+    ensures refused { IfErr result (λ f. MayRefuse (served registry.old peers.old) command.now moment f) }
+    ensures err { OnErr result (served registry.new peers.new ≡ served registry.old peers.old) }
+    ensures unasked { OnErr result (chooser.new ≡ chooser.old) }
+{
+    let count = peers.count();
+    peers.reserve()?;
+    let keys = copies(alloc, key, count)?;
+    let stepped = registry.step(alloc, command, moment, 2, count, chooser)?;
+    let (reply, same) = both(stepped.replies);
+    peers.tell(command, &reply, moment, keys, stepped.held);
+    Ok((reply, same))
+}
+
+/// So many copies of a key.
+fn copies(alloc: Global, key: &Key, count: u32) -> Result<Vec<Key>, AllocError>
+    ensures { IfOk result (λ copies. copies.items ≡ replicate count key.now) }
+{
+    let mut copies = Vec::with_capacity(alloc, count as usize)?;
+    for _ in 0..count {
+        copies.push(key.copy(alloc)?)?;
+    }
+    Ok(copies)
+}
+
+/// The two of some equal replies.
+fn both(mut replies: Vec<Reply>) -> (Reply, Reply)
+    requires { (r : Reply) × (replies.items ≡ replicate 2 r) }
+    ensures { (r : Reply) → replies.items ≡ replicate 2 r → (result.0 ≡ r) × (result.1 ≡ r) }
+{
+    match (replies.pop(), replies.pop()) {
+        (Some(reply), Some(same)) => (reply, same),
+        _ => unreachable!(),
+    }
+}
+
+/// The replies of a batch that is in flight no more.
+fn settled() -> (Reply, Reply)
+    ensures { (result.0 ≡ Reply.Settled) × (result.1 ≡ Reply.Settled) }
+{
+    (Reply::Settled, Reply::Settled)
+}

@@ -1,0 +1,75 @@
+-- What is read again of a batch that was written
+use Rattle.std.specs.Prelude.{◌≡◌, ℕ, true, ◌<◌, ◌≤◌, List, length, map, Option, Some, None, Ok, is_some}
+use Rattle.std.specs.List.{AllByRecursion}
+use Rattle.std.specs.Str.{str_to_ascii_uppercase}
+use Rattle.serde_json.specs.Read.{read}
+use Rattle.eu_base.specs.declared.instances.Instance.{Instance}
+use Rattle.eu_base.specs.declared.names.Key.{Key}
+use Rattle.eu_base.specs.declared.statuses.Status.{Status}
+use Rattle.eu_base.specs.declared.tasks.Action.{Action}
+use Rattle.eu_base.specs.declared.tasks.Action.TheVariants as action
+use Rattle.eu_base.specs.declared.tasks.Task.{Task}
+use Rattle.eu_json.specs.Batch.{batch_of, most_items}
+use Rattle.eu_json.specs.BatchTree.{batch_tree}
+use Rattle.eu_json.specs.Fields.{fields_of}
+use Rattle.eu_json.specs.Reading.{instance_of}
+use Rattle.eu_json.specs.Said.{Said, Register, Renew, Cancel, SetStatus, UnsetStatus, Other}
+
+-- ---- what a task asks its receiver for
+
+-- A command that a peer sends, by the task's action: with its status, and the stamp and the overridden status of its instance
+abbrev pub command_by : Action → Key → Option Status → Option Instance → Said
+command_by action.Register k status (Some i) = Register (fields_of i) true
+command_by action.Heartbeat k status (Some i) = Renew k (Some i.dirty) (Some i.overridden) true
+command_by action.Cancel k status instance = Cancel k true
+command_by action.StatusUpdate k (Some status) (Some i) = SetStatus k status (Some i.dirty) true
+command_by action.DeleteStatusOverride k status (Some i) = UnsetStatus k status (Some i.dirty) true
+command_by _ k _ _ = Other
+
+abbrev pub asked_by : Task → Said
+asked_by t = command_by t.action t.key t.status t.instance
+
+-- ---- which tasks
+
+-- names of 1 to 255 bytes, the ASCII letters of the application in capitals
+pub record IsKey (k : Key) : Type 0 where
+  pub app_filled : 0 < length k.app
+  pub app_short : length k.app ≤ 255
+  pub in_capitals : str_to_ascii_uppercase k.app ≡ k.app
+  pub id_filled : 0 < length k.id
+  pub id_short : length k.id ≤ 255
+
+-- the instance is what some text says at some moment
+abbrev pub IsRead : Instance → Type 0
+IsRead i = (text : List ℕ) × (moment : ℕ) × (instance_of i.key.app moment text ≡ Ok (fields_of i))
+
+-- there is an instance, with the task's key, and it is one that was read
+abbrev pub HasInstance : Key → Option Instance → Type 0
+HasInstance k None = ⊥
+HasInstance k (Some i) = (i.key ≡ k) × IsRead i
+
+-- just those of status and instance that an action has
+abbrev pub HasParts : Action → Key → Option Status → Option Instance → Type 0
+HasParts action.Register k status instance = (status ≡ None) × HasInstance k instance
+HasParts action.Heartbeat k status instance = (status ≡ None) × HasInstance k instance
+HasParts action.Cancel k status instance = (status ≡ None) × (instance ≡ None)
+HasParts action.StatusUpdate k status instance = (is_some status ≡ true) × HasInstance k instance
+HasParts action.DeleteStatusOverride k status instance = (is_some status ≡ true) × HasInstance k instance
+
+abbrev pub IsSound : Task → Type 0
+IsSound t = IsKey t.key × HasParts t.action t.key t.status t.instance
+
+-- no more tasks than a batch holds, each with what its action has
+pub record IsBatch (tasks : List Task) : Type 0 where
+  pub few : length tasks ≤ most_items
+  pub sound : AllByRecursion IsSound tasks
+
+-- ---- the law
+
+-- at any moment the text says what the tasks ask for, in order
+abbrev pub SaysTasks : List ℕ → List Task → Type 0
+SaysTasks text tasks = (moment : ℕ) → batch_of moment text ≡ Ok (map asked_by tasks)
+
+-- so does each text whose JSON is the one that is written for them
+abbrev pub BatchesComeBack : Type 0
+BatchesComeBack = (tasks : List Task) (text : List ℕ) → IsBatch tasks → read text ≡ Some (batch_tree tasks) → SaysTasks text tasks

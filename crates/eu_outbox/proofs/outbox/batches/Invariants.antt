@@ -1,0 +1,7 @@
+use Rattle.std.proofs.Common.{◌≡◌, replicate, take}
+use Rattle.eu_model.specs.Queue.{live}
+use Rattle.eu_outbox.proofs.outbox.batches.Given as goal
+
+-- so many so far
+abbrev pub invariant-loop : goal.invariant-loop
+invariant-loop l = l.batches.items ≡ replicate l.counter (take 250 (live l.moment l.waiting.tasks))

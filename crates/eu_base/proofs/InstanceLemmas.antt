@@ -21,3 +21,7 @@ same_instance i j e =
     let p : ◌≡◌ {A = (d : Data) × Bounds d} (data_of i, (i.dirty_bound, (i.secs_bound, i.interval_bound))) (data_of j, (j.dirty_bound, (j.secs_bound, j.interval_bound))) =
     Σ_prop_path (λ d. ×_prop le_prop (×_prop (×_prop le_prop le_prop) (×_prop le_prop le_prop))) e in
     λ t. record { key = (p t).0.0; status = (p t).0.1; overridden = (p t).0.2; dirty = (p t).0.3; secs = (p t).0.4; interval = (p t).0.5; rest = (p t).0.6; dirty_bound = (p t).1.0; secs_bound = (p t).1.1.0; interval_bound = (p t).1.1.1 }
+
+pub same_in_each : (i j : Instance) → i.key ≡ j.key → i.status ≡ j.status → i.overridden ≡ j.overridden → i.dirty ≡ j.dirty → i.secs ≡ j.secs → i.interval ≡ j.interval → i.rest ≡ j.rest → i ≡ j
+same_in_each i j key status overridden dirty secs interval rest =
+    same_instance i j (λ t. (key t, status t, overridden t, dirty t, secs t, interval t, rest t))

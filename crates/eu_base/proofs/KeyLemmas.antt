@@ -2,11 +2,14 @@
 use Rattle.std.proofs.Common.{◌≡◌, ℕ, List, ◌&&◌, refl, ap, sym, ◌∙◌}
 use Rattle.std.specs.declared.cmp.Ordering.{Ordering}
 use Rattle.std.specs.declared.cmp.Ordering.TheVariants.{Less, Equal, Greater}
+use Rattle.std.specs.Bool.{Decides}
 use Rattle.std.specs.Ordering.{ordering_then, eq_by_cmp, is_eq}
 use Rattle.std.specs.Cmp.{IsTotalOrder, eq_by_cmp_equiv}
 use Rattle.std.specs.FinMap.{IsAntisymmetric}
 use Rattle.std.specs.Cmp.Lexicographic.{texts_ties}
+use Rattle.std.proofs.lemmas.Bool.{and_parts, and_from}
 use Rattle.std.proofs.lemmas.Cmp.{on_total, then_total, nat_list_cmp_total}
+use Rattle.std.proofs.lemmas.Slice.Eq.{bytes_eq-Decides}
 use Rattle.std.proofs.lemmas.Map.Lookups.{exact_bytes, exact_pairs}
 use Rattle.eu_base.specs.declared.names.Key.{Key}
 use Rattle.eu_base.specs.Key.{name_cmp, key_cmp, name_eq, key_eq}
@@ -40,3 +43,16 @@ key_eq-tie i a b = key_eq-ties a b i
 
 pub key_eq-flips : (a b : Key) → key_eq a b ≡ key_eq b a
 key_eq-flips a b = key_eq-ties a b ∙ (eq_by_cmp_equiv keys_total).symm a b ∙ sym (key_eq-ties b a)
+
+-- keys that test equal are equal
+pub key_eq-Decides : (a b : Key) → Decides (key_eq a b) (a ≡ b)
+key_eq-Decides a b = (
+  (λ e.
+      let p = and_parts (name_eq a.app b.app) (name_eq a.id b.id) e in
+      let app = (bytes_eq-Decides a.app b.app).0 p.0 in
+      let id = (bytes_eq-Decides a.id b.id).0 p.1 in
+      λ i. record { app = app i; id = id i }),
+  (λ e. and_from (name_eq a.app b.app) (name_eq a.id b.id)
+      ((bytes_eq-Decides a.app b.app).1 (ap (λ k. k.app) e))
+      ((bytes_eq-Decides a.id b.id).1 (ap (λ k. k.id) e))),
+)

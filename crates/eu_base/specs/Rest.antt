@@ -1,17 +1,30 @@
 -- The members of an instance that are kept as they came
-use Rattle.std.specs.Prelude.{◌≡◌, ℕ, true, false, is_some, List, codes}
+use Rattle.std.specs.Prelude.{◌≡◌, ℕ, true, false, is_some, Option, Some, None, List, codes, String, string_bytes}
+use Rattle.std.specs.Borrow.{Bor}
+use Rattle.std.specs.declared.alloc.Global.{Global}
 use Rattle.serde_json.specs.Data.{Data, string, object, no_members, member}
 use Rattle.serde_json.specs.Find.{as_object}
+use Rattle.serde_json.specs.View.{view}
 use Rattle.serde_json.specs.Written.{has_float}
+use Rattle.serde_json.specs.declared.value.Value.{Value}
 
 -- an object, whose numbers are all whole
 pub record IsRest (d : Data) : Type 0 where
   pub members : is_some (as_object d) ≡ true
   pub whole : has_float d ≡ false
 
--- host name, an address, and a data center of the client's own
+-- a data center of the client's own
+abbrev pub center_of_host : Data
+center_of_host = object (member (codes "name") (string (codes "MyOwn")) no_members)
+
+-- host name, an address, and such a data center
 abbrev pub rest_of_host : List ℕ → Data
 rest_of_host host = object
-    (member (codes "dataCenterInfo") (object (member (codes "name") (string (codes "MyOwn")) no_members))
+    (member (codes "dataCenterInfo") center_of_host
     (member (codes "hostName") (string host)
     (member (codes "ipAddr") (string (codes "0.0.0.0")) no_members)))
+
+-- a member that may be there: its name and its tree
+abbrev pub named_tree : Option (Bor (String Global) × Bor Value) → Option (List ℕ × Data)
+named_tree None = None
+named_tree (Some m) = Some (string_bytes m.0.now, view m.1.now)

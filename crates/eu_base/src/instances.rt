@@ -1,5 +1,5 @@
 //! Instances, as they are registered.
-ghost use Rattle.std.specs.Prelude.{◌≡◌, ◌<◌, ◌≤◌, ◌^◌, IfOk};
+ghost use Rattle.std.specs.Prelude.{◌≡◌, ◌<◌, ◌≤◌, ◌^◌, ◌↔◌, IfOk, IsTrue};
 
 use crate::names::Key;
 use crate::rest::Rest;
@@ -34,6 +34,31 @@ impl Instance {
 
     /// The seconds between renewals where the registration gives none (`LeaseInfo.DEFAULT_LEASE_RENEWAL_INTERVAL` in Eureka).
     pub const DEFAULT_INTERVAL: u32 = 30;
+
+    /// Whether both are equal in every field. Takes no memory.
+    pub fn same(&self, other: &Instance) -> bool
+        ensures { IsTrue result ↔ (self.now ≡ other.now) }
+    {
+        self.key == other.key
+            && self.has_statuses_of(other)
+            && self.has_times_of(other)
+            && self.rest.same(&other.rest)
+    }
+
+    /// Whether both have the same statuses.
+    fn has_statuses_of(&self, other: &Instance) -> bool
+        ensures { IsTrue result ↔ ((self.now.status ≡ other.now.status) × (self.now.overridden ≡ other.now.overridden)) }
+    {
+        self.status == other.status && self.overridden == other.overridden
+    }
+
+    /// Whether both have the same stamp, duration and interval.
+    fn has_times_of(&self, other: &Instance) -> bool
+        ensures { IsTrue result
+            ↔ ((self.now.dirty ≡ other.now.dirty) × (self.now.secs ≡ other.now.secs) × (self.now.interval ≡ other.now.interval)) }
+    {
+        self.dirty == other.dirty && self.secs == other.secs && self.interval == other.interval
+    }
 
     /// The same instance once more.
     pub fn copy(&self, alloc: Global) -> Result<Instance, AllocError>

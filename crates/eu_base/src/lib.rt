@@ -9,6 +9,7 @@ mod settings;
 mod statuses;
 mod tasks;
 mod times;
+mod trees;
 
 pub use faults::Fault;
 pub use instances::Instance;

@@ -1,5 +1,5 @@
 //! What a client gave of its instance beside what the registry reads.
-ghost use Rattle.std.specs.Prelude.{◌≡◌, ◌↔◌, false, IfOk, IfSome, IsSome};
+ghost use Rattle.std.specs.Prelude.{◌≡◌, ◌↔◌, false, IfOk, IfSome, IsSome, IsTrue};
 ghost use Rattle.std.specs.Option.{option_map};
 ghost use Rattle.serde_json.specs.Data.{object};
 ghost use Rattle.serde_json.specs.Find.{as_object};
@@ -7,6 +7,7 @@ ghost use Rattle.serde_json.specs.View.{view as tree_of, items_view, members_vie
 ghost use Rattle.serde_json.specs.Written.{has_float, items_have_float, members_have_float};
 ghost use Rattle.eu_base.specs.Rest.{IsRest, rest_of_host};
 
+use crate::trees::{are_of_host, same_members};
 use serde_json::{Map, Value, json};
 use std::alloc::{AllocError, Global};
 use std::marker::Model;
@@ -77,6 +78,18 @@ impl Rest {
         } else {
             let members = self.members.clone()?;
             Ok(members)
+        }
+    }
+
+    /// Whether both are equal in every member, whichever way each keeps them. Takes no memory.
+    pub fn same(&self, other: &Rest) -> bool
+        ensures { IsTrue result ↔ (self.now ≡ other.now) }
+    {
+        match (self.of_host, other.of_host) {
+            (true, true) => self.host.as_str() == other.host.as_str(),
+            (true, false) => are_of_host(&other.members, &self.host),
+            (false, true) => are_of_host(&self.members, &other.host),
+            (false, false) => same_members(&self.members, &other.members),
         }
     }
 

@@ -1,5 +1,5 @@
 //! Tasks for peers.
-ghost use Rattle.std.specs.Prelude.{◌≡◌, IfOk};
+ghost use Rattle.std.specs.Prelude.{◌≡◌, ◌↔◌, IfOk, IsTrue};
 ghost use Rattle.eu_base.specs.Action.{action_name, action_of};
 
 use crate::instances::Instance;
@@ -78,6 +78,17 @@ pub struct Task {
 }
 
 impl Task {
+    /// Whether both are equal in every field. Takes no memory.
+    pub fn same(&self, other: &Task) -> bool
+        ensures { IsTrue result ↔ (self.now ≡ other.now) }
+    {
+        self.action == other.action
+            && self.key == other.key
+            && self.status == other.status
+            && self.queued.ms() == other.queued.ms()
+            && same_or_none(&self.instance, &other.instance)
+    }
+
     /// The same task once more.
     pub fn copy(&self, alloc: Global) -> Result<Task, AllocError>
         ensures { IfOk result (λ t. t ≡ self.now) }
@@ -94,6 +105,17 @@ impl Task {
             instance,
             queued: self.queued,
         })
+    }
+}
+
+/// Whether both are equal instances, or neither is there.
+fn same_or_none(instance: &Option<Instance>, other: &Option<Instance>) -> bool
+    ensures { IsTrue result ↔ (instance.now ≡ other.now) }
+{
+    match (instance, other) {
+        (Some(instance), Some(other)) => instance.same(other),
+        (None, None) => true,
+        _ => false,
     }
 }
 
@@ -124,6 +146,13 @@ impl Codes {
         ensures { result.now ≡ self.now }
     {
         self.codes.as_slice()
+    }
+
+    /// Whether both are equal in every status. Takes no memory.
+    pub fn same(&self, other: &Codes) -> bool
+        ensures { IsTrue result ↔ (self.now ≡ other.now) }
+    {
+        self.codes.as_slice() == other.codes.as_slice()
     }
 
     /// The same statuses once more. `AllocError` where no memory is left.

@@ -113,22 +113,72 @@ fn settings_have_limits(rt: HostRuntime) -> Result<(), Fail> {
     Ok(())
 }
 
-#[test]
-fn an_instance_is_copied(rt: HostRuntime) -> Result<(), Fail> {
-    let instance = Instance {
-        key: key(rt.alloc(), "a", "i1")?,
+fn instance(alloc: Global, overridden: Status) -> Result<Instance, Fault> {
+    Ok(Instance {
+        key: key(alloc, "a", "i1")?,
         status: Status::Starting,
-        overridden: Status::OutOfService,
+        overridden,
         dirty: 7,
         secs: 90,
         interval: 30,
-        rest: Rest::of_host(rt.alloc(), "i1")?,
-    };
+        rest: Rest::of_host(alloc, "i1")?,
+    })
+}
+
+#[test]
+fn an_instance_is_copied(rt: HostRuntime) -> Result<(), Fail> {
+    let instance = instance(rt.alloc(), Status::OutOfService)?;
     let copy = instance.copy(rt.alloc())?;
     assert!(rt; copy.key == instance.key);
     assert!(rt; copy.status == Status::Starting && copy.overridden == Status::OutOfService);
     assert!(rt; copy.dirty == 7 && copy.secs == 90 && copy.interval == 30);
     assert!(rt; copy.rest.to_members(rt.alloc())? == instance.rest.to_members(rt.alloc())?);
+    Ok(())
+}
+
+fn is_same_instance(alloc: Global, overridden: Status) -> Result<bool, Fault> {
+    let first = instance(alloc, Status::Down)?;
+    let second = instance(alloc, overridden)?;
+    Ok(first.same(&second))
+}
+
+#[test]
+fn instances_are_compared(rt: HostRuntime) -> Result<(), Fail> {
+    assert!(rt; is_same_instance(rt.alloc(), Status::Down)?);
+    assert!(rt; !is_same_instance(rt.alloc(), Status::Unknown)?);
+    Ok(())
+}
+
+fn task(alloc: Global, queued: u64) -> Result<Task, Fault> {
+    Ok(Task {
+        action: Action::StatusUpdate,
+        key: key(alloc, "a", "i1")?,
+        status: Some(Status::Up),
+        instance: Some(instance(alloc, Status::Up)?),
+        queued: Moment::new(queued).ok_or(Fault::Exhausted)?,
+    })
+}
+
+fn is_same_task(alloc: Global, queued: u64) -> Result<bool, Fault> {
+    let first = task(alloc, 5)?;
+    let second = task(alloc, queued)?;
+    Ok(first.same(&second))
+}
+
+#[test]
+fn tasks_are_compared(rt: HostRuntime) -> Result<(), Fail> {
+    assert!(rt; is_same_task(rt.alloc(), 5)?);
+    assert!(rt; !is_same_task(rt.alloc(), 6)?);
+    Ok(())
+}
+
+#[test]
+fn codes_are_compared(rt: HostRuntime) -> Result<(), Fail> {
+    let first = Codes::new(vec![in rt.alloc(); 200, 404]?);
+    let second = Codes::new(vec![in rt.alloc(); 200, 404]?);
+    let third = Codes::new(vec![in rt.alloc(); 200, 409]?);
+    assert!(rt; first.same(&second));
+    assert!(rt; !first.same(&third));
     Ok(())
 }
 
@@ -166,5 +216,44 @@ fn a_rest_is_an_object_of_whole_numbers(rt: HostRuntime) -> Result<(), Fail> {
         let value = Value::from_str(rt.alloc(), text)?;
         assert!(rt; Rest::new(rt.alloc(), value).is_some() == good);
     }
+    Ok(())
+}
+
+fn rest(alloc: Global, text: &str) -> Result<Rest, Fail> {
+    let value = Value::from_str(alloc, text)?;
+    Ok(Rest::new(alloc, value).ok_or(Fault::NotWhole)?)
+}
+
+#[test]
+fn rests_are_compared(rt: HostRuntime) -> Result<(), Fail> {
+    let cases = [
+        ("{}", "{ }", true),
+        ("{}", r#"{"n":1}"#, false),
+        (r#"{"n":1}"#, r#"{"n":-1}"#, false),
+        (r#"{"n":1}"#, r#"{"n":"1"}"#, false),
+        (r#"{"n":1}"#, r#"{"m":1}"#, false),
+        (
+            r#"{"a":[1,-2,{}],"b":null}"#,
+            r#"{"b":null,"a":[1,-2,{}]}"#,
+            true,
+        ),
+        (r#"{"a":[1,-2,{}]}"#, r#"{"a":[1,-2]}"#, false),
+        (r#"{"a":[true,false]}"#, r#"{"a":[false,true]}"#, false),
+    ];
+    for (text, other, same) in cases {
+        let other = rest(rt.alloc(), other)?;
+        assert!(rt; rest(rt.alloc(), text)?.same(&other) == same);
+    }
+    Ok(())
+}
+
+#[test]
+fn a_hosts_rest_is_compared(rt: HostRuntime) -> Result<(), Fail> {
+    let text = r#"{"hostName":"h","ipAddr":"0.0.0.0","dataCenterInfo":{"name":"MyOwn"}}"#;
+    let kept = rest(rt.alloc(), text)?;
+    let host = Rest::of_host(rt.alloc(), "h")?;
+    let other = Rest::of_host(rt.alloc(), "i")?;
+    assert!(rt; host.same(&kept) && kept.same(&host));
+    assert!(rt; !other.same(&kept) && !kept.same(&other) && !other.same(&host));
     Ok(())
 }

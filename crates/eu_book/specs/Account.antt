@@ -1,5 +1,5 @@
 -- What a book keeps, and what a command changes in it
-use Rattle.std.specs.Prelude.{◌≡◌, ◌⊎◌, ℕ, ◌+◌, ◌<◌, ◌≤◌, ◌==◌, List, [], ◌∷◌, ◌++◌, length, Option, Some, Ok, if◌then◌else◌}
+use Rattle.std.specs.Prelude.{◌≡◌, ◌⊎◌, ℕ, ◌+◌, ◌<◌, ◌≤◌, ◌^◌, ◌==◌, List, [], ◌∷◌, ◌++◌, length, Option, Some, Ok, if◌then◌else◌}
 use Rattle.std.specs.FinMap.{len}
 use Rattle.eu_base.specs.declared.faults.Fault.{Fault}
 use Rattle.eu_base.specs.declared.faults.Fault.TheVariants.{Exhausted, OutOfMemory}
@@ -15,6 +15,7 @@ use Rattle.eu_model.specs.Runs.{Runs, IsNumbered}
 use Rattle.eu_model.specs.Server.{Server, PlainServer, plain_server, server_fault}
 use Rattle.eu_model.specs.Server as server
 use Rattle.eu_model.specs.ServerAnswers.{ServerAnswers}
+use Rattle.eu_book.specs.declared.journal.Logged.{Logged}
 
 -- the plain form that the entries begin at, the number of the first one, the entries, the plain form now, and what was done
 pub record Account : Type 0 where
@@ -38,11 +39,22 @@ opened config expected peers = record {
 abbrev pub most_entries : ℕ
 most_entries = 65536
 
--- The entries are a run of the server from the base to the state, and are numbered from the first on. What was done is what
--- they did: as many leases are held as were added and not removed
+-- a server that was just opened
+pub record IsOpening (p : PlainServer) : Type 0 where
+  pub config : Config
+  pub expected : ℕ
+  pub peers : ℕ
+  pub expected_fits : expected < 2 ^ 32
+  pub peers_fit : peers ≤ 8
+  pub opened : p ≡ plain_server (server.opened config expected peers)
+
+-- The entries are a run of the server from the base, an opening, to the state, and are numbered from the first on, up to the steps
+-- that were made. What was done is what they did: as many leases are held as were added and not removed
 pub record IsLawful (a : Account) : Type 0 where
+  pub opening : IsOpening a.base
   pub run : Runs a.base a.entries a.state
   pub numbered : IsNumbered a.first a.entries
+  pub to_steps : a.first + length a.entries ≡ a.totals.steps
   pub totals : a.totals ≡ tally_of a.entries
   pub leases : len a.state.registry.leases + a.totals.removed ≡ a.totals.added
 
@@ -58,6 +70,10 @@ pub record IsKept (a : Account) : Type 0 where
 
 abbrev pub entry : ℕ → ℕ → Command → ℕ → Reply → Entry
 entry pass number c t reply = record { pass = pass; number = number; command = c; moment = t; reply = reply }
+
+-- what a log keeps of it
+abbrev pub logged : Command → ℕ → Reply → ℕ → Logged
+logged c t reply number = record { command = c; moment = t; reply = reply; number = number }
 
 -- one entry more, and the state that its step leads to
 abbrev pub grown : Account → Entry → PlainServer → Account

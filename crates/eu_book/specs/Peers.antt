@@ -1,7 +1,7 @@
 -- The peers of a book: what waits for each, and what a command tells them
-use Rattle.std.specs.Prelude.{◌≡◌, ◌⊎◌, ℕ, ◌<◌, Bool, true, false, List, map, Option, Some, None, Result, Err}
+use Rattle.std.specs.Prelude.{◌≡◌, ◌≢◌, ◌⊎◌, ℕ, ◌<◌, false, List, map, Option, Some, None, Result, Err}
 use Rattle.eu_base.specs.declared.faults.Fault.{Fault}
-use Rattle.eu_base.specs.declared.faults.Fault.TheVariants.{OutOfMemory}
+use Rattle.eu_base.specs.declared.faults.Fault.TheVariants.{Exhausted, OutOfMemory}
 use Rattle.eu_base.specs.declared.names.Key.{Key}
 use Rattle.eu_core.specs.State as registry
 use Rattle.eu_model.specs.declared.commands.Command.{Command}
@@ -10,9 +10,11 @@ use Rattle.eu_model.specs.declared.commands.Reply.{Reply}
 use Rattle.eu_model.specs.declared.queues.Queue.{Queue}
 use Rattle.eu_model.specs.declared.states.State.{State}
 use Rattle.eu_model.specs.Plain.{Plain}
+use Rattle.eu_model.specs.State.{server_of_state}
 use Rattle.eu_model.specs.Server.{PlainServer}
 use Rattle.eu_model.specs.ServerAnswers.{ServerAnswers}
 use Rattle.eu_outbox.specs.Boxed.{Boxed}
+use Rattle.eu_book.specs.Account.{most_entries}
 
 -- the queues of outboxes
 abbrev pub queues_of : List Boxed → List Queue
@@ -43,6 +45,14 @@ QueuesAnswer old c t result new = (p : Plain) → ServerAnswers (served p old) c
 abbrev pub state_of : PlainServer → State
 state_of p = record (registry.state_of p.registry) { queues = p.queues }
 
+-- plain data that is just what its plain form says: each lease and each row once, in key order
+abbrev pub IsPlain : State → Type 0
+IsPlain s = s ≡ state_of (server_of_state s)
+
 -- a command is refused by this fault: as each server of this plain form refuses it, or for want of memory in place of that
 abbrev pub MayRefuse : PlainServer → Command → ℕ → Fault → Type 0
 MayRefuse p c t f = (f ≡ OutOfMemory) ⊎ ServerAnswers p c t (Err f) p
+
+-- the same, where so many entries are kept: by `Exhausted` where they are as many as a journal keeps, and only there
+abbrev pub IsRefused : ℕ → PlainServer → Command → ℕ → Fault → Type 0
+IsRefused kept p c t f = ((kept ≡ most_entries) × (f ≡ Exhausted)) ⊎ ((kept ≢ most_entries) × MayRefuse p c t f)

@@ -1,19 +1,19 @@
 //! The book.
-ghost use Rattle.std.specs.Prelude.{◌≡◌, ◌+◌, ◌<◌, ◌≤◌, ◌^◌, IfOk, IfErr, OnErr};
+ghost use Rattle.std.specs.Prelude.{◌≡◌, ◌≤◌, Some, IfOk, IfErr, OnErr};
 ghost use Rattle.eu_model.specs.Answers.{Shows};
-ghost use Rattle.eu_model.specs.Delta.{plus};
 ghost use Rattle.eu_model.specs.State.{server_of_state};
 ghost use Rattle.eu_model.specs.View.{view};
-ghost use Rattle.eu_book.specs.Account.{opened, Applies, Refuses, IsLawful};
+ghost use Rattle.eu_book.specs.Account.{opened, logged, Applies, Refuses, IsLawful};
+ghost use Rattle.eu_book.specs.Answered.{for_log};
 ghost use Rattle.eu_book.specs.Peers.{served, state_of};
 
-use crate::journal::{Journal, MOST_ENTRIES};
+use crate::entering::{answer, note};
+use crate::journal::{Journal, Logged};
 use crate::peers::Peers;
-use crate::serving::serve;
 use eu_base::{Config, Fault, Moment};
 use eu_clock::Chooser;
 use eu_core::Registry;
-use eu_model::{Command, Entry, Listed, Listing, Query, Reply, Rows, State, Tally, View};
+use eu_model::{Command, Listed, Listing, Query, Reply, Rows, State, Tally, View};
 use std::alloc::{AllocError, Global};
 use std::marker::Model;
 
@@ -24,6 +24,13 @@ pub struct Receipt {
     pub reply: Reply,
     /// The number of its entry in the journal: that of the commands accepted before it.
     pub number: u64,
+}
+
+/// What a command that was entered in the journal is given, and its reply once more for a log.
+#[derive(Drop)]
+pub(crate) struct Entered {
+    pub(crate) receipt: Receipt,
+    pub(crate) logged: Option<Reply>,
 }
 
 /// A registry with the outboxes of its peers, and the journal of what it was told. Contracts see its account.
@@ -38,7 +45,8 @@ pub struct Book {
 impl Model for Book {
     ghost use Rattle.eu_model.specs.State.{server_of_state};
     ghost use Rattle.eu_book.specs.Account.{Account, IsKept};
-    ghost use Rattle.eu_book.specs.Peers.{served};
+    ghost use Rattle.std.specs.Prelude.{◌≡◌};
+    ghost use Rattle.eu_book.specs.Peers.{served, IsPlain};
     ghost use Rattle.eu_book.specs.AccountCode.{coded_account};
 
     ghost Value = { Account };
@@ -47,7 +55,7 @@ impl Model for Book {
 
     ghost view = { λ b. record { base = server_of_state b.journal.base; first = b.journal.first; entries = b.journal.entries.items; state = served b.registry b.peers; totals = b.totals } };
 
-    ghost invariant = { λ b. IsKept (record { base = server_of_state b.journal.base; first = b.journal.first; entries = b.journal.entries.items; state = served b.registry b.peers; totals = b.totals }) };
+    ghost invariant = { λ b. IsPlain b.journal.base × IsKept (record { base = server_of_state b.journal.base; first = b.journal.first; entries = b.journal.entries.items; state = served b.registry b.peers; totals = b.totals }) };
 }
 
 impl Book {
@@ -109,31 +117,77 @@ impl Book {
         ensures err { OnErr result (self.new ≡ self.old) }
         ensures unasked { OnErr result (chooser.new ≡ chooser.old) }
     {
-        if self.journal.entries.len() == MOST_ENTRIES {
-            return Err(Fault::Exhausted);
+        let entered = self.enter(alloc, pass, command, moment, chooser, false)?;
+        Ok(entered.receipt)
+    }
+
+    /// As `apply`; and what a log of one's own keeps of the command, for who has one. All of it is made before anything changes.
+    pub fn apply_logged<C: Chooser>(
+        &mut self,
+        alloc: Global,
+        pass: u64,
+        command: Command,
+        moment: Moment,
+        chooser: &mut C,
+    ) -> Result<(Receipt, Logged), Fault>
+        ensures applied { IfOk result (λ r. Applies C.asks self.old chooser.old pass command moment r.0.reply r.0.number self.new chooser.new) }
+        ensures logged { IfOk result (λ r. r.1 ≡ logged command moment r.0.reply r.0.number) }
+        ensures refused { IfErr result (λ f. Refuses self.old command moment f) }
+        ensures err { OnErr result (self.new ≡ self.old) }
+        ensures unasked { OnErr result (chooser.new ≡ chooser.old) }
+    {
+        let Ok(mine) = command.copy(alloc) else {
+            drop(command);
+            return Err(Fault::OutOfMemory);
+        };
+        match self.enter(alloc, pass, command, moment, chooser, true) {
+            Ok(entered) => Ok(hand_out(entered, mine, moment)),
+            Err(fault) => {
+                drop(mine);
+                Err(fault)
+            }
         }
-        self.journal.entries.reserve(1)?;
-        let (reply, told) = serve(
+    }
+
+    /// Tells the registry a command, and enters it in the journal; gives its reply once more for a log, where one `logs` it.
+    fn enter<C: Chooser>(
+        &mut self,
+        alloc: Global,
+        pass: u64,
+        command: Command,
+        moment: Moment,
+        chooser: &mut C,
+        logs: bool,
+    ) -> Result<Entered, Fault>
+        ensures applied { IfOk result (λ e. Applies C.asks self.old chooser.old pass command moment e.receipt.reply e.receipt.number self.new chooser.new) }
+        ensures logged { IfOk result (λ e. e.logged ≡ for_log logs e.receipt.reply) }
+        ensures refused { IfErr result (λ f. Refuses self.old command moment f) }
+        ensures err { OnErr result (self.new ≡ self.old) }
+        ensures unasked { OnErr result (chooser.new ≡ chooser.old) }
+    {
+        match answer(
             alloc,
+            &mut self.journal.entries,
             &mut self.registry,
             &mut self.peers,
             &command,
             moment,
             chooser,
-        )?;
-        let number = self.totals.steps;
-        add(&mut self.totals, Tally::of(&command, &reply));
-        self.journal.entries.push_reserved(Entry {
-            pass,
-            number,
-            command,
-            moment,
-            reply,
-        });
-        Ok(Receipt {
-            reply: told,
-            number,
-        })
+            logs,
+        ) {
+            Ok(answered) => Ok(note(
+                &mut self.journal.entries,
+                &mut self.totals,
+                pass,
+                command,
+                moment,
+                answered,
+            )),
+            Err(fault) => {
+                drop(command);
+                Err(fault)
+            }
+        }
     }
 
     /// What a query sees at a moment; the book stays as it is. `AllocError` where no memory is left.
@@ -164,12 +218,27 @@ impl Book {
     /// What the registry was told. Its entries are a run of the lease machine from the base to the registry and the outboxes as they
     /// are, numbered from `first` on.
     pub fn journal(&self) -> &Journal
-        ensures base { server_of_state result.now.base ≡ self.now.base }
+        ensures base { (server_of_state result.now.base ≡ self.now.base) × (result.now.base ≡ state_of self.now.base) }
         ensures first { result.now.first ≡ self.now.first }
         ensures entries { result.now.entries.items ≡ self.now.entries }
         ensures lawful { IsLawful self.now }
     {
         &self.journal
+    }
+
+    /// What the registry was told, where no more is wanted of the book. Takes no memory.
+    pub fn into_journal(self) -> Journal
+        ensures base { (server_of_state result.base ≡ self.base) × (result.base ≡ state_of self.base) }
+        ensures first { result.first ≡ self.first }
+        ensures entries { result.entries.items ≡ self.entries }
+    {
+        let Book {
+            journal,
+            totals: _,
+            registry: _,
+            peers: _,
+        } = self;
+        journal
     }
 
     /// What all the entries did together.
@@ -197,16 +266,24 @@ fn plain(alloc: Global, registry: &Registry, peers: &Peers) -> Result<State, All
     Ok(state)
 }
 
-/// Adds what is done now to what was done.
-fn add(done: &mut Tally, more: Tally)
-    requires steps { done.old.steps + more.steps < 2 ^ 64 }
-    requires counted { done.old.counted + more.counted < 2 ^ 64 }
-    requires added { done.old.added + more.added < 2 ^ 64 }
-    requires removed { done.old.removed + more.removed < 2 ^ 64 }
-    ensures { done.new ≡ plus done.old more }
+/// What a log keeps of a command that was entered.
+fn hand_out(entered: Entered, command: Command, moment: Moment) -> (Receipt, Logged)
+    requires { entered.logged ≡ Some entered.receipt.reply }
+    ensures receipt { result.0 ≡ entered.receipt }
+    ensures logged { result.1 ≡ logged command moment entered.receipt.reply entered.receipt.number }
 {
-    done.steps += more.steps;
-    done.counted += more.counted;
-    done.added += more.added;
-    done.removed += more.removed;
+    let Entered { receipt, logged } = entered;
+    let number = receipt.number;
+    match logged {
+        Some(reply) => (
+            receipt,
+            Logged {
+                command,
+                moment,
+                reply,
+                number,
+            },
+        ),
+        None => unreachable!(),
+    }
 }

@@ -1,6 +1,7 @@
 //! The journal of a book.
 
-use eu_model::{Entry, State};
+use eu_base::Moment;
+use eu_model::{Command, Entry, Reply, State};
 
 /// The most entries that a journal keeps.
 pub const MOST_ENTRIES: usize = 65_536;
@@ -14,4 +15,17 @@ pub struct Journal {
     pub first: u64,
     /// The commands that were accepted, with their replies, in their order.
     pub entries: Vec<Entry>,
+}
+
+/// What a log of one's own keeps of a command that was accepted: its entry, but for who asked.
+#[derive(Debug, Drop)]
+pub struct Logged {
+    /// The command.
+    pub command: Command,
+    /// The moment at which it was asked.
+    pub moment: Moment,
+    /// The reply.
+    pub reply: Reply,
+    /// The number of its entry in the journal.
+    pub number: u64,
 }

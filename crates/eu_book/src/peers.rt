@@ -5,8 +5,10 @@ ghost use Rattle.eu_base.specs.declared.instances.Instance.{Instance};
 ghost use Rattle.eu_core.specs.Stepped.{copies_of};
 ghost use Rattle.eu_model.specs.Queue.{idle};
 ghost use Rattle.eu_model.specs.Server.{task_for, with_task};
+ghost use Rattle.eu_book.specs.Answered.{answered};
 ghost use Rattle.eu_book.specs.Peers.{queues_of, IsReady, QueuesAnswer, told_key};
 
+use crate::replies::{Answered, replies_for, split};
 use crate::tasks::task_for;
 use eu_base::{Codes, Fault, Instance, Key, Moment};
 use eu_model::{Command, Queues, Reply};
@@ -93,20 +95,23 @@ impl Peers {
         alloc: Global,
         peer: u32,
         moment: Moment,
-    ) -> Result<(Reply, Reply), Fault>
-        ensures same { IfOk result (λ r. r.1 ≡ r.0) }
-        ensures ok { IfOk result (λ r. QueuesAnswer self.old (Command.Drain peer) moment (Ok r.0) self.new) }
+        logs: bool,
+    ) -> Result<Answered<Reply>, Fault>
+        ensures same { IfOk result (λ a. a ≡ answered logs a.reply) }
+        ensures ok { IfOk result (λ a. QueuesAnswer self.old (Command.Drain peer) moment (Ok a.reply) self.new) }
         ensures refused { IfErr result (λ f. QueuesAnswer self.old (Command.Drain peer) moment (Err f) self.old) }
         ensures err { OnErr result (queues_of self.new ≡ queues_of self.old) }
     {
         let Some(outbox) = self.outboxes.get_mut(peer as usize) else {
             return Err(Fault::NoPeer);
         };
-        let mut batches = outbox.drain(alloc, moment, 2)?;
-        match (batches.pop(), batches.pop()) {
-            (Some(batch), Some(same)) => Ok((Reply::Batch(batch), Reply::Batch(same))),
-            _ => unreachable!(),
-        }
+        let batches = outbox.drain(alloc, moment, replies_for(logs))?;
+        let each = split(batches, logs);
+        Ok(Answered {
+            reply: Reply::Batch(each.reply),
+            told: Reply::Batch(each.told),
+            logged: each.logged.map(Reply::Batch),
+        })
     }
 
     /// The batch in flight to a peer has landed, and was answered by these statuses (`Outbox::landed`).

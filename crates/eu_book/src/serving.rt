@@ -4,9 +4,11 @@ ghost use Rattle.eu_base.specs.declared.names.Key.{Key};
 ghost use Rattle.eu_core.specs.Stepped.{Chooses};
 ghost use Rattle.eu_model.specs.Server.{is_for_peers};
 ghost use Rattle.eu_model.specs.ServerAnswers.{ServerAnswers};
+ghost use Rattle.eu_book.specs.Answered.{answered, replies_for};
 ghost use Rattle.eu_book.specs.Peers.{MayRefuse, served, told_key};
 
 use crate::peers::Peers;
+use crate::replies::{Answered, replies_for, split};
 use crate::tasks::told_key;
 use eu_base::{Fault, Key, Moment};
 use eu_clock::Chooser;
@@ -14,7 +16,7 @@ use eu_core::Registry;
 use eu_model::{Command, Reply};
 use std::alloc::{AllocError, Global};
 
-/// Answers a command, in two equal replies.
+/// Answers a command, in two equal replies; in one more for a log, where one `logs` it.
 pub(crate) fn serve<C: Chooser>(
     alloc: Global,
     registry: &mut Registry,
@@ -22,27 +24,30 @@ pub(crate) fn serve<C: Chooser>(
     command: &Command,
     moment: Moment,
     chooser: &mut C,
-) -> Result<(Reply, Reply), Fault>
-    ensures same { IfOk result (λ r. r.1 ≡ r.0) }
-    ensures answers { IfOk result (λ r. ServerAnswers (served registry.old peers.old) command.now moment (Ok r.0) (served registry.new peers.new)) }
-    ensures chooses { IfOk result (λ r. Chooses C.asks registry.old chooser.old command.now moment r.0 chooser.new) }
+    logs: bool,
+) -> Result<Answered<Reply>, Fault>
+    ensures same { IfOk result (λ a. a ≡ answered logs a.reply) }
+    ensures answers { IfOk result (λ a. ServerAnswers (served registry.old peers.old) command.now moment (Ok a.reply) (served registry.new peers.new)) }
+    ensures chooses { IfOk result (λ a. Chooses C.asks registry.old chooser.old command.now moment a.reply chooser.new) }
     ensures refused { IfErr result (λ f. MayRefuse (served registry.old peers.old) command.now moment f) }
     ensures err { OnErr result (served registry.new peers.new ≡ served registry.old peers.old) }
     ensures unasked { OnErr result (chooser.new ≡ chooser.old) }
 {
     match command {
-        Command::Drain { peer } => peers.drain(alloc, *peer, moment),
+        Command::Drain { peer } => peers.drain(alloc, *peer, moment, logs),
         Command::Landed { peer, codes } => {
             peers.landed(*peer, codes, moment)?;
-            Ok(settled())
+            Ok(settled(logs))
         }
         Command::Lost { peer } => {
             peers.lost(*peer, moment)?;
-            Ok(settled())
+            Ok(settled(logs))
         }
         command => match told_key(command) {
-            Some(key) => step_and_tell(alloc, registry, peers, command, key, moment, chooser),
-            None => step(alloc, registry, peers, command, moment, chooser),
+            Some(key) => {
+                step_and_tell(alloc, registry, peers, command, key, moment, chooser, logs)
+            }
+            None => step(alloc, registry, peers, command, moment, chooser, logs),
         },
     }
 }
@@ -55,18 +60,19 @@ fn step<C: Chooser>(
     command: &Command,
     moment: Moment,
     chooser: &mut C,
-) -> Result<(Reply, Reply), Fault>
+    logs: bool,
+) -> Result<Answered<Reply>, Fault>
     requires kind { is_for_peers command.now ≡ false }
     requires untold { told_key command.now ≡ None }
-    ensures same { IfOk result (λ r. r.1 ≡ r.0) }
-    ensures answers { IfOk result (λ r. ServerAnswers (served registry.old peers.now) command.now moment (Ok r.0) (served registry.new peers.now)) }
-    ensures chooses { IfOk result (λ r. Chooses C.asks registry.old chooser.old command.now moment r.0 chooser.new) }
+    ensures same { IfOk result (λ a. a ≡ answered logs a.reply) }
+    ensures answers { IfOk result (λ a. ServerAnswers (served registry.old peers.now) command.now moment (Ok a.reply) (served registry.new peers.now)) }
+    ensures chooses { IfOk result (λ a. Chooses C.asks registry.old chooser.old command.now moment a.reply chooser.new) }
     ensures refused { IfErr result (λ f. MayRefuse (served registry.old peers.now) command.now moment f) }
     ensures err { OnErr result (registry.new ≡ registry.old) }
     ensures unasked { OnErr result (chooser.new ≡ chooser.old) }
 {
-    let stepped = registry.step(alloc, command, moment, 2, 0, chooser)?;
-    Ok(both(stepped.replies))
+    let stepped = registry.step(alloc, command, moment, replies_for(logs), 0, chooser)?;
+    Ok(split(stepped.replies, logs))
 }
 
 /// The step of a command of which the peers may be told, and what they are told.
@@ -78,12 +84,13 @@ fn step_and_tell<C: Chooser>(
     key: &Key,
     moment: Moment,
     chooser: &mut C,
-) -> Result<(Reply, Reply), Fault>
+    logs: bool,
+) -> Result<Answered<Reply>, Fault>
     requires kind { is_for_peers command.now ≡ false }
     requires key { told_key command.now ≡ Some key.now }
-    ensures same { IfOk result (λ r. r.1 ≡ r.0) }
-    ensures answers { IfOk result (λ r. ServerAnswers (served registry.old peers.old) command.now moment (Ok r.0) (served registry.new peers.new)) }
-    ensures chooses { IfOk result (λ r. Chooses C.asks registry.old chooser.old command.now moment r.0 chooser.new) }
+    ensures same { IfOk result (λ a. a ≡ answered logs a.reply) }
+    ensures answers { IfOk result (λ a. ServerAnswers (served registry.old peers.old) command.now moment (Ok a.reply) (served registry.new peers.new)) }
+    ensures chooses { IfOk result (λ a. Chooses C.asks registry.old chooser.old command.now moment a.reply chooser.new) }
     ensures refused { IfErr result (λ f. MayRefuse (served registry.old peers.old) command.now moment f) }
     ensures err { OnErr result (served registry.new peers.new ≡ served registry.old peers.old) }
     ensures unasked { OnErr result (chooser.new ≡ chooser.old) }
@@ -91,10 +98,10 @@ fn step_and_tell<C: Chooser>(
     let count = peers.count();
     peers.reserve()?;
     let keys = copies(alloc, key, count)?;
-    let stepped = registry.step(alloc, command, moment, 2, count, chooser)?;
-    let (reply, same) = both(stepped.replies);
-    peers.tell(command, &reply, moment, keys, stepped.held);
-    Ok((reply, same))
+    let stepped = registry.step(alloc, command, moment, replies_for(logs), count, chooser)?;
+    let answered = split(stepped.replies, logs);
+    peers.tell(command, &answered.reply, moment, keys, stepped.held);
+    Ok(answered)
 }
 
 /// So many copies of a key.
@@ -108,20 +115,13 @@ fn copies(alloc: Global, key: &Key, count: u32) -> Result<Vec<Key>, AllocError>
     Ok(copies)
 }
 
-/// The two of some equal replies.
-fn both(mut replies: Vec<Reply>) -> (Reply, Reply)
-    requires { (r : Reply) × (replies.items ≡ replicate 2 r) }
-    ensures { (r : Reply) → replies.items ≡ replicate 2 r → (result.0 ≡ r) × (result.1 ≡ r) }
-{
-    match (replies.pop(), replies.pop()) {
-        (Some(reply), Some(same)) => (reply, same),
-        _ => unreachable!(),
-    }
-}
-
 /// The replies of a batch that is in flight no more.
-fn settled() -> (Reply, Reply)
-    ensures { (result.0 ≡ Reply.Settled) × (result.1 ≡ Reply.Settled) }
+fn settled(logs: bool) -> Answered<Reply>
+    ensures { result ≡ answered logs Reply.Settled }
 {
-    (Reply::Settled, Reply::Settled)
+    Answered {
+        reply: Reply::Settled,
+        told: Reply::Settled,
+        logged: if logs { Some(Reply::Settled) } else { None },
+    }
 }

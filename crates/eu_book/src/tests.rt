@@ -1,7 +1,7 @@
 //! Accounts worked out by hand. What commands are answered is told in words at once.
 ghost use Rattle.std.specs.Prelude.{◌≤◌, ◌^◌};
 
-use crate::{Book, MOST_ENTRIES, Receipt};
+use crate::{Book, Logged, MOST_ENTRIES, Receipt};
 use eu_base::{App, Codes, Config, Fault, Id, Instance, Key, Moment, Rest, Stamp, Status, Task};
 use eu_clock::{Chooser, FirstChooser, ListChooser};
 use eu_model::{Command, Entry, Query, Reply, State, Tally, View};
@@ -207,6 +207,7 @@ fn took(entries: &[Entry], first: &str, second: &str) -> bool {
 fn victims_are_drawn(rt: HostRuntime) -> Result<(), Fail> {
     let book = played(rt.alloc())?;
     assert!(rt; took(book.journal().entries.as_slice(), "i4", "i2"));
+    assert!(rt; took(book.into_journal().entries.as_slice(), "i4", "i2"));
     Ok(())
 }
 
@@ -280,6 +281,43 @@ fn a_full_journal_refuses(rt: HostRuntime) -> Result<(), Fail> {
 fn opened_with_peer(alloc: Global) -> Result<Book, Fault> {
     let config = Config::new(true, 85, 30, 60_000)?;
     Ok(Book::open(alloc, config, 0, 1)?)
+}
+
+/// The number, the moment, and the reply in a word, of what a log keeps; whether that is what the caller is told, and is of a drain.
+fn logged(answer: Result<(Receipt, Logged), Fault>) -> (u64, u64, &'static str, bool) {
+    match answer {
+        Ok((receipt, logged)) => {
+            let same = receipt.number == logged.number
+                && word(&receipt.reply) == word(&logged.reply);
+            let drains = matches!(logged.command, Command::Drain { peer: 0 });
+            (
+                logged.number,
+                logged.moment.ms(),
+                word(&logged.reply),
+                same && drains,
+            )
+        }
+        Err(fault) => (u64::from(fault.number()), 0, "refused", false),
+    }
+}
+
+fn drained_logged(alloc: Global, book: &mut Book, ms: u64) -> (u64, u64, &'static str, bool)
+    requires { ms ≤ 2 ^ 62 }
+{
+    let drain = Command::Drain { peer: 0 };
+    logged(book.apply_logged(alloc, 5, drain, at(ms), &mut FirstChooser))
+}
+
+#[test]
+fn a_log_keeps_what_is_told(rt: HostRuntime) -> Result<(), Fail> {
+    let alloc = rt.alloc();
+    let mut book = opened_with_peer(alloc)?;
+    assert!(rt; drained_logged(alloc, &mut book, 1) == (9, 0, "refused", false));
+    assert!(rt; first(alloc, &mut book, registration(alloc, "i1")) == (0, "new"));
+    assert!(rt; drained_logged(alloc, &mut book, 2) == (1, 2, "Register", true));
+    assert!(rt; drained_logged(alloc, &mut book, 3) == (8, 0, "refused", false));
+    assert!(rt; book.totals().steps == 2);
+    Ok(())
 }
 
 /// How many tasks wait for the only peer, and how many are in flight to it.

@@ -6,68 +6,73 @@ use eu_json::read_instance;
 use eu_model::{Command, Counts, Keys, Listed, Listing, Query, Reply, Times, View};
 use eu_routes::Routes;
 use std::alloc::{AllocError, Global};
-use std::test::Fail;
 
 /// What a client sends at least, with a status and a stamp.
 const REGISTRATION: &str =
     r#"{"instance":{"instanceId":"i1","hostName":"h","app":"a","ipAddr":"10.0.0.1","status":"UP","lastDirtyTimestamp":"5","dataCenterInfo":{"name":"MyOwn"}}}"#;
 
-/// The same, as it is listed, where it was registered at 1000.
-const LISTED: &str =
-    r#"{"instance":{"app":"A","dataCenterInfo":{"name":"MyOwn"},"hostName":"h","instanceId":"i1","ipAddr":"10.0.0.1","lastDirtyTimestamp":"5","leaseInfo":{"durationInSecs":90,"evictionTimestamp":0,"lastRenewalTimestamp":1000,"registrationTimestamp":1000,"renewalIntervalInSecs":30,"serviceUpTimestamp":1000},"overriddenStatus":"UNKNOWN","status":"UP"}}"#;
-
-/// The same, as a conflict tells it.
-pub const HELD: &str =
-    r#"{"instance":{"app":"A","dataCenterInfo":{"name":"MyOwn"},"hostName":"h","instanceId":"i1","ipAddr":"10.0.0.1","lastDirtyTimestamp":"5","leaseInfo":{"durationInSecs":90,"renewalIntervalInSecs":30},"overriddenStatus":"UNKNOWN","status":"UP"}}"#;
+/// Writes these texts, one after another.
+fn push_each(out: &mut String, parts: &[&str]) -> Result<(), AllocError> {
+    for part in parts {
+        out.push_str(part)?;
+    }
+    Ok(())
+}
 
 fn at(ms: u64) -> Result<Moment, Fault> {
     Moment::new(ms).ok_or(Fault::BadValue)
 }
 
-fn app(alloc: Global) -> Result<App, Fault> {
-    App::read(alloc, "A")
-}
-
-pub fn instance(alloc: Global) -> Result<Instance, Fault> {
-    read_instance(alloc, REGISTRATION, &app(alloc)?, at(1000)?)
+fn instance(alloc: Global) -> Result<Instance, Fault> {
+    let now = at(1000)?;
+    let app = App::read(alloc, "A")?;
+    read_instance(alloc, REGISTRATION, &app, now)
 }
 
 fn listed(alloc: Global) -> Result<Listed, Fault> {
-    let times = Times {
-        registered: 1000,
-        updated: 1000,
-        up: 1000,
-    };
+    let instance = instance(alloc)?;
     Ok(Listed {
-        instance: instance(alloc)?,
-        times,
+        instance,
+        times: Times {
+            registered: 1000,
+            updated: 1000,
+            up: 1000,
+        },
     })
 }
 
 fn listing(alloc: Global, held: bool) -> Result<Listing, Fault> {
     let mut leases = Vec::new(alloc);
     if held {
-        leases.push(listed(alloc)?)?;
+        let listed = listed(alloc)?;
+        leases.push(listed)?;
     }
     Ok(Listing::new(leases))
 }
 
-/// The request of a head and a body.
-pub fn request(alloc: Global, line: &str, field: &str, body: &str) -> Result<Request, Fault> {
+/// The bytes of a head and a body.
+fn sent(alloc: Global, line: &str, field: &str, body: &[u8]) -> Result<Vec<u8>, AllocError> {
+    let head = [line, " HTTP/1.1\r\nHost: x\r\n", field, "Content-Length: "];
+    let mut text = String::new(alloc);
+    push_each(&mut text, &head)?;
     let len = body.len();
-    let text = format!(in alloc;
-        "{line} HTTP/1.1\r\nHost: x\r\n{field}Content-Length: {len}\r\n\r\n{body}"
-    )?;
-    let mut reader = text.as_bytes();
+    write!(text, "{len}\r\n\r\n")?;
+    let mut bytes = text.into_bytes();
+    bytes.extend_from_slice(body)?;
+    Ok(bytes)
+}
+
+/// The request of a head and a body.
+fn request(alloc: Global, line: &str, field: &str, body: &[u8]) -> Result<Request, Fault> {
+    let bytes = sent(alloc, line, field, body)?;
+    let mut reader = bytes.as_slice();
     let mut buffer = Vec::new(alloc);
     read_request(alloc, &mut reader, &mut buffer)?.ok_or(Fault::BadHead)
 }
 
 /// Writes a key behind a word.
 fn tell_key(out: &mut String, word: &str, key: &Key) -> Result<(), AllocError> {
-    let app = key.app.as_str();
-    let id = key.id.as_str();
-    write!(out, "{word} {app} {id}")
+    push_each(out, &[word, " ", key.app.as_str(), " ", key.id.as_str()])
 }
 
 fn tell_stamp(out: &mut String, stamp: Option<Stamp>) -> Result<(), AllocError> {
@@ -85,32 +90,14 @@ fn tell_status(out: &mut String, status: Option<Status>) -> Result<(), AllocErro
     out.push_str(status.map_or("-", Status::name))
 }
 
-/// Writes a command as words; `r` ends it where a peer sends it, else `c`.
-fn tell_command(out: &mut String, command: &Command) -> Result<(), AllocError> {
-    let replicated = match command {
-        Command::Register {
-            instance,
-            replicated,
-        } => {
-            tell_key(out, "register", &instance.key)?;
-            tell_stamp(out, Stamp::new(instance.dirty))?;
-            *replicated
-        }
-        Command::Renew {
-            key,
-            dirty,
-            overridden,
-            replicated,
-        } => {
-            tell_key(out, "renew", key)?;
-            tell_stamp(out, *dirty)?;
-            tell_status(out, *overridden)?;
-            *replicated
-        }
-        Command::Cancel { key, replicated } => {
-            tell_key(out, "cancel", key)?;
-            *replicated
-        }
+/// Writes whether a peer sends a command.
+fn tell_sender(out: &mut String, replicated: bool) -> Result<(), AllocError> {
+    out.push_str(if replicated { " r" } else { " c" })
+}
+
+/// Writes an override, or the end of one, as words.
+fn tell_override(out: &mut String, command: &Command) -> Result<(), AllocError> {
+    match command {
         Command::SetStatus {
             key,
             status,
@@ -120,7 +107,7 @@ fn tell_command(out: &mut String, command: &Command) -> Result<(), AllocError> {
             tell_key(out, "set", key)?;
             tell_status(out, Some(*status))?;
             tell_stamp(out, *dirty)?;
-            *replicated
+            tell_sender(out, *replicated)
         }
         Command::UnsetStatus {
             key,
@@ -131,11 +118,40 @@ fn tell_command(out: &mut String, command: &Command) -> Result<(), AllocError> {
             tell_key(out, "unset", key)?;
             tell_status(out, *status)?;
             tell_stamp(out, *dirty)?;
-            *replicated
+            tell_sender(out, *replicated)
         }
-        _ => return out.push_str("other"),
-    };
-    out.push_str(if replicated { " r" } else { " c" })
+        _ => out.push_str("other"),
+    }
+}
+
+/// Writes a command as words; `r` ends it where a peer sends it, else `c`.
+fn tell_command(out: &mut String, command: &Command) -> Result<(), AllocError> {
+    match command {
+        Command::Register {
+            instance,
+            replicated,
+        } => {
+            tell_key(out, "register", &instance.key)?;
+            tell_stamp(out, Stamp::new(instance.dirty))?;
+            tell_sender(out, *replicated)
+        }
+        Command::Renew {
+            key,
+            dirty,
+            overridden,
+            replicated,
+        } => {
+            tell_key(out, "renew", key)?;
+            tell_stamp(out, *dirty)?;
+            tell_status(out, *overridden)?;
+            tell_sender(out, *replicated)
+        }
+        Command::Cancel { key, replicated } => {
+            tell_key(out, "cancel", key)?;
+            tell_sender(out, *replicated)
+        }
+        _ => tell_override(out, command),
+    }
 }
 
 fn tell_query(out: &mut String, query: &Query) -> Result<(), AllocError> {
@@ -165,199 +181,231 @@ fn tell(out: &mut String, asked: &Asked) -> Result<(), AllocError> {
     Ok(())
 }
 
-/// What a request asks at 1000, as words.
-pub fn told(alloc: Global, request: &Request) -> Result<String, Fault> {
-    let routes = Routes::new(alloc)?;
-    let now = at(1000)?;
+/// What is asked, as words.
+fn words(alloc: Global, asked: Asked) -> Result<String, AllocError> {
     let mut out = String::new(alloc);
-    let asked = asks(alloc, &routes, request, now)?;
-    tell(&mut out, &asked)?;
+    let told = tell(&mut out, &asked);
+    drop(asked);
+    told?;
     Ok(out)
 }
 
-/// The same of the request of a line.
-fn line_told(alloc: Global, line: &str) -> Result<String, Fault> {
-    let request = request(alloc, line, "", "")?;
-    told(alloc, &request)
+/// What a request asks at 1000, as words.
+fn request_told(alloc: Global, request: &Request) -> Result<String, Fault> {
+    let now = at(1000)?;
+    let routes = Routes::new(alloc)?;
+    let asked = asks(alloc, &routes, request, now);
+    drop(routes);
+    Ok(words(alloc, asked?)?)
+}
+
+/// The same of the request of a head and a body.
+fn told(alloc: Global, line: &str, field: &str, body: &[u8]) -> Result<String, Fault> {
+    let request = request(alloc, line, field, body)?;
+    let told = request_told(alloc, &request);
+    drop(request);
+    told
+}
+
+/// Whether such a request asks that.
+pub fn is_asked(alloc: Global, line: &str, field: &str, body: &str, asks: &str) -> bool {
+    match told(alloc, line, field, body.as_bytes()) {
+        Ok(told) => told.as_str() == asks,
+        Err(_) => false,
+    }
+}
+
+/// Whether the request of a line and a body asks nothing, by that fault.
+pub fn is_refused(alloc: Global, line: &str, body: &[u8], fault: Fault) -> bool {
+    told(alloc, line, "", body).err() == Some(fault)
 }
 
 /// The response to the request of a line.
-pub fn said(alloc: Global, line: &str, outcome: &Outcome, close: bool) -> Result<String, Fault> {
-    let request = request(alloc, line, "", "")?;
-    let bytes = answer(alloc, &request, outcome, close)?;
-    Ok(String::from_utf8_lossy(alloc, &bytes)?)
+fn response(alloc: Global, line: &str, outcome: &Outcome, close: bool) -> Result<Vec<u8>, Fault> {
+    let request = request(alloc, line, "", b"")?;
+    let bytes = answer(alloc, &request, outcome, close);
+    drop(request);
+    Ok(bytes?)
 }
 
-/// The same where that is the one answer.
-fn answered(alloc: Global, line: &str, answer: Result<Answer, Fault>) -> Result<String, Fault> {
-    let mut answers = Vec::with_capacity(alloc, 1)?;
-    answers.push_reserved(answer);
-    said(alloc, line, &Outcome::Answers(answers), false)
-}
-
-fn did(alloc: Global, reply: Reply) -> Result<String, Fault> {
-    answered(alloc, "PUT /eureka/apps/A/i1", Ok(Answer::Did(reply)))
-}
-
-fn saw(alloc: Global, line: &str, view: View) -> Result<String, Fault> {
-    answered(alloc, line, Ok(Answer::Saw(view)))
-}
-
-#[test]
-fn each_line_asks(rt: HostRuntime) -> Result<(), Fail> {
-    let alloc = rt.alloc();
-    let cases = [
-        (
-            "PUT /eureka/apps/A/i1?lastDirtyTimestamp=7&overriddenstatus=down",
-            "renew A i1 7 DOWN c;",
-        ),
-        ("PUT /eureka/v2/apps/a/i1", "renew A i1 - - c;"),
-        ("DELETE /eureka/apps/A/i1", "cancel A i1 c;"),
-        (
-            "PUT /eureka/v2/apps/A/i1/status?value=OUT_OF_SERVICE&lastDirtyTimestamp=9",
-            "set A i1 OUT_OF_SERVICE 9 c;",
-        ),
-        (
-            "DELETE /eureka/v2/apps/A/i1/status?value=up",
-            "unset A i1 UP - c;",
-        ),
-        ("GET /eureka/apps/", "all;"),
-        ("GET /eureka/apps/a", "of A;"),
-        ("GET /eureka/apps/A/i1", "one A i1;"),
-        ("GET /eureka/apps/delta", "forbidden"),
-        ("GET /eureka/status", "counts;all;"),
-    ];
-    for (line, asks) in cases {
-        assert_eq!(rt; line_told(alloc, line)?.as_str(), asks);
+/// Whether that is the response to the request of a line, for what came of it.
+pub fn is_said(alloc: Global, line: &str, outcome: Outcome, close: bool, text: &str) -> bool {
+    let response = response(alloc, line, &outcome, close);
+    drop(outcome);
+    match response {
+        Ok(bytes) => bytes.as_slice() == text.as_bytes(),
+        Err(_) => false,
     }
-    Ok(())
+}
+
+/// What comes of a request with this answer alone.
+fn only(alloc: Global, answer: Result<Answer, Fault>) -> Result<Outcome, AllocError> {
+    let mut answers = Vec::new(alloc);
+    answers.push(answer)?;
+    Ok(Outcome::Answers(answers))
+}
+
+/// Whether that is the response, where an answer is the only one.
+pub fn is_answered(alloc: Global, line: &str, answer: Result<Answer, Fault>, text: &str) -> bool {
+    let outcome = only(alloc, answer).unwrap_or(Outcome::Forbidden);
+    is_said(alloc, line, outcome, false, text)
+}
+
+fn did(alloc: Global, reply: Reply, text: &str) -> bool {
+    is_answered(alloc, "PUT /eureka/apps/A/i1", Ok(Answer::Did(reply)), text)
+}
+
+/// Lines of requests, with what they ask.
+const LINES: [(&str, &str); 10] = [
+    (
+        "PUT /eureka/apps/A/i1?lastDirtyTimestamp=7&overriddenstatus=down",
+        "renew A i1 7 DOWN c;",
+    ),
+    ("PUT /eureka/v2/apps/a/i1", "renew A i1 - - c;"),
+    ("DELETE /eureka/apps/A/i1", "cancel A i1 c;"),
+    (
+        "PUT /eureka/v2/apps/A/i1/status?value=OUT_OF_SERVICE&lastDirtyTimestamp=9",
+        "set A i1 OUT_OF_SERVICE 9 c;",
+    ),
+    (
+        "DELETE /eureka/v2/apps/A/i1/status?value=up",
+        "unset A i1 UP - c;",
+    ),
+    ("GET /eureka/apps/", "all;"),
+    ("GET /eureka/apps/a", "of A;"),
+    ("GET /eureka/apps/A/i1", "one A i1;"),
+    ("GET /eureka/apps/delta", "forbidden"),
+    ("GET /eureka/status", "counts;all;"),
+];
+
+#[test]
+fn each_line_asks(rt: HostRuntime) {
+    for (line, asks) in &LINES {
+        assert!(rt; is_asked(rt.alloc(), line, "", "", asks), "at {line}");
+    }
 }
 
 #[test]
-fn a_body_registers(rt: HostRuntime) -> Result<(), Fail> {
-    let alloc = rt.alloc();
+fn a_body_registers(rt: HostRuntime) {
+    let line = "POST /eureka/v2/apps/a";
     let field = "x-netflix-discovery-replication: true\r\n";
-    let post = request(alloc, "POST /eureka/v2/apps/a", field, REGISTRATION)?;
-    assert_eq!(rt; told(alloc, &post)?.as_str(), "register A i1 5 r;");
-    Ok(())
+    assert!(rt; is_asked(rt.alloc(), line, field, REGISTRATION, "register A i1 5 r;"));
 }
 
+/// Lines and bodies of requests, with their first fault.
+const FAULTS: [(&str, &str, Fault); 8] = [
+    ("POST /eureka/apps", "{", Fault::NoRoute),
+    (
+        "PATCH /eureka/apps/%FF/i1?lastDirtyTimestamp=x",
+        "{",
+        Fault::NoRoute,
+    ),
+    (
+        "PUT /eureka/apps/%FF/i1?lastDirtyTimestamp=x",
+        "{",
+        Fault::BadPath,
+    ),
+    (
+        "PUT /eureka/apps/A/i1?lastDirtyTimestamp=x",
+        "{",
+        Fault::BadValue,
+    ),
+    ("PUT /eureka/apps/A/i1/status", "", Fault::BadValue),
+    ("POST /eureka/apps/%FF", "{", Fault::BadPath),
+    ("POST /eureka/apps/A", "{", Fault::NotJson),
+    ("POST /eureka/apps/B", REGISTRATION, Fault::WrongApp),
+];
+
 #[test]
-fn the_first_fault_is_told(rt: HostRuntime) -> Result<(), Fail> {
-    let alloc = rt.alloc();
-    let cases = [
-        ("POST /eureka/apps", "{", Fault::NoRoute),
-        (
-            "PATCH /eureka/apps/%FF/i1?lastDirtyTimestamp=x",
-            "{",
-            Fault::NoRoute,
-        ),
-        (
-            "PUT /eureka/apps/%FF/i1?lastDirtyTimestamp=x",
-            "{",
-            Fault::BadPath,
-        ),
-        (
-            "PUT /eureka/apps/A/i1?lastDirtyTimestamp=x",
-            "{",
-            Fault::BadValue,
-        ),
-        ("PUT /eureka/apps/A/i1/status", "", Fault::BadValue),
-        ("POST /eureka/apps/%FF", "{", Fault::BadPath),
-        ("POST /eureka/apps/A", "{", Fault::NotJson),
-        ("POST /eureka/apps/B", REGISTRATION, Fault::WrongApp),
-    ];
-    for (line, body, fault) in cases {
-        let bad = request(alloc, line, "", body)?;
-        assert!(rt; told(alloc, &bad).err() == Some(fault), "at {line}");
+fn the_first_fault_is_told(rt: HostRuntime) {
+    for (line, body, fault) in &FAULTS {
+        assert!(rt;
+            is_refused(rt.alloc(), line, body.as_bytes(), *fault),
+            "at {line}"
+        );
     }
-    let mut bad = request(alloc, "POST /eureka/apps/A", "", "x")?;
-    bad.body = Vec::from_slice(alloc, [0xFFu8].as_slice())?;
-    assert!(rt; told(alloc, &bad).err() == Some(Fault::NotJson));
-    Ok(())
+    assert!(rt; is_refused(rt.alloc(), "POST /eureka/apps/A", b"\xFF", Fault::NotJson));
 }
 
 const NONE: &str = "HTTP/1.1 404 Not Found\r\nContent-Length: 0\r\n\r\n";
 
 #[test]
-fn replies_are_written(rt: HostRuntime) -> Result<(), Fail> {
+fn replies_are_written(rt: HostRuntime) {
     let alloc = rt.alloc();
-    assert_eq!(rt;
-        did(alloc, Reply::Registered { fresh: true })?.as_str(),
-        "HTTP/1.1 204 No Content\r\n\r\n"
-    );
-    assert_eq!(rt;
-        did(alloc, Reply::Done)?.as_str(),
-        "HTTP/1.1 200 OK\r\nContent-Length: 0\r\n\r\n"
-    );
-    assert_eq!(rt; did(alloc, Reply::NotFound)?.as_str(), NONE);
-    assert_eq!(rt; did(alloc, Reply::Stale)?.as_str(), NONE);
-    assert_eq!(rt; did(alloc, Reply::Last(3))?.as_str(), NONE);
+    let fresh = Reply::Registered { fresh: true };
+    assert!(rt; did(alloc, fresh, "HTTP/1.1 204 No Content\r\n\r\n"));
+    let done = "HTTP/1.1 200 OK\r\nContent-Length: 0\r\n\r\n";
+    assert!(rt; did(alloc, Reply::Done, done));
+    assert!(rt; did(alloc, Reply::NotFound, NONE));
+    assert!(rt; did(alloc, Reply::Stale, NONE));
+    assert!(rt; did(alloc, Reply::Last(3), NONE));
     let nobody = Keys::new(Vec::new(alloc));
-    assert_eq!(rt; did(alloc, Reply::Evicted(nobody))?.as_str(), NONE);
+    assert!(rt; did(alloc, Reply::Evicted(nobody), NONE));
+}
+
+/// The answer that an instance conflicts with one that is held.
+pub fn conflict(alloc: Global) -> Result<Answer, Fault> {
     let held = instance(alloc)?;
-    let conflict = did(alloc, Reply::Conflict(held))?;
-    let text = format!(in alloc;
-        "HTTP/1.1 409 Conflict\r\nContent-Type: application/json\r\nContent-Length: 240\r\n\r\n{HELD}"
-    )?;
-    assert_eq!(rt; conflict.as_str(), text.as_str());
-    Ok(())
+    Ok(Answer::Did(Reply::Conflict(held)))
 }
 
-/// The start of a response with JSON.
-const OK: &str = "HTTP/1.1 200 OK\r\nContent-Type: application/json\r\nContent-Length:";
+#[test]
+fn a_conflict_is_written(rt: HostRuntime) {
+    let text =
+        "HTTP/1.1 409 Conflict\r\nContent-Type: application/json\r\nContent-Length: 240\r\n\r\n{\"instance\":{\"app\":\"A\",\"dataCenterInfo\":{\"name\":\"MyOwn\"},\"hostName\":\"h\",\"instanceId\":\"i1\",\"ipAddr\":\"10.0.0.1\",\"lastDirtyTimestamp\":\"5\",\"leaseInfo\":{\"durationInSecs\":90,\"renewalIntervalInSecs\":30},\"overriddenStatus\":\"UNKNOWN\",\"status\":\"UP\"}}";
+    let conflict = conflict(rt.alloc());
+    assert!(rt; is_answered(rt.alloc(), "PUT /eureka/apps/A/i1", conflict, text));
+}
 
-fn saw_one(alloc: Global, line: &str) -> Result<String, Fault> {
+fn one(alloc: Global) -> Result<Answer, Fault> {
     let one = listed(alloc)?;
-    saw(alloc, line, View::One(Some(one)))
+    Ok(Answer::Saw(View::One(Some(one))))
 }
 
-fn saw_all(alloc: Global, line: &str) -> Result<String, Fault> {
+fn nothing(alloc: Global) -> Result<Answer, Fault> {
     let nothing = listing(alloc, false)?;
-    saw(alloc, line, View::All(nothing))
+    Ok(Answer::Saw(View::All(nothing)))
 }
 
-fn saw_app(alloc: Global, held: bool) -> Result<String, Fault> {
+fn of_app(alloc: Global, held: bool) -> Result<Answer, Fault> {
     let listing = listing(alloc, held)?;
-    saw(alloc, "GET /eureka/apps/A", View::OfApp(listing))
+    Ok(Answer::Saw(View::OfApp(listing)))
 }
 
 #[test]
-fn views_are_written(rt: HostRuntime) -> Result<(), Fail> {
+fn one_lease_is_written(rt: HostRuntime) {
     let alloc = rt.alloc();
-    let one = saw_one(alloc, "GET /eureka/apps/A/i1")?;
-    let text = format!(in alloc; "{OK} 345\r\n\r\n{LISTED}")?;
-    assert_eq!(rt; one.as_str(), text.as_str());
-    let nobody = saw(alloc, "GET /eureka/apps/A/i1", View::One(None))?;
-    assert_eq!(rt; nobody.as_str(), NONE);
-    let all = saw_all(alloc, "GET /eureka/apps/")?;
-    let text = format!(in alloc;
-        "{OK} 77\r\n\r\n{{\"applications\":{{\"application\":[],\"apps__hashcode\":\"\",\"versions__delta\":\"1\"}}}}"
-    )?;
-    assert_eq!(rt; all.as_str(), text.as_str());
-    let of_app = saw_app(alloc, true)?;
-    let held = LISTED.strip_prefix("{\"instance\":").unwrap_or("");
-    let held = held.strip_suffix("}").unwrap_or("");
-    let text = format!(in alloc;
-        "{OK} 374\r\n\r\n{{\"application\":{{\"instance\":[{held}],\"name\":\"A\"}}}}"
-    )?;
-    assert_eq!(rt; of_app.as_str(), text.as_str());
-    assert_eq!(rt; saw_app(alloc, false)?.as_str(), NONE);
-    Ok(())
+    let line = "GET /eureka/apps/A/i1";
+    let text =
+        "HTTP/1.1 200 OK\r\nContent-Type: application/json\r\nContent-Length: 345\r\n\r\n{\"instance\":{\"app\":\"A\",\"dataCenterInfo\":{\"name\":\"MyOwn\"},\"hostName\":\"h\",\"instanceId\":\"i1\",\"ipAddr\":\"10.0.0.1\",\"lastDirtyTimestamp\":\"5\",\"leaseInfo\":{\"durationInSecs\":90,\"evictionTimestamp\":0,\"lastRenewalTimestamp\":1000,\"registrationTimestamp\":1000,\"renewalIntervalInSecs\":30,\"serviceUpTimestamp\":1000},\"overriddenStatus\":\"UNKNOWN\",\"status\":\"UP\"}}";
+    assert!(rt; is_answered(alloc, line, one(alloc), text));
+    let nobody = Ok(Answer::Saw(View::One(None)));
+    assert!(rt; is_answered(alloc, line, nobody, NONE));
 }
 
 #[test]
-fn views_that_were_not_asked_for_are_missing(rt: HostRuntime) -> Result<(), Fail> {
+fn listings_are_written(rt: HostRuntime) {
     let alloc = rt.alloc();
-    assert_eq!(rt; saw_one(alloc, "GET /eureka/apps/A")?.as_str(), NONE);
-    assert_eq!(rt; saw_all(alloc, "GET /eureka/v2/status")?.as_str(), NONE);
-    assert_eq!(rt; saw_all(alloc, "DELETE /eureka/apps/A/i1")?.as_str(), NONE);
-    Ok(())
+    let text =
+        "HTTP/1.1 200 OK\r\nContent-Type: application/json\r\nContent-Length: 77\r\n\r\n{\"applications\":{\"application\":[],\"apps__hashcode\":\"\",\"versions__delta\":\"1\"}}";
+    assert!(rt; is_answered(alloc, "GET /eureka/apps/", nothing(alloc), text));
+    let line = "GET /eureka/apps/A";
+    let text =
+        "HTTP/1.1 200 OK\r\nContent-Type: application/json\r\nContent-Length: 374\r\n\r\n{\"application\":{\"instance\":[{\"app\":\"A\",\"dataCenterInfo\":{\"name\":\"MyOwn\"},\"hostName\":\"h\",\"instanceId\":\"i1\",\"ipAddr\":\"10.0.0.1\",\"lastDirtyTimestamp\":\"5\",\"leaseInfo\":{\"durationInSecs\":90,\"evictionTimestamp\":0,\"lastRenewalTimestamp\":1000,\"registrationTimestamp\":1000,\"renewalIntervalInSecs\":30,\"serviceUpTimestamp\":1000},\"overriddenStatus\":\"UNKNOWN\",\"status\":\"UP\"}],\"name\":\"A\"}}";
+    assert!(rt; is_answered(alloc, line, of_app(alloc, true), text));
+    assert!(rt; is_answered(alloc, line, of_app(alloc, false), NONE));
 }
 
 #[test]
-fn a_status_page_is_written(rt: HostRuntime) -> Result<(), Fail> {
+fn views_that_were_not_asked_for_are_missing(rt: HostRuntime) {
     let alloc = rt.alloc();
+    assert!(rt; is_answered(alloc, "GET /eureka/apps/A", one(alloc), NONE));
+    assert!(rt; is_answered(alloc, "GET /eureka/v2/status", nothing(alloc), NONE));
+    assert!(rt; is_answered(alloc, "DELETE /eureka/apps/A/i1", nothing(alloc), NONE));
+}
+
+/// The counts of a registry, and all that it holds.
+fn views(alloc: Global) -> Result<Outcome, Fault> {
     let counts = Counts {
         held: 1,
         expected: 2,
@@ -367,57 +415,55 @@ fn a_status_page_is_written(rt: HostRuntime) -> Result<(), Fail> {
         preservation: true,
     };
     let all = listing(alloc, true)?;
-    let mut answers = Vec::with_capacity(alloc, 2)?;
-    answers.push_reserved(Ok(Answer::Saw(View::Counts(counts))));
-    answers.push_reserved(Ok(Answer::Saw(View::All(all))));
-    let page = Outcome::Answers(answers);
-    assert_eq!(rt;
-        said(alloc, "GET /eureka/status", &page, true)?.as_str(),
-        "HTTP/1.1 200 OK\r\nContent-Type: text/plain; charset=utf-8\r\nContent-Length: 81\r\nConnection: close\r\n\r\nheld 1\nexpected 2\nthreshold 3\nlast 0\npreservation on\npermitted no\nstatuses UP_1_\n"
-    );
-    Ok(())
+    let mut answers = Vec::new(alloc);
+    answers.push(Ok(Answer::Saw(View::Counts(counts))))?;
+    answers.push(Ok(Answer::Saw(View::All(all))))?;
+    Ok(Outcome::Answers(answers))
 }
 
 #[test]
-fn refusals_are_written(rt: HostRuntime) -> Result<(), Fail> {
+fn a_status_page_is_written(rt: HostRuntime) {
+    let page = views(rt.alloc()).unwrap_or(Outcome::Forbidden);
+    let text =
+        "HTTP/1.1 200 OK\r\nContent-Type: text/plain; charset=utf-8\r\nContent-Length: 81\r\nConnection: close\r\n\r\nheld 1\nexpected 2\nthreshold 3\nlast 0\npreservation on\npermitted no\nstatuses UP_1_\n";
+    assert!(rt; is_said(rt.alloc(), "GET /eureka/status", page, true, text));
+}
+
+/// Faults, with the responses that tell them before the connection ends.
+const REFUSALS: [(Fault, &str); 5] = [
+    (
+        Fault::NoRoute,
+        "HTTP/1.1 404 Not Found\r\nContent-Length: 0\r\nConnection: close\r\n\r\n",
+    ),
+    (
+        Fault::BodyTooLong,
+        "HTTP/1.1 413 Payload Too Large\r\nContent-Type: application/json\r\nContent-Length: 12\r\nConnection: close\r\n\r\n{\"fault\":34}",
+    ),
+    (
+        Fault::BadEncoding,
+        "HTTP/1.1 415 Unsupported Media Type\r\nContent-Type: application/json\r\nContent-Length: 12\r\nConnection: close\r\n\r\n{\"fault\":42}",
+    ),
+    (
+        Fault::HeadTooLong,
+        "HTTP/1.1 431 Request Header Fields Too Large\r\nContent-Type: application/json\r\nContent-Length: 12\r\nConnection: close\r\n\r\n{\"fault\":33}",
+    ),
+    (
+        Fault::TooLong,
+        "HTTP/1.1 400 Bad Request\r\nContent-Type: application/json\r\nContent-Length: 11\r\nConnection: close\r\n\r\n{\"fault\":2}",
+    ),
+];
+
+#[test]
+fn refusals_are_written(rt: HostRuntime) {
     let alloc = rt.alloc();
     let line = "GET /eureka/apps/A";
-    let cases = [
-        (
-            Fault::NoRoute,
-            "404 Not Found\r\nContent-Length: 0\r\nConnection: close\r\n\r\n",
-        ),
-        (
-            Fault::BodyTooLong,
-            "413 Payload Too Large\r\nContent-Type: application/json\r\nContent-Length: 12\r\nConnection: close\r\n\r\n{\"fault\":34}",
-        ),
-        (
-            Fault::BadEncoding,
-            "415 Unsupported Media Type\r\nContent-Type: application/json\r\nContent-Length: 12\r\nConnection: close\r\n\r\n{\"fault\":42}",
-        ),
-        (
-            Fault::HeadTooLong,
-            "431 Request Header Fields Too Large\r\nContent-Type: application/json\r\nContent-Length: 12\r\nConnection: close\r\n\r\n{\"fault\":33}",
-        ),
-        (
-            Fault::TooLong,
-            "400 Bad Request\r\nContent-Type: application/json\r\nContent-Length: 11\r\nConnection: close\r\n\r\n{\"fault\":2}",
-        ),
-    ];
-    for (fault, text) in cases {
-        let text = format!(in alloc; "HTTP/1.1 {text}")?;
-        assert_eq!(rt;
-            said(alloc, line, &Outcome::Refused(fault), true)?.as_str(),
-            text.as_str()
-        );
+    for (fault, text) in &REFUSALS {
+        let refused = Outcome::Refused(*fault);
+        assert!(rt; is_said(alloc, line, refused, true, text), "at {fault:?}");
     }
-    assert_eq!(rt;
-        said(alloc, line, &Outcome::Forbidden, false)?.as_str(),
-        "HTTP/1.1 403 Forbidden\r\nContent-Length: 0\r\n\r\n"
-    );
-    assert_eq!(rt;
-        answered(alloc, line, Err(Fault::Full))?.as_str(),
-        "HTTP/1.1 503 Service Unavailable\r\nContent-Type: application/json\r\nContent-Length: 11\r\n\r\n{\"fault\":7}"
-    );
-    Ok(())
+    let forbidden = "HTTP/1.1 403 Forbidden\r\nContent-Length: 0\r\n\r\n";
+    assert!(rt; is_said(alloc, line, Outcome::Forbidden, false, forbidden));
+    let full =
+        "HTTP/1.1 503 Service Unavailable\r\nContent-Type: application/json\r\nContent-Length: 11\r\n\r\n{\"fault\":7}";
+    assert!(rt; is_answered(alloc, line, Err(Fault::Full), full));
 }

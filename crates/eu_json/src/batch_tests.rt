@@ -1,7 +1,7 @@
 //! Batches that are read and written, by bodies as peers send them.
-
 ghost use Rattle.std.specs.Prelude.{◌≤◌};
 
+use crate::tests::{joined, says};
 use crate::{
     ItemAnswer, batch_answer_value, batch_text, batch_value, instance_value, read_batch,
     read_instance,
@@ -28,20 +28,41 @@ fn read(alloc: Global, text: &str) -> Result<Vec<Command>, Fault> {
     read_batch(alloc, text, moment()?)
 }
 
+/// How many commands it has.
+fn count(alloc: Global, text: &str) -> Result<usize, Fault> {
+    Ok(read(alloc, text)?.len())
+}
+
+fn is_refused(alloc: Global, text: &str) -> bool {
+    read(alloc, text).err() == Some(Fault::BadBatch)
+}
+
 /// A batch of one item with these members beside its names.
 fn item(alloc: Global, action: &str, members: &str) -> Result<String, AllocError> {
-    format!(in alloc;
-        r#"{{"replicationList":[{{"action":"{action}","appName":"a","id":"i1"{members}}}]}}"#
+    joined(
+        alloc,
+        &[
+            r#"{"replicationList":[{"action":""#,
+            action,
+            r#"","appName":"a","id":"i1""#,
+            members,
+            "}]}",
+        ],
     )
 }
 
-/// Whether this is one renewal of the lease by a peer, with that stamp and overridden status.
-fn is_renewal(
-    commands: &[Command],
-    lease: &Key,
-    stamp: Option<u64>,
-    status: Option<Status>,
-) -> bool {
+fn read_item(alloc: Global, action: &str, members: &str) -> Result<Vec<Command>, Fault> {
+    let text = item(alloc, action, members)?;
+    read(alloc, &text)
+}
+
+/// Whether it is application A's lease of that id.
+fn is_own(key: &Key, id: &str) -> bool {
+    key.app.as_str() == "A" && key.id.as_str() == id
+}
+
+/// Whether this is one renewal of A's lease of that id by a peer, with that stamp and overridden status.
+fn is_renewal(commands: &[Command], id: &str, stamp: Option<u64>, status: Option<Status>) -> bool {
     match commands {
         [
             Command::Renew {
@@ -50,21 +71,21 @@ fn is_renewal(
                 overridden,
                 replicated,
             },
-        ] => { *replicated && key == lease && value(*dirty) == stamp && *overridden == status }
+        ] => { *replicated && is_own(key, id) && value(*dirty) == stamp && *overridden == status }
         _ => false,
     }
 }
 
-/// Whether this is one cancel of the lease by a peer.
-fn is_cancel(commands: &[Command], lease: &Key) -> bool {
+/// Whether this is one cancel of A's lease of that id by a peer.
+fn is_cancel(commands: &[Command], id: &str) -> bool {
     match commands {
-        [Command::Cancel { key, replicated }] => *replicated && key == lease,
+        [Command::Cancel { key, replicated }] => *replicated && is_own(key, id),
         _ => false,
     }
 }
 
-/// Whether this is one override of the lease's status by a peer, with that stamp.
-fn is_override(commands: &[Command], lease: &Key, given: Status, stamp: Option<u64>) -> bool {
+/// Whether this is one override of the status of A's lease of that id by a peer, with that stamp.
+fn is_override(commands: &[Command], id: &str, given: Status, stamp: Option<u64>) -> bool {
     match commands {
         [
             Command::SetStatus {
@@ -73,15 +94,15 @@ fn is_override(commands: &[Command], lease: &Key, given: Status, stamp: Option<u
                 dirty,
                 replicated,
             },
-        ] => *replicated && key == lease && *status == given && value(*dirty) == stamp,
+        ] => *replicated && is_own(key, id) && *status == given && value(*dirty) == stamp,
         _ => false,
     }
 }
 
-/// Whether this is one end of an override of the lease's status by a peer, with that status and stamp.
+/// Whether this is one end of such an override by a peer, with that status and stamp.
 fn is_override_end(
     commands: &[Command],
-    lease: &Key,
+    id: &str,
     given: Option<Status>,
     stamp: Option<u64>,
 ) -> bool {
@@ -93,7 +114,7 @@ fn is_override_end(
                 dirty,
                 replicated,
             },
-        ] => *replicated && key == lease && *status == given && value(*dirty) == stamp,
+        ] => *replicated && is_own(key, id) && *status == given && value(*dirty) == stamp,
         _ => false,
     }
 }
@@ -105,266 +126,276 @@ fn value(stamp: Option<Stamp>) -> Option<u64> {
     }
 }
 
-/// What is written of the instance that a peer registers, where that is all.
-fn registered(alloc: Global, commands: &[Command]) -> Result<String, AllocError> {
+/// Whether this is one registration by a peer, of an instance of which that is written.
+fn is_registration(alloc: Global, commands: &[Command], text: &str) -> Result<bool, AllocError> {
     match commands {
         [
             Command::Register {
                 instance,
                 replicated: true,
             },
-        ] => instance_value(alloc, instance, None)?.to_string(alloc),
-        _ => String::from_str(alloc, "none"),
+        ] => says(alloc, instance_value(alloc, instance, None)?, text),
+        _ => Ok(false),
     }
 }
 
 /// The instance that `REGISTRATION` says.
 fn instance(alloc: Global) -> Result<Instance, Fault> {
+    let moment = moment()?;
     let app = App::read(alloc, "A")?;
-    read_instance(alloc, REGISTRATION, &app, moment()?)
+    read_instance(alloc, REGISTRATION, &app, moment)
 }
 
-fn key(alloc: Global, app: &str, id: &str) -> Result<Key, Fault> {
-    let app = App::read(alloc, app)?;
-    let id = Id::read(alloc, id)?;
+/// The same, or none.
+fn held(alloc: Global, is_held: bool) -> Result<Option<Instance>, Fault> {
+    if is_held {
+        Ok(Some(instance(alloc)?))
+    } else {
+        Ok(None)
+    }
+}
+
+/// Lease A/i1.
+fn own(alloc: Global) -> Result<Key, Fault> {
+    let app = App::read(alloc, "A")?;
+    let id = Id::read(alloc, "i1")?;
     Ok(Key { app, id })
-}
-
-/// A task on lease A/i1.
-fn task(
-    alloc: Global,
-    action: Action,
-    status: Option<Status>,
-    instance: Option<Instance>,
-) -> Result<Task, Fault> {
-    let key = key(alloc, "A", "i1")?;
-    let queued = moment()?;
-    Ok(Task {
-        action,
-        key,
-        status,
-        instance,
-        queued,
-    })
 }
 
 #[test]
 fn a_heartbeat_is_a_renewal(rt: HostRuntime) -> Result<(), Fail> {
     let text = r#"{"replicationList":[{"action":"Heartbeat","appName":"A","id":"zz"}]}"#;
-    assert_eq!(rt; text.len(), 68);
-    let lease = key(rt.alloc(), "A", "zz")?;
+    assert!(rt; text.len() == 68);
     let commands = read(rt.alloc(), text)?;
-    assert!(rt; is_renewal(&commands, &lease, None, None));
+    assert!(rt; is_renewal(&commands, "zz", None, None));
     Ok(())
 }
 
+/// Members of heartbeats, with the stamp and the status that they tell.
+const HEARTBEATS: [(&str, Option<u64>, Option<Status>); 3] = [
+    (
+        r#","lastDirtyTimestamp":"7","overriddenStatus":"out_of_service","status":5"#,
+        Some(7),
+        Some(Status::OutOfService),
+    ),
+    (
+        r#","lastDirtyTimestamp":7,"overriddenStatus":null"#,
+        Some(7),
+        None,
+    ),
+    (
+        r#","lastDirtyTimestamp":null,"overriddenStatus":"GONE""#,
+        None,
+        Some(Status::Unknown),
+    ),
+];
+
 #[test]
 fn a_heartbeat_tells_what_its_sender_knows(rt: HostRuntime) -> Result<(), Fail> {
-    let lease = key(rt.alloc(), "A", "i1")?;
-    let cases = [
-        (
-            r#","lastDirtyTimestamp":"7","overriddenStatus":"out_of_service","status":5"#,
-            Some(7),
-            Some(Status::OutOfService),
-        ),
-        (
-            r#","lastDirtyTimestamp":7,"overriddenStatus":null"#,
-            Some(7),
-            None,
-        ),
-        (
-            r#","lastDirtyTimestamp":null,"overriddenStatus":"GONE""#,
-            None,
-            Some(Status::Unknown),
-        ),
-    ];
-    for (members, stamp, status) in cases {
-        let text = item(rt.alloc(), "Heartbeat", members)?;
-        let commands = read(rt.alloc(), text.as_str())?;
-        assert!(rt; is_renewal(&commands, &lease, stamp, status), "at {text}");
+    for (members, stamp, status) in &HEARTBEATS {
+        let commands = read_item(rt.alloc(), "Heartbeat", members)?;
+        assert!(rt;
+            is_renewal(&commands, "i1", *stamp, *status),
+            "at {members}"
+        );
     }
     Ok(())
 }
 
 #[test]
 fn a_cancel_reads_nothing_else(rt: HostRuntime) -> Result<(), Fail> {
-    let lease = key(rt.alloc(), "A", "i1")?;
     let members = r#","lastDirtyTimestamp":1.5,"status":[],"instanceInfo":7"#;
-    let text = item(rt.alloc(), "Cancel", members)?;
-    let commands = read(rt.alloc(), text.as_str())?;
-    assert!(rt; is_cancel(&commands, &lease));
+    let commands = read_item(rt.alloc(), "Cancel", members)?;
+    assert!(rt; is_cancel(&commands, "i1"));
     Ok(())
 }
 
 #[test]
 fn overrides_are_set(rt: HostRuntime) -> Result<(), Fail> {
-    let lease = key(rt.alloc(), "A", "i1")?;
     let members = r#","status":"down","lastDirtyTimestamp":9"#;
-    let text = item(rt.alloc(), "StatusUpdate", members)?;
-    let commands = read(rt.alloc(), text.as_str())?;
-    assert!(rt; is_override(&commands, &lease, Status::Down, Some(9)));
+    let commands = read_item(rt.alloc(), "StatusUpdate", members)?;
+    assert!(rt; is_override(&commands, "i1", Status::Down, Some(9)));
     Ok(())
 }
+
+/// Members that end an override, with the status and the stamp that they tell.
+const ENDS: [(&str, Option<Status>, Option<u64>); 2] = [
+    (
+        r#","status":"down","lastDirtyTimestamp":9"#,
+        Some(Status::Down),
+        Some(9),
+    ),
+    ("", None, None),
+];
 
 #[test]
 fn overrides_are_taken_back(rt: HostRuntime) -> Result<(), Fail> {
-    let lease = key(rt.alloc(), "A", "i1")?;
-    let cases = [
-        (
-            r#","status":"down","lastDirtyTimestamp":9"#,
-            Some(Status::Down),
-            Some(9),
-        ),
-        ("", None, None),
-    ];
-    for (members, status, stamp) in cases {
-        let text = item(rt.alloc(), "DeleteStatusOverride", members)?;
-        let commands = read(rt.alloc(), text.as_str())?;
+    for (members, status, stamp) in &ENDS {
+        let commands = read_item(rt.alloc(), "DeleteStatusOverride", members)?;
         assert!(rt;
-            is_override_end(&commands, &lease, status, stamp),
-            "at {text}"
+            is_override_end(&commands, "i1", *status, *stamp),
+            "at {members}"
         );
     }
     Ok(())
 }
 
+/// Texts that are no batch.
+const NO_BATCHES: [&str; 15] = [
+    "",
+    "{",
+    "[]",
+    "{}",
+    r#"{"replicationList":null}"#,
+    r#"{"replicationList":{}}"#,
+    r#"{"replicationList":[5]}"#,
+    r#"{"replicationList":[{"action":"Forget","appName":"A","id":"i1"}]}"#,
+    r#"{"replicationList":[{"action":"cancel","appName":"A","id":"i1"}]}"#,
+    r#"{"replicationList":[{"appName":"A","id":"i1"}]}"#,
+    r#"{"replicationList":[{"action":"Cancel","id":"i1"}]}"#,
+    r#"{"replicationList":[{"action":"Cancel","appName":"A"}]}"#,
+    r#"{"replicationList":[{"action":"Cancel","appName":"","id":"i1"}]}"#,
+    r#"{"replicationList":[{"action":"Cancel","appName":"A","id":7}]}"#,
+    r#"{"replicationList":[{"action":"Cancel","appName":"A","id":"i1"},{}]}"#,
+];
+
 #[test]
-fn what_is_no_batch_is_refused(rt: HostRuntime) -> Result<(), Fail> {
-    let texts = [
-        "",
-        "{",
-        "[]",
-        "{}",
-        r#"{"replicationList":null}"#,
-        r#"{"replicationList":{}}"#,
-        r#"{"replicationList":[5]}"#,
-        r#"{"replicationList":[{"action":"Forget","appName":"A","id":"i1"}]}"#,
-        r#"{"replicationList":[{"action":"cancel","appName":"A","id":"i1"}]}"#,
-        r#"{"replicationList":[{"appName":"A","id":"i1"}]}"#,
-        r#"{"replicationList":[{"action":"Cancel","id":"i1"}]}"#,
-        r#"{"replicationList":[{"action":"Cancel","appName":"A"}]}"#,
-        r#"{"replicationList":[{"action":"Cancel","appName":"","id":"i1"}]}"#,
-        r#"{"replicationList":[{"action":"Cancel","appName":"A","id":7}]}"#,
-        r#"{"replicationList":[{"action":"Cancel","appName":"A","id":"i1"},{}]}"#,
-    ];
-    for text in texts {
-        assert!(rt;
-            read(rt.alloc(), text).err() == Some(Fault::BadBatch),
-            "at {text}"
-        );
+fn what_is_no_batch_is_refused(rt: HostRuntime) {
+    for text in &NO_BATCHES {
+        assert!(rt; is_refused(rt.alloc(), text), "at {text}");
     }
-    Ok(())
+}
+
+/// Items that lack what their action needs, by the action and the members beside the names.
+const LACKING: [(&str, &str); 11] = [
+    ("Register", ""),
+    ("Register", r#","instanceInfo":null"#),
+    (
+        "Register",
+        r#","instanceInfo":{"instanceId":"i1","hostName":"h","app":"B","ipAddr":"x","dataCenterInfo":{"name":"MyOwn"}}"#,
+    ),
+    (
+        "Register",
+        r#","instanceInfo":{"instanceId":"i1","hostName":"h","app":"A","ipAddr":"x","dataCenterInfo":{"name":"MyOwn"},"x":1.5}"#,
+    ),
+    ("StatusUpdate", ""),
+    ("StatusUpdate", r#","status":null"#),
+    ("StatusUpdate", r#","status":"GONE""#),
+    (
+        "StatusUpdate",
+        r#","status":"UP","lastDirtyTimestamp":true"#,
+    ),
+    ("Heartbeat", r#","lastDirtyTimestamp":"x""#),
+    ("Heartbeat", r#","lastDirtyTimestamp":1.5"#),
+    ("DeleteStatusOverride", r#","lastDirtyTimestamp":-1"#),
+];
+
+/// Whether a batch of that item is refused.
+fn lacks(alloc: Global, action: &str, members: &str) -> bool {
+    read_item(alloc, action, members).err() == Some(Fault::BadBatch)
 }
 
 #[test]
-fn what_an_action_needs_is_there(rt: HostRuntime) -> Result<(), Fail> {
-    let cases = [
-        ("Register", ""),
-        ("Register", r#","instanceInfo":null"#),
-        (
-            "Register",
-            r#","instanceInfo":{"instanceId":"i1","hostName":"h","app":"B","ipAddr":"x","dataCenterInfo":{"name":"MyOwn"}}"#,
-        ),
-        (
-            "Register",
-            r#","instanceInfo":{"instanceId":"i1","hostName":"h","app":"A","ipAddr":"x","dataCenterInfo":{"name":"MyOwn"},"x":1.5}"#,
-        ),
-        ("StatusUpdate", ""),
-        ("StatusUpdate", r#","status":null"#),
-        ("StatusUpdate", r#","status":"GONE""#),
-        (
-            "StatusUpdate",
-            r#","status":"UP","lastDirtyTimestamp":true"#,
-        ),
-        ("Heartbeat", r#","lastDirtyTimestamp":"x""#),
-        ("Heartbeat", r#","lastDirtyTimestamp":1.5"#),
-        ("DeleteStatusOverride", r#","lastDirtyTimestamp":-1"#),
-    ];
-    for (action, members) in cases {
-        let text = item(rt.alloc(), action, members)?;
-        assert!(rt;
-            read(rt.alloc(), text.as_str()).err() == Some(Fault::BadBatch),
-            "at {text}"
-        );
+fn what_an_action_needs_is_there(rt: HostRuntime) {
+    for (action, members) in &LACKING {
+        assert!(rt; lacks(rt.alloc(), action, members), "at {action} {members}");
     }
-    Ok(())
 }
 
-/// A batch of a cancel of that id.
-fn cancel(alloc: Global, id: &str) -> Result<String, AllocError> {
-    format!(in alloc; r#"{{"replicationList":[{{"action":"Cancel","appName":"A","id":"{id}"}}]}}"#)
+/// How many commands a batch of one item has, whose id has so many bytes.
+fn count_named(alloc: Global, len: usize) -> Result<usize, Fault>
+    requires { len ≤ 256 }
+{
+    let id = "x".repeat(alloc, len)?;
+    let head = r#"{"replicationList":[{"action":"Cancel","appName":"A","id":""#;
+    let text = joined(alloc, &[head, &id, r#""}]}"#])?;
+    count(alloc, &text)
 }
 
 #[test]
-fn names_have_255_bytes_at_most(rt: HostRuntime) -> Result<(), Fail> {
-    let longest = "x".repeat(rt.alloc(), 255)?;
-    let text = cancel(rt.alloc(), longest.as_str())?;
-    assert_eq!(rt; read(rt.alloc(), text.as_str())?.len(), 1);
-    let longer = "x".repeat(rt.alloc(), 256)?;
-    let text = cancel(rt.alloc(), longer.as_str())?;
-    assert!(rt; read(rt.alloc(), text.as_str()).err() == Some(Fault::BadBatch));
-    Ok(())
+fn names_have_255_bytes_at_most(rt: HostRuntime) {
+    assert!(rt; count_named(rt.alloc(), 255) == Ok(1));
+    assert!(rt; count_named(rt.alloc(), 256) == Err(Fault::BadBatch));
 }
 
-/// A batch of a cancel, so many times and once more.
-fn cancels(alloc: Global, times: usize) -> Result<String, AllocError>
+/// How many commands a batch has that says a cancel so many times and once more.
+fn count_cancels(alloc: Global, times: usize) -> Result<usize, Fault>
     requires { times ≤ 250 }
 {
-    let item = r#"{"action":"Cancel","appName":"A","id":"i1"}"#;
     let items = r#"{"action":"Cancel","appName":"A","id":"i1"},"#.repeat(alloc, times)?;
-    format!(in alloc; r#"{{"replicationList":[{items}{item}]}}"#)
+    let item = r#"{"action":"Cancel","appName":"A","id":"i1"}"#;
+    let text = joined(alloc, &[r#"{"replicationList":["#, &items, item, "]}"])?;
+    count(alloc, &text)
 }
 
 #[test]
-fn a_batch_has_250_items_at_most(rt: HostRuntime) -> Result<(), Fail> {
-    let text = cancels(rt.alloc(), 249)?;
-    assert_eq!(rt; read(rt.alloc(), text.as_str())?.len(), 250);
-    let text = cancels(rt.alloc(), 250)?;
-    assert!(rt; read(rt.alloc(), text.as_str()).err() == Some(Fault::BadBatch));
-    Ok(())
+fn a_batch_has_250_items_at_most(rt: HostRuntime) {
+    assert!(rt; count_cancels(rt.alloc(), 249) == Ok(250));
+    assert!(rt; count_cancels(rt.alloc(), 250) == Err(Fault::BadBatch));
+}
+
+/// Whether that is what is written of no task.
+fn is_empty_batch(alloc: Global, text: &str) -> Result<bool, AllocError> {
+    let value = batch_value(alloc, &[])?;
+    says(alloc, value, text)
 }
 
 #[test]
-fn no_task_is_a_batch(rt: HostRuntime) -> Result<(), Fail> {
-    let text = batch_value(rt.alloc(), &[])?.to_string(rt.alloc())?;
-    assert_eq!(rt; text.as_str(), r#"{"replicationList":[]}"#);
-    assert!(rt; read(rt.alloc(), text.as_str())?.is_empty());
-    Ok(())
+fn no_task_is_a_batch(rt: HostRuntime) {
+    let text = r#"{"replicationList":[]}"#;
+    assert!(rt; is_empty_batch(rt.alloc(), text) == Ok(true));
+    assert!(rt; count(rt.alloc(), text) == Ok(0));
+}
+
+/// Whether that is what is written of one task on lease A/i1.
+fn is_task(
+    alloc: Global,
+    action: Action,
+    status: Option<Status>,
+    is_held: bool,
+    text: &str,
+) -> Result<bool, Fault> {
+    let queued = moment()?;
+    let key = own(alloc)?;
+    let instance = held(alloc, is_held)?;
+    let tasks = [Task {
+        action,
+        key,
+        status,
+        instance,
+        queued,
+    }];
+    let written = batch_text(alloc, &tasks);
+    drop(tasks);
+    Ok(written?.as_str() == text)
 }
 
 #[test]
-fn tasks_are_written(rt: HostRuntime) -> Result<(), Fail> {
-    let tasks = [task(rt.alloc(), Action::Cancel, None, None)?];
-    assert_eq!(rt;
-        batch_text(rt.alloc(), &tasks)?.as_str(),
-        r#"{"replicationList":[{"action":"Cancel","appName":"A","id":"i1"}]}"#
-    );
-    let held = instance(rt.alloc())?;
-    let tasks = [task(
-        rt.alloc(),
-        Action::StatusUpdate,
-        Some(Status::Down),
-        Some(held),
-    )?];
-    assert_eq!(rt;
-        batch_text(rt.alloc(), &tasks)?.as_str(),
-        r#"{"replicationList":[{"action":"StatusUpdate","appName":"A","id":"i1","lastDirtyTimestamp":"5","overriddenStatus":"UNKNOWN","status":"DOWN"}]}"#
-    );
-    Ok(())
+fn tasks_are_written(rt: HostRuntime) {
+    let text = r#"{"replicationList":[{"action":"Cancel","appName":"A","id":"i1"}]}"#;
+    assert!(rt; is_task(rt.alloc(), Action::Cancel, None, false, text) == Ok(true));
+    let down = Some(Status::Down);
+    let text =
+        r#"{"replicationList":[{"action":"StatusUpdate","appName":"A","id":"i1","lastDirtyTimestamp":"5","overriddenStatus":"UNKNOWN","status":"DOWN"}]}"#;
+    assert!(rt; is_task(rt.alloc(), Action::StatusUpdate, down, true, text) == Ok(true));
+}
+
+/// Whether what is written of the task to register is read again.
+fn comes_back(alloc: Global) -> Result<bool, Fault> {
+    let head =
+        r#"{"replicationList":[{"action":"Register","appName":"A","id":"i1","instanceInfo":"#;
+    let tail = r#","lastDirtyTimestamp":"5","overriddenStatus":"UNKNOWN","status":"UP"}]}"#;
+    let text = joined(alloc, &[head, WRITTEN, tail])?;
+    if !is_task(alloc, Action::Register, None, true, &text)? {
+        return Ok(false);
+    }
+    let commands = read(alloc, &text)?;
+    Ok(is_registration(alloc, &commands, WRITTEN)?)
 }
 
 #[test]
-fn a_registration_comes_back(rt: HostRuntime) -> Result<(), Fail> {
-    let held = instance(rt.alloc())?;
-    let tasks = [task(rt.alloc(), Action::Register, None, Some(held))?];
-    let text = batch_text(rt.alloc(), &tasks)?;
-    let wanted = format!(in rt.alloc();
-        r#"{{"replicationList":[{{"action":"Register","appName":"A","id":"i1","instanceInfo":{WRITTEN},"lastDirtyTimestamp":"5","overriddenStatus":"UNKNOWN","status":"UP"}}]}}"#
-    )?;
-    assert_eq!(rt; text.as_str(), wanted.as_str());
-    let commands = read(rt.alloc(), text.as_str())?;
-    assert_eq!(rt; registered(rt.alloc(), &commands)?.as_str(), WRITTEN);
-    Ok(())
+fn a_registration_comes_back(rt: HostRuntime) {
+    assert!(rt; comes_back(rt.alloc()) == Ok(true));
 }
 
 /// Whether this is a cancel and then a renewal.
@@ -381,23 +412,21 @@ fn items_are_read_in_order(rt: HostRuntime) -> Result<(), Fail> {
     Ok(())
 }
 
+/// Whether that is what is written of one answer.
+fn is_answer(alloc: Global, code: u16, is_held: bool, text: &str) -> Result<bool, Fault> {
+    let instance = held(alloc, is_held)?;
+    let answers = [ItemAnswer { code, instance }];
+    let value = batch_answer_value(alloc, &answers);
+    drop(answers);
+    Ok(says(alloc, value?, text)?)
+}
+
 #[test]
-fn answers_are_written(rt: HostRuntime) -> Result<(), Fail> {
-    let answers = [ItemAnswer {
-        code: 404,
-        instance: None,
-    }];
-    let text = batch_answer_value(rt.alloc(), &answers)?.to_string(rt.alloc())?;
-    assert_eq!(rt; text.len(), 37);
-    assert_eq!(rt; text.as_str(), r#"{"responseList":[{"statusCode":404}]}"#);
-    let answers = [ItemAnswer {
-        code: 409,
-        instance: Some(instance(rt.alloc())?),
-    }];
-    let text = batch_answer_value(rt.alloc(), &answers)?.to_string(rt.alloc())?;
-    assert_eq!(rt;
-        text.as_str(),
-        r#"{"responseList":[{"responseEntity":{"app":"A","dataCenterInfo":{"name":"MyOwn"},"hostName":"h","instanceId":"i1","ipAddr":"10.0.0.1","lastDirtyTimestamp":"5","leaseInfo":{"durationInSecs":90,"renewalIntervalInSecs":30},"overriddenStatus":"UNKNOWN","status":"UP"},"statusCode":409}]}"#
-    );
-    Ok(())
+fn answers_are_written(rt: HostRuntime) {
+    let text = r#"{"responseList":[{"statusCode":404}]}"#;
+    assert!(rt; text.len() == 37);
+    assert!(rt; is_answer(rt.alloc(), 404, false, text) == Ok(true));
+    let text =
+        r#"{"responseList":[{"responseEntity":{"app":"A","dataCenterInfo":{"name":"MyOwn"},"hostName":"h","instanceId":"i1","ipAddr":"10.0.0.1","lastDirtyTimestamp":"5","leaseInfo":{"durationInSecs":90,"renewalIntervalInSecs":30},"overriddenStatus":"UNKNOWN","status":"UP"},"statusCode":409}]}"#;
+    assert!(rt; is_answer(rt.alloc(), 409, true, text) == Ok(true));
 }

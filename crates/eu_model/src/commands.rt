@@ -1,5 +1,5 @@
 //! Commands and replies.
-ghost use Rattle.std.specs.Prelude.{◌≡◌, true, IfOk, IsOk};
+ghost use Rattle.std.specs.Prelude.{◌≡◌, ◌↔◌, true, IfOk, IsOk, IsTrue};
 ghost use Rattle.eu_model.specs.Owned.{owns_nothing};
 
 use crate::{Keys, Tasks};
@@ -87,6 +87,46 @@ pub enum Command {
 }
 
 impl Command {
+    /// Whether both are equal in every field. Takes no memory.
+    pub fn same(&self, other: &Command) -> bool
+        ensures { IsTrue result ↔ (self.now ≡ other.now) }
+    {
+        match self {
+            Command::Register {
+                instance,
+                replicated,
+            } => is_register(other, instance, *replicated),
+            Command::Renew {
+                key,
+                dirty,
+                overridden,
+                replicated,
+            } => is_renew(other, key, *dirty, *overridden, *replicated),
+            Command::Cancel { key, replicated } => is_cancel(other, key, *replicated),
+            Command::SetStatus {
+                key,
+                status,
+                dirty,
+                replicated,
+            } => is_set_status(other, key, *status, *dirty, *replicated),
+            Command::UnsetStatus {
+                key,
+                status,
+                dirty,
+                replicated,
+            } => is_unset_status(other, key, *status, *dirty, *replicated),
+            Command::Adopt { instance } => is_adopt(other, instance),
+            Command::Roll => matches!(other, Command::Roll),
+            Command::Update => matches!(other, Command::Update),
+            Command::Evict => matches!(other, Command::Evict),
+            Command::Drain { peer } =>
+                matches!(other, Command::Drain { peer: theirs } if *theirs == *peer),
+            Command::Landed { peer, codes } => is_landed(other, *peer, codes),
+            Command::Lost { peer } =>
+                matches!(other, Command::Lost { peer: theirs } if *theirs == *peer),
+        }
+    }
+
     /// The same command once more. Takes memory for its key, its instance or its codes alone; `AllocError` where none is left.
     pub fn copy(&self, alloc: Global) -> Result<Command, AllocError>
         ensures { IfOk result (λ c. c ≡ self.now) }
@@ -123,6 +163,125 @@ impl Command {
             Command::Landed { peer, codes } => copy_landed(alloc, *peer, codes),
             Command::Lost { peer } => Ok(Command::Lost { peer: *peer }),
         }
+    }
+}
+
+/// Whether it is that stamp, or neither is there.
+fn is_stamp(stamp: Option<Stamp>, other: Option<Stamp>) -> bool
+    ensures { IsTrue result ↔ (stamp ≡ other) }
+{
+    stamp == other
+}
+
+/// Whether it is this registration.
+fn is_register(command: &Command, instance: &Instance, replicated: bool) -> bool
+    ensures { IsTrue result ↔ (command.now ≡ Command.Register instance.now replicated) }
+{
+    match command {
+        Command::Register {
+            instance: theirs,
+            replicated: so,
+        } => *so == replicated && theirs.same(instance),
+        _ => false,
+    }
+}
+
+/// Whether it is this renewal.
+fn is_renew(
+    command: &Command,
+    key: &Key,
+    dirty: Option<Stamp>,
+    overridden: Option<Status>,
+    replicated: bool,
+) -> bool
+    ensures { IsTrue result ↔ (command.now ≡ Command.Renew key.now dirty overridden replicated) }
+{
+    match command {
+        Command::Renew {
+            key: theirs,
+            dirty: stamp,
+            overridden: status,
+            replicated: so,
+        } => theirs == key && is_stamp(*stamp, dirty) && *status == overridden && *so == replicated,
+        _ => false,
+    }
+}
+
+/// Whether it is this cancel.
+fn is_cancel(command: &Command, key: &Key, replicated: bool) -> bool
+    ensures { IsTrue result ↔ (command.now ≡ Command.Cancel key.now replicated) }
+{
+    match command {
+        Command::Cancel {
+            key: theirs,
+            replicated: so,
+        } => theirs == key && *so == replicated,
+        _ => false,
+    }
+}
+
+/// Whether it sets this status so.
+fn is_set_status(
+    command: &Command,
+    key: &Key,
+    status: Status,
+    dirty: Option<Stamp>,
+    replicated: bool,
+) -> bool
+    ensures { IsTrue result ↔ (command.now ≡ Command.SetStatus key.now status dirty replicated) }
+{
+    match command {
+        Command::SetStatus {
+            key: theirs,
+            status: set,
+            dirty: stamp,
+            replicated: so,
+        } => theirs == key && *set == status && is_stamp(*stamp, dirty) && *so == replicated,
+        _ => false,
+    }
+}
+
+/// Whether it takes this override back so.
+fn is_unset_status(
+    command: &Command,
+    key: &Key,
+    status: Option<Status>,
+    dirty: Option<Stamp>,
+    replicated: bool,
+) -> bool
+    ensures { IsTrue result ↔ (command.now ≡ Command.UnsetStatus key.now status dirty replicated) }
+{
+    match command {
+        Command::UnsetStatus {
+            key: theirs,
+            status: left,
+            dirty: stamp,
+            replicated: so,
+        } => theirs == key && *left == status && is_stamp(*stamp, dirty) && *so == replicated,
+        _ => false,
+    }
+}
+
+/// Whether it is this adoption.
+fn is_adopt(command: &Command, instance: &Instance) -> bool
+    ensures { IsTrue result ↔ (command.now ≡ Command.Adopt instance.now) }
+{
+    match command {
+        Command::Adopt { instance: theirs } => theirs.same(instance),
+        _ => false,
+    }
+}
+
+/// Whether it is this landing.
+fn is_landed(command: &Command, peer: u32, codes: &Codes) -> bool
+    ensures { IsTrue result ↔ (command.now ≡ Command.Landed peer codes.now) }
+{
+    match command {
+        Command::Landed {
+            peer: number,
+            codes: theirs,
+        } => *number == peer && theirs.same(codes),
+        _ => false,
     }
 }
 
@@ -251,6 +410,25 @@ pub enum Reply {
 }
 
 impl Reply {
+    /// Whether both are equal in every field. Takes no memory.
+    pub fn same(&self, other: &Reply) -> bool
+        ensures { IsTrue result ↔ (self.now ≡ other.now) }
+    {
+        match (self, other) {
+            (Reply::Registered { fresh }, Reply::Registered { fresh: theirs }) => *fresh == *theirs,
+            (Reply::Done, Reply::Done) => true,
+            (Reply::NotFound, Reply::NotFound) => true,
+            (Reply::Stale, Reply::Stale) => true,
+            (Reply::Conflict(held), Reply::Conflict(theirs)) => held.same(theirs),
+            (Reply::Last(renewals), Reply::Last(theirs)) => *renewals == *theirs,
+            (Reply::Expected(clients), Reply::Expected(theirs)) => *clients == *theirs,
+            (Reply::Evicted(victims), Reply::Evicted(theirs)) => victims.same(theirs),
+            (Reply::Batch(tasks), Reply::Batch(theirs)) => tasks.same(theirs),
+            (Reply::Settled, Reply::Settled) => true,
+            _ => false,
+        }
+    }
+
     /// The same reply once more. Takes memory for a `Conflict`, an `Evicted` and a `Batch` alone; `AllocError` where none is left.
     pub fn copy(&self, alloc: Global) -> Result<Reply, AllocError>
         ensures same { IfOk result (λ r. r ≡ self.now) }

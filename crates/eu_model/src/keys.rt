@@ -1,5 +1,5 @@
 //! Lists of keys.
-ghost use Rattle.std.specs.Prelude.{◌≡◌, IfOk};
+ghost use Rattle.std.specs.Prelude.{◌≡◌, ◌↔◌, IfOk, IsTrue};
 
 use eu_base::Key;
 use std::alloc::{AllocError, Global};
@@ -33,6 +33,13 @@ impl Keys {
         ensures { result.now ≡ self.now }
     {
         self.keys.as_slice()
+    }
+
+    /// Whether both are equal in every key. Takes no memory.
+    pub fn same(&self, other: &Keys) -> bool
+        ensures { IsTrue result ↔ (self.now ≡ other.now) }
+    {
+        self.as_slice() == other.as_slice()
     }
 
     /// The same keys once more. `AllocError` where no memory is left.

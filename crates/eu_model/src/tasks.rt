@@ -1,5 +1,5 @@
 //! Lists of tasks.
-ghost use Rattle.std.specs.Prelude.{◌≡◌, IfOk};
+ghost use Rattle.std.specs.Prelude.{◌≡◌, ◌↔◌, IfOk, IsTrue};
 
 use eu_base::Task;
 use std::alloc::{AllocError, Global};
@@ -37,6 +37,22 @@ impl Tasks {
         ensures { result.now ≡ self.now }
     {
         self.tasks.as_slice()
+    }
+
+    /// Whether both are equal in every task. Takes no memory.
+    pub fn same(&self, other: &Tasks) -> bool
+        ensures { IsTrue result ↔ (self.now ≡ other.now) }
+    {
+        let mut left = other.as_slice().iter();
+        for task in self.as_slice() {
+            let Some(theirs) = left.next() else {
+                return false;
+            };
+            if !task.same(theirs) {
+                return false;
+            }
+        }
+        left.next().is_none()
     }
 
     /// The same tasks once more. `AllocError` where no memory is left.

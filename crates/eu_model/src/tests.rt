@@ -1,6 +1,6 @@
 //! Lists of keys and of leases.
-use crate::{Command, Keys, Listed, Listing, Reply, Rows, Tally, Times};
-use eu_base::{App, Fault, Id, Instance, Key, Rest, Stamp, Status};
+use crate::{Command, Keys, Listed, Listing, Reply, Rows, Tally, Tasks, Times};
+use eu_base::{Action, App, Fault, Id, Instance, Key, Moment, Rest, Stamp, Status, Task};
 use std::alloc::Global;
 use std::test::Fail;
 
@@ -168,5 +168,101 @@ fn what_is_done_is_counted(rt: HostRuntime) -> Result<(), Fail> {
     assert!(rt; stale.counted == 1 && stale.removed == 0 && stale.added == 0);
     assert!(rt; Tally::of(&renewal, &Reply::NotFound).counted == 0);
     assert!(rt; Tally::nothing().steps == 0);
+    Ok(())
+}
+
+fn keys(alloc: Global, id: &str) -> Result<Keys, Fault> {
+    let mut list = Vec::new(alloc);
+    list.push(Key {
+        app: App::read(alloc, "a")?,
+        id: Id::read(alloc, id)?,
+    })?;
+    Ok(Keys::new(list))
+}
+
+fn are_same_keys(alloc: Global, id: &str) -> Result<bool, Fault> {
+    let first = keys(alloc, "i1")?;
+    let second = keys(alloc, id)?;
+    Ok(first.same(&second))
+}
+
+#[test]
+fn keys_are_compared(rt: HostRuntime) -> Result<(), Fail> {
+    assert!(rt; are_same_keys(rt.alloc(), "i1")?);
+    assert!(rt; !are_same_keys(rt.alloc(), "i2")?);
+    Ok(())
+}
+
+fn tasks(alloc: Global, status: Status) -> Result<Tasks, Fault> {
+    let mut list = Vec::new(alloc);
+    list.push(Task {
+        action: Action::StatusUpdate,
+        key: key(alloc)?,
+        status: Some(status),
+        instance: None,
+        queued: Moment::new(5).ok_or(Fault::Exhausted)?,
+    })?;
+    Ok(Tasks::new(list))
+}
+
+fn are_same_tasks(alloc: Global, status: Status) -> Result<bool, Fault> {
+    let first = tasks(alloc, Status::Up)?;
+    let second = tasks(alloc, status)?;
+    Ok(first.same(&second))
+}
+
+#[test]
+fn tasks_are_compared(rt: HostRuntime) -> Result<(), Fail> {
+    assert!(rt; are_same_tasks(rt.alloc(), Status::Up)?);
+    assert!(rt; !are_same_tasks(rt.alloc(), Status::Down)?);
+    Ok(())
+}
+
+fn renewal(key: Key, replicated: bool) -> Command {
+    Command::Renew {
+        key,
+        dirty: Stamp::new(9),
+        overridden: Some(Status::Down),
+        replicated,
+    }
+}
+
+fn is_same_command(first: Command, second: Command) -> bool {
+    first.same(&second)
+}
+
+fn is_same_renewal(alloc: Global, replicated: bool) -> Result<bool, Fault> {
+    let first = key(alloc)?;
+    let second = key(alloc)?;
+    Ok(is_same_command(renewal(first, true), renewal(second, replicated)))
+}
+
+fn is_drain_a_loss(peer: u32) -> bool {
+    is_same_command(Command::Drain { peer }, Command::Lost { peer })
+}
+
+#[test]
+fn commands_are_compared(rt: HostRuntime) -> Result<(), Fail> {
+    assert!(rt; is_same_renewal(rt.alloc(), true)?);
+    assert!(rt; !is_same_renewal(rt.alloc(), false)?);
+    assert!(rt; !is_drain_a_loss(1));
+    Ok(())
+}
+
+fn is_same_reply(first: Reply, second: Reply) -> bool {
+    first.same(&second)
+}
+
+fn is_same_pass(alloc: Global, id: &str) -> Result<bool, Fault> {
+    let first = keys(alloc, "i1")?;
+    let second = keys(alloc, id)?;
+    Ok(is_same_reply(Reply::Evicted(first), Reply::Evicted(second)))
+}
+
+#[test]
+fn replies_are_compared(rt: HostRuntime) -> Result<(), Fail> {
+    assert!(rt; is_same_pass(rt.alloc(), "i1")?);
+    assert!(rt; !is_same_pass(rt.alloc(), "i2")?);
+    assert!(rt; !is_same_reply(Reply::Last(4), Reply::Expected(4)));
     Ok(())
 }

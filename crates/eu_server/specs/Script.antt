@@ -91,8 +91,8 @@ module _ {C : Type 0} (asks : C → ℕ → ℕ × C) where
   Draws s x command.Evict t reply x' = (reply ≡ Evicted (drawn_victims asks s t x)) × (x' ≡ drawn_state asks s t x)
   Draws s x _ t reply x' = x' ≡ x
 
-  -- A command at a moment, told in the run r: one that is answered prints its reply, and is the next entry of the run, with the pass 0 and the number of the entries before it; one that is
-  -- refused prints the fault's number, and changes nothing
+  -- A command at a moment, told in the run r: one that is answered prints its reply, and is the next entry of the run, with the
+  -- pass 0 and the number of the entries before it; one that is refused prints the fault's number, and changes nothing
   abbrev pub Does : Ran → C → Command → ℕ → List ℕ → Ran → C → Type 0
   Does r x c t out next x' =
       ((e : Entry) × (e.command ≡ c) × (e.moment ≡ t) × (e.pass ≡ 0) × (e.number ≡ length r.entries) × (is_full r ≡ false) × GoesOn r e next × Draws r.server.machine x c t e.reply x' × (out ≡ reply_text (settled_text c) e.reply))

@@ -5,6 +5,7 @@ ghost use Rattle.eu_model.specs.Answers.{Shows};
 ghost use Rattle.eu_model.specs.View.{counts, listing};
 ghost use Rattle.eu_page.specs.Page.{shown_page};
 ghost use Rattle.eu_words.specs.Lines.{said_of};
+ghost use Rattle.eu_words.specs.Lines.Said.{Open};
 ghost use Rattle.eu_server.specs.Script.{opens, Commands};
 ghost use Rattle.eu_server.specs.Desk.{DeskAnswers, DeskRefuses, ClosedAnswers, OpenedAnswers, Told, commands, is_of_peer, is_stamped, is_of_status};
 
@@ -15,7 +16,7 @@ use eu_clock::Chooser;
 use eu_core::Registry;
 use eu_lines::{Answerer, LineError};
 use eu_model::Command;
-use eu_words::{Line, read_line};
+use eu_words::{Line, Opening, read_line};
 use std::alloc::Global;
 
 /// The number by which a script asks its book.
@@ -43,13 +44,26 @@ impl Desk {
         ensures ok { OnOk result (ClosedAnswers self.old (said_of line) (string_bytes out.new) self.new) }
         ensures bad { result ≡ Err LineError.Bad → IsTrue (not (opens (said_of line))) }
     {
-        let Line::Open(opening) = line else {
+        let opening = opening_of(&line);
+        drop(line);
+        let Some(opening) = opening else {
             return Err(LineError::Bad);
         };
-        let book = Book::open(alloc, self.config, opening.expected, opening.peers)?;
         out.push_str("opened\n")?;
-        self.book = Some(book);
+        let book = Book::open(alloc, self.config, opening.expected, opening.peers)?;
+        drop(self.book.replace(book));
         Ok(())
+    }
+}
+
+/// How a line opens the registry; `None` where it doesn't say that.
+fn opening_of(line: &Line) -> Option<Opening>
+    ensures some { IfSome result (λ opening. said_of line.now ≡ Open opening.expected opening.peers) }
+    ensures none { result ≡ None → IsTrue (not (opens (said_of line.now))) }
+{
+    match line {
+        Line::Open(opening) => Some(*opening),
+        _ => None,
     }
 }
 
@@ -122,7 +136,9 @@ fn answer_command<C: Chooser>(
     };
     let settled = settled_line(&command);
     let answer = book.apply(alloc, PASS, command, moment, chooser);
-    print_answer(out, settled, answer)
+    let printed = print_answer(out, settled, &answer);
+    drop(answer);
+    printed
 }
 
 /// The command that a line tells, and its moment; `None` where it tells none.
@@ -234,7 +250,10 @@ fn status_command_of(line: Line) -> Option<(Command, Moment)>
             };
             Some((command, moment))
         }
-        _ => None,
+        other => {
+            drop(other);
+            None
+        }
     }
 }
 
@@ -254,15 +273,15 @@ fn settled_line(command: &Command) -> &'static str
 fn print_answer(
     out: &mut String,
     settled: &str,
-    answer: Result<Receipt, Fault>,
+    answer: &Result<Receipt, Fault>,
 ) -> Result<(), LineError>
-    ensures text { OnOk result (string_bytes out.new ≡ string_bytes out.old ++ answer_text settled.now answer) }
-    ensures known { OnOk result (answer ≢ Err Fault.OutOfMemory) }
+    ensures text { OnOk result (string_bytes out.new ≡ string_bytes out.old ++ answer_text settled.now answer.now) }
+    ensures known { OnOk result (answer.now ≢ Err Fault.OutOfMemory) }
     ensures err { IfErr result (λ e. e ≡ LineError.OutOfMemory) }
 {
     match answer {
         Ok(receipt) => Ok(print_reply(out, settled, &receipt.reply)?),
         Err(Fault::OutOfMemory) => Err(LineError::OutOfMemory),
-        Err(fault) => Ok(print_refusal(out, fault)?),
+        Err(fault) => Ok(print_refusal(out, *fault)?),
     }
 }

@@ -42,7 +42,8 @@ use std::io::{Read, Write};
 ///   flight to it, and prints `batch K` and the action, the application and the id of each of these K, in their order. An action
 ///   is `Register`, `Heartbeat`, `Cancel`, `StatusUpdate` or `DeleteStatusOverride`.
 /// - `landed T P CODE ..` ends that flight, and prints `landed`: the peer answered the tasks by these HTTP statuses, one for each,
-///   in their order. Where it answered a heartbeat by 404, the registration of that instance is queued.
+///   in their order. Where it answered a heartbeat by 404, the registration of that instance is queued, unless one of its key
+///   waits.
 /// - `lost T P` ends that flight, and prints `lost`: of its tasks, those that were queued no more than 30 s before and of whose
 ///   action and key none waits now wait again, before the others.
 /// - `look T APP ID` prints `found STATUS OVERRIDDEN dirty D secs S registered R up U updated P`, or `404` where no lease
@@ -78,7 +79,9 @@ pub fn answer_script<R: Source, W: Sink, C: Chooser>(
     ensures same_writer { W.stream writer.new ≡ W.stream writer.old }
 {
     let mut desk = Desk::new(config);
-    answer_lines(alloc, reader, writer, &mut desk, chooser)
+    let result = answer_lines(alloc, reader, writer, &mut desk, chooser);
+    drop(desk);
+    result
 }
 
 /// Runs a script as `answer_script` does, over any reader and writer of std.

@@ -4,6 +4,7 @@
 mod book;
 mod desk;
 mod faults;
+mod seat;
 mod session;
 mod turn;
 

@@ -1,5 +1,5 @@
-use Rattle.std.proofs.Common.{◌≡◌, ◌∙◌, ap, inl, inr, map, subst, sym}
-use Rattle.std.specs.Prelude.{Ok}
+use Rattle.std.proofs.Common.{◌∙◌, ap, inl, inr, map, subst, sym}
+use Rattle.std.specs.Prelude.{Ok, replicate}
 use Rattle.std.proofs.lemmas.Result.{err_from_is_err_and}
 use Rattle.eu_core.specs.Stepped.{copies_of, instance_held}
 use Rattle.eu_model.specs.Server.{task_for, with_task}
@@ -29,7 +29,7 @@ returns-clause-answers g c =
     let acts = c.in_ok-stepped.ensures.ok.acts in
     let new = c.step.new.self in
     let command = c.args.command.now in
-    let told = (c.both-reply.ensures acts.reply acts.replies_are).0 in
+    let told = ap (λ a. a.reply) (c.split-answered.ensures acts.reply (acts.replies_are ∙ ap (λ n. replicate n acts.reply) c.replies_for.ensures)) in
     let held = acts.instances_are ∙ ap (λ n. copies_of n (instance_held new command)) (c.count-count.ensures ∙ sym c.in_ok-reserve.ensures.count) in
     let queues = c.tell.ensures (instance_held new command) held
     ∙ (λ i. map (with_task (task_for command c.args.moment (told i) (instance_held new command))) (c.in_ok-reserve.ensures.queues i)) in

@@ -5,7 +5,7 @@ use Rattle.eu_server.proofs.desk.answer_command.Goals as goal
 
 pub returns-clause-ok : goal.returns-clause-ok
 returns-clause-ok g c =
-    told g.C.Chooser.asks c.args.chooser.now c.args.book.now c.apply-answer.new.self c.apply-answer.new.chooser c.in-Some.command c.in-Some.moment (string_bytes c.print_answer.new.out)
-    (said_of c.args.line) c.apply-answer.result c.print_answer.result (rw c.in-Some.is at c.command_of.ensures.some)
+    told g.C.Chooser.asks c.args.chooser.now c.args.book.now c.apply-answer.new.self c.apply-answer.new.chooser c.in-Some.command c.in-Some.moment (string_bytes c.print_answer-printed.new.out)
+    (said_of c.args.line) c.apply-answer.result c.print_answer-printed.result (rw c.in-Some.is at c.command_of.ensures.some)
     c.apply-answer.ensures.applied c.apply-answer.ensures.refused c.apply-answer.ensures.err c.apply-answer.ensures.unasked
-    c.print_answer.ensures.known (rw (c.requires, c.settled_line-settled.ensures) at c.print_answer.ensures.text)
+    c.print_answer-printed.ensures.known (rw (c.requires, c.settled_line-settled.ensures) at c.print_answer-printed.ensures.text)

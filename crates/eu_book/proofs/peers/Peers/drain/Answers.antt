@@ -1,11 +1,11 @@
 use Rattle.std.proofs.Common.{◌∙◌, ap, subst, sym, slice_set}
-use Rattle.std.specs.Prelude.{Ok, Err}
+use Rattle.std.specs.Prelude.{Ok, Err, replicate}
 use Rattle.std.proofs.lemmas.Result.{err_from_is_err_and}
 use Rattle.eu_base.specs.declared.faults.Fault.TheVariants.{NoPeer}
 use Rattle.eu_model.specs.declared.commands.Command.TheVariants.{Drain}
 use Rattle.eu_model.specs.declared.commands.Reply.TheVariants.{Batch}
 use Rattle.eu_book.specs.Peers.{QueuesAnswer, queues_of}
-use Rattle.eu_book.proofs.PeerLemmas.{popped, lent, past, same_queue, drains, refuses_to_drain, nobody_drains}
+use Rattle.eu_book.proofs.PeerLemmas.{lent, past, same_queue, drains, refuses_to_drain, nobody_drains}
 use Rattle.eu_book.proofs.peers.Peers.drain.Goals as goal
 
 pub returns-in_default-clause-refused : goal.returns-in_default-clause-refused
@@ -34,7 +34,7 @@ returns-clause-ok c =
     let boxes = c.self.inside.outboxes.items in
     let found = lent boxes c.args.peer _ c.in-Some.outbox.now c.self.inside.outboxes.ok.0 c.in-Some.ensures.variant.0 c.in-Some.ensures.value in
     let next = c.drain.new.self in
-    let batch = (popped 1 next.queue.flight c.in-Some-Some.batch c.pop.new.self.items (sym c.in-Some-Some.ensures.items ∙ c.in_ok-batches.ensures.batches)).0 in
+    let batch = ap (λ a. a.reply) (c.split-each.ensures next.queue.flight (c.in_ok-batches.ensures.batches ∙ ap (λ n. replicate n next.queue.flight) c.replies_for.ensures)) in
     let answer = drains boxes c.args.peer c.in-Some.outbox.now found c.args.moment next c.in_ok-batches.ensures.fault c.in_ok-batches.ensures.drained in
-    subst (λ b. QueuesAnswer b (Drain c.args.peer) c.args.moment (Ok (Batch c.in-Some-Some.batch)) (slice_set boxes c.args.peer next)) c.self.view_is
+    subst (λ b. QueuesAnswer b (Drain c.args.peer) c.args.moment (Ok (Batch c.split-each.result.reply)) (slice_set boxes c.args.peer next)) c.self.view_is
     (subst (λ tasks. QueuesAnswer boxes (Drain c.args.peer) c.args.moment (Ok (Batch tasks)) (slice_set boxes c.args.peer next)) (sym batch) answer)

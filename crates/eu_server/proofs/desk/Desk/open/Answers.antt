@@ -4,6 +4,6 @@ use Rattle.eu_server.proofs.desk.Desk.open.Goals as goal
 
 pub returns-clause-ok : goal.returns-clause-ok
 returns-clause-ok c =
-    let opening = c.in-Open.opening in
-    rw c.in-Open.is
-    (opened_with c.args.self.now.config opening.expected opening.peers, (rw c.requires at c.in_ok-push_str.ensures.bytes, refl), refl, rw (c.in_ok-book.ensures) (record { entries = refl; steps = refl; state = refl }))
+    let opening = c.in-Some.opening in
+    rw (rw c.in-Some.is at c.opening_of-opening.ensures.some)
+    (opened_with c.args.self.now.config opening.expected opening.peers, (rw c.requires at c.in_ok-push_str.ensures.bytes, refl), refl, rw (c.replace.ensures.after, c.in_ok-book.ensures) (record { entries = refl; steps = refl; state = refl }))

@@ -1,0 +1,38 @@
+-- An answer of a lawful book
+use Rattle.std.proofs.Common.{ℕ, true, arith, inl, refl}
+use Rattle.std.specs.Prelude.{Result, Ok, Err, IfOk, IfErr, OnOk}
+use Rattle.std.specs.declared.alloc.AllocError.{AllocError}
+use Rattle.eu_base.specs.declared.faults.Fault.{Fault}
+use Rattle.eu_base.specs.declared.faults.Fault.TheVariants.{OutOfMemory}
+use Rattle.eu_base.specs.declared.settings.Config.{Config}
+use Rattle.eu_book.specs.declared.book.Receipt.{Receipt}
+use Rattle.eu_book.specs.Account.{Account, Applies, IsLawful, Refuses, opened}
+use Rattle.eu_book.proofs.BookLemmas.{opened_kept}
+use Rattle.eu_choice.specs.Front.{Asks}
+use Rattle.eu_model.specs.declared.commands.Command.{Command}
+use Rattle.eu_model.specs.declared.views.Query.{Query}
+use Rattle.eu_model.specs.declared.views.View.{View}
+use Rattle.eu_model.specs.Answers.{Shows}
+use Rattle.eu_model.specs.View.{view}
+use Rattle.eu_shared.specs.Passes.{IsAnswer, IsRefused, IsShown}
+
+module _ (c : Command) (t : ℕ) where
+  pub is_answer : {S : Type 0} (asks : Asks S) (x x' : S) (pass : ℕ) (a b : Account) (r : Result Receipt Fault) → IsLawful a → OnOk r (IsLawful b)
+      → IfOk r (λ y. Applies asks a x pass c t y.reply y.number b x') → IfOk r (λ y. IsAnswer asks x pass c t y.reply y.number x')
+  is_answer asks x x' pass a b (Ok y) before after is = (a, b, before, after, is)
+  is_answer asks x x' pass a b (Err f) before after is = is
+
+  pub is_refused : (a : Account) (r : Result Receipt Fault) → IsLawful a → IfErr r (λ f. Refuses a c t f) → IfErr r (λ f. IsRefused c t f)
+  is_refused a (Ok y) before is = is
+  is_refused a (Err f) before is = (a, before, is)
+
+  any_config : Config
+  any_config = record { preservation = true; percent = 85; interval = 30; evict_ms = 60000; percent_bound = omega arith; interval_bound = (omega arith, omega arith) }
+
+  -- memory may be wanted at any time
+  pub memory_is_wanted : IsRefused c t OutOfMemory
+  memory_is_wanted = (opened any_config 0 0, (opened_kept any_config 0 0 (omega arith) (omega arith)).lawful, λ s at. inl refl)
+
+pub is_shown : (q : Query) (t : ℕ) (a : Account) (r : Result View AllocError) → IsLawful a → IfOk r (λ v. Shows a.state.registry (λ s. view s q t) v) → IfOk r (λ v. IsShown q t v)
+is_shown q t a (Ok v) lawful is = (a, lawful, is)
+is_shown q t a (Err e) lawful is = is

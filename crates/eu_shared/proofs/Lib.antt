@@ -1,0 +1,4 @@
+pub mod KeyedLemmas
+pub mod SumLemmas
+pub mod ClosingLemmas
+pub mod AnswerLemmas

@@ -1,0 +1,4 @@
+pub mod Shares
+pub mod Passes
+pub mod PassCode
+pub mod Closing

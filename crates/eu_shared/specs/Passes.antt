@@ -1,0 +1,63 @@
+-- Passes and the shared book, as contracts see them
+use Rattle.std.specs.Prelude.{ℕ, List, [], ◌∷◌, ◌++◌, max}
+use Rattle.eu_base.specs.declared.faults.Fault.{Fault}
+use Rattle.eu_book.specs.declared.journal.Logged.{Logged}
+use Rattle.eu_book.specs.Account.{Account, Applies, IsLawful, Refuses, opened}
+use Rattle.eu_base.specs.declared.settings.Config.{Config}
+use Rattle.eu_choice.specs.Front.{Asks}
+use Rattle.eu_model.specs.declared.commands.Command.{Command}
+use Rattle.eu_model.specs.declared.commands.Reply.{Reply}
+use Rattle.eu_model.specs.declared.tallies.Tally.{Tally}
+use Rattle.eu_model.specs.declared.views.Query.{Query}
+use Rattle.eu_model.specs.declared.views.View.{View}
+use Rattle.eu_model.specs.Answers.{Shows}
+use Rattle.eu_model.specs.Delta.{delta, nothing, plus}
+use Rattle.eu_model.specs.View as seen
+
+-- a pass: its number, what it was answered, what that did, and the greatest `first` that it has seen
+pub record Caller : Type 0 where
+  pub number : ℕ
+  pub log : List Logged
+  pub tally : Tally
+  pub seen : ℕ
+
+-- the shared book, and how many passes were made
+pub record Holding : Type 0 where
+  pub book : Account
+  pub made : ℕ
+
+-- as it is opened, for so many peers
+abbrev pub opening : Config → ℕ → ℕ → Holding
+opening config expected peers = record { book = opened config expected peers; made = 0 }
+
+-- a pass that was just made
+abbrev pub fresh : ℕ → Caller
+fresh n = record { number = n; log = []; tally = nothing; seen = 0 }
+
+-- a pass that was answered, by a journal that begins at `first`
+abbrev pub answered : Caller → Logged → ℕ → Caller
+answered p l first = record { number = p.number; log = p.log ++ l ∷ []; tally = plus p.tally (delta l.command l.reply); seen = max p.seen first }
+
+-- a pass that was shown a state, of a journal that begins at `first`
+abbrev pub shown : Caller → ℕ → Caller
+shown p first = record { number = p.number; log = p.log; tally = p.tally; seen = max p.seen first }
+
+-- what was done for all these passes
+abbrev pub done_for : List Caller → Tally
+done_for [] = nothing
+done_for (p ∷ ps) = plus p.tally (done_for ps)
+
+-- ---- what is known of an answer, where the book behind the lock isn't
+
+-- some lawful book answers the command so, at this number, and is lawful after
+abbrev pub IsAnswer : {S : Type 0} → Asks S → S → ℕ → Command → ℕ → Reply → ℕ → S → Type 0
+IsAnswer asks x pass c t reply number x' =
+    (before : Account) × (after : Account) × IsLawful before × IsLawful after × Applies asks before x pass c t reply number after x'
+
+-- some lawful book refuses it so
+abbrev pub IsRefused : Command → ℕ → Fault → Type 0
+IsRefused c t f = (a : Account) × IsLawful a × Refuses a c t f
+
+-- some lawful book shows it
+abbrev pub IsShown : Query → ℕ → View → Type 0
+IsShown q t v = (a : Account) × IsLawful a × Shows a.state.registry (λ s. seen.view s q t) v

@@ -1,0 +1,210 @@
+//! The book behind the lock, with its part of the ledgers.
+ghost use Rattle.std.specs.Prelude.{◌≡◌, ◌↔◌, ◌+◌, ◌<◌, ◌≤◌, ◌^◌, Err, vec_len, IfOk, IfErr, OnOk, OnErr};
+ghost use Rattle.eu_book.specs.Account.{logged, Applies, IsLawful, Refuses};
+ghost use Rattle.eu_model.specs.Answers.{Shows};
+ghost use Rattle.eu_model.specs.Delta.{plus};
+ghost use Rattle.eu_model.specs.View.{view};
+ghost use Rattle.eu_shared.specs.Passes.{answered, done_for, fresh, opening, shown};
+
+use crate::pass::Pass;
+use crate::shares::{Blanks, Label, Shares, Totals};
+use crate::sums::sum_up;
+use eu_base::{Config, Fault, Moment};
+use eu_book::{Book, Receipt};
+use eu_clock::Chooser;
+use eu_model::{Command, Query, Tally, View};
+use std::alloc::{AllocError, Global};
+use std::marker::Model;
+
+/// The most passes that are made of a book.
+pub const MOST_PASSES: u64 = 1_024;
+
+/// A book with its part of four ledgers: what lies behind the lock. None of its calls waits for anybody.
+///
+/// The totals of the ledgers are the book's. Each pass has one part of the ledgers, and the book the rest, which counts nothing.
+#[derive(Drop)]
+pub struct Held<K: Label> {
+    book: Book,
+    made: u64,
+    totals: Totals<K>,
+    rest: Shares<K>,
+}
+
+impl<K: Label> Model for Held<K> {
+    ghost use Rattle.std.specs.Prelude.{◌≡◌, ◌+◌, ◌≤◌};
+    ghost use Rattle.eu_model.specs.Delta.{nothing};
+    ghost use Rattle.eu_shared.specs.Passes.{Holding};
+    ghost use Rattle.eu_shared.specs.PassCode.{coded_holding};
+
+    ghost Value = { Holding };
+
+    ghost coded = { coded_holding };
+
+    ghost view = { λ h. record { book = h.book; made = h.made } };
+
+    ghost invariant = { λ h. (h.totals ≡ h.book.totals) × (h.rest.tally ≡ nothing) × (h.rest.parts + h.made ≡ 1025) × (h.made ≤ 1024) × (K.parts ≡ 1025) };
+}
+
+impl<K: Label> Held<K> {
+    /// A book that is opened now (`Book::open`), over four new ledgers, and no pass. `AllocError` where no memory is left.
+    pub fn open(
+        alloc: Global,
+        config: Config,
+        expected: u32,
+        peers: u32,
+        blanks: Blanks,
+    ) -> Result<Held<K>, AllocError>
+        requires peers { peers ≤ 8 }
+        requires names { (blanks.steps.name ≡ K.steps) × (blanks.counted.name ≡ K.counted) × (blanks.added.name ≡ K.added) × (blanks.removed.name ≡ K.removed) }
+        requires parts { (blanks.steps.parts ≡ K.parts) × (blanks.counted.parts ≡ K.parts) × (blanks.added.parts ≡ K.parts) × (blanks.removed.parts ≡ K.parts) × (K.parts ≡ 1025) }
+        ensures { IfOk result (λ held. held ≡ opening config expected peers) }
+    {
+        let book = Book::open(alloc, config, expected, peers)?;
+        let (totals, rest) = blanks.open::<K>();
+        Ok(Held {
+            book,
+            made: 0,
+            totals,
+            rest,
+        })
+    }
+
+    /// The book, to be looked at. It is lawful, as each book is.
+    pub fn book(&self) -> &Book
+        ensures book { result.now ≡ self.now.book }
+        ensures lawful { IsLawful self.now.book }
+    {
+        let _journal = self.book.journal();
+        &self.book
+    }
+
+    /// The book alone.
+    pub(crate) fn into_book(self) -> Book
+        ensures { result ≡ self.book }
+    {
+        let Held {
+            book,
+            made: _,
+            totals: _,
+            rest: _,
+        } = self;
+        book
+    }
+
+    /// How many passes were made. Takes no memory.
+    pub fn made(&self) -> u64
+        ensures { result ≡ self.now.made }
+    {
+        self.made
+    }
+
+    /// A new pass: the first has the number 0, and each further one the next number. Takes no memory.
+    ///
+    /// `TooManyPasses` exactly where 1,024 were made. It changes nothing.
+    pub fn pass(&mut self, alloc: Global) -> Result<Pass<K>, Fault>
+        ensures pass { IfOk result (λ pass. pass ≡ fresh self.old.made) }
+        ensures made { OnOk result (self.new ≡ record { book = self.old.book; made = self.old.made + 1 }) }
+        ensures many { (result ≡ Err Fault.TooManyPasses) ↔ (self.old.made ≡ 1024) }
+        ensures no_other { IfErr result (λ f. f ≡ Fault.TooManyPasses) }
+        ensures err { OnErr result (self.new ≡ self.old) }
+    {
+        if self.made == MOST_PASSES {
+            return Err(Fault::TooManyPasses);
+        }
+        let number = self.made;
+        self.made += 1;
+        Ok(Pass {
+            number,
+            log: Vec::new(alloc),
+            tally: Tally::nothing(),
+            seen: 0,
+            shares: self.rest.split_off(1),
+        })
+    }
+
+    /// What was done for these passes: all that was done, where they are as many as were made. Changes nothing.
+    pub(crate) fn sums(&mut self, passes: &mut Vec<Pass<K>>) -> Tally
+        ensures sums { result ≡ done_for passes.old.items }
+        ensures whole { vec_len passes.old ≡ self.old.made → result ≡ self.old.book.totals }
+        ensures passes { (passes.new.items ≡ passes.old.items) × (vec_len passes.new ≡ vec_len passes.old) }
+        ensures same { self.new ≡ self.old }
+    {
+        let _totals = self.book.totals();
+        sum_up(passes, &mut self.rest, &mut self.totals, Tally::nothing())
+    }
+
+    /// Tells the book a command for a pass, at a moment: `Book::apply` with the pass's number, and with its refusals.
+    ///
+    /// The pass logs what it is answered, and what was done is added to its tallies. The number of the entry is at least that of
+    /// the steps that were made for this pass. A refusal changes neither the book nor the pass, and asks no word.
+    pub fn ask<C: Chooser>(
+        &mut self,
+        alloc: Global,
+        pass: &mut Pass<K>,
+        command: Command,
+        moment: Moment,
+        chooser: &mut C,
+    ) -> Result<Receipt, Fault>
+        ensures applied { IfOk result (λ r. Applies C.asks self.old.book chooser.old pass.old.number command moment r.reply r.number self.new.book chooser.new) }
+        ensures pass { IfOk result (λ r. pass.new ≡ answered pass.old (logged command moment r.reply r.number) self.new.book.first) }
+        ensures fresh { IfOk result (λ r. pass.old.tally.steps ≤ r.number) }
+        ensures before { IsLawful self.old.book }
+        ensures after { OnOk result (IsLawful self.new.book) }
+        ensures made { self.new.made ≡ self.old.made }
+        ensures refused { IfErr result (λ f. Refuses self.old.book command moment f) }
+        ensures err { OnErr result ((self.new ≡ self.old) × (pass.new ≡ pass.old)) }
+        ensures unasked { OnErr result (chooser.new ≡ chooser.old) }
+    {
+        let _before = self.book.journal();
+        if pass.log.reserve(1).is_err() {
+            drop(command);
+            return Err(Fault::OutOfMemory);
+        }
+        let (receipt, logged) = self
+            .book
+            .apply_logged(alloc, pass.number, command, moment, chooser)?;
+        let done = Tally::of(&logged.command, &logged.reply);
+        self.totals.audit(&mut pass.shares);
+        self.totals.add(&mut pass.shares, done);
+        self.totals.audit(&mut pass.shares);
+        let _totals = self.book.totals();
+        pass.tally = sum(pass.tally, done);
+        pass.seen = pass.seen.max(self.book.journal().first);
+        pass.log.push_reserved(logged);
+        Ok(receipt)
+    }
+
+    /// What a query sees at a moment (`Book::read`). The pass has then seen where the journal begins, and nothing else changes.
+    /// `AllocError` where no memory is left, which changes nothing.
+    pub fn read(
+        &self,
+        alloc: Global,
+        pass: &mut Pass<K>,
+        query: &Query,
+        moment: Moment,
+    ) -> Result<View, AllocError>
+        ensures view { IfOk result (λ v. Shows self.now.book.state.registry (λ s. view s query.now moment) v) }
+        ensures pass { OnOk result (pass.new ≡ shown pass.old self.now.book.first) }
+        ensures err { OnErr result (pass.new ≡ pass.old) }
+    {
+        let view = self.book.read(alloc, query, moment)?;
+        pass.seen = pass.seen.max(self.book.journal().first);
+        Ok(view)
+    }
+}
+
+/// Both together.
+pub(crate) fn sum(a: Tally, b: Tally) -> Tally
+    requires steps { a.steps + b.steps < 2 ^ 64 }
+    requires counted { a.counted + b.counted < 2 ^ 64 }
+    requires added { a.added + b.added < 2 ^ 64 }
+    requires removed { a.removed + b.removed < 2 ^ 64 }
+    ensures { result ≡ plus a b }
+{
+    Tally {
+        steps: a.steps + b.steps,
+        counted: a.counted + b.counted,
+        added: a.added + b.added,
+        removed: a.removed + b.removed,
+    }
+}

@@ -1,0 +1,145 @@
+//! The book behind its lock.
+//!
+//! Each call takes the lock once, makes the one call of its name on what lies behind it (`Held`), and releases it. What is
+//! behind a lock is known by its type alone: so a clause says of an answer that some lawful book gives it, and not which.
+ghost use Rattle.std.specs.Prelude.{◌≡◌, ◌∷◌, ◌++◌, ◌≤◌, [], map, vec_len, IfOk, IfErr, OnErr, IsPermutation};
+ghost use Rattle.std.specs.List.Sorted.{IsNonDecreasingBy};
+ghost use Rattle.std.specs.Sync.Mutex.{mutex_guard_value};
+ghost use Rattle.eu_book.specs.Account.{logged, IsLawful};
+ghost use Rattle.eu_book.specs.Peers.{state_of};
+ghost use Rattle.eu_model.specs.Delta.{delta, plus};
+ghost use Rattle.eu_settle.specs.declared.closed.PassLog.{PassLog};
+ghost use Rattle.eu_shared.specs.Closing.{account_of, log_of, logged_by, IsReason};
+ghost use Rattle.eu_shared.specs.Passes.{done_for, fresh, IsAnswer, IsRefused, IsShown};
+
+use crate::closing::Unclosed;
+use crate::held::Held;
+use crate::pass::Pass;
+use crate::shares::{Blanks, Label};
+use eu_base::{Config, Fault, Moment};
+use eu_book::Receipt;
+use eu_clock::Chooser;
+use eu_model::{Command, Query, View};
+use eu_settle::Closed;
+use std::alloc::{AllocError, Global};
+use std::sync::{Mutex, MutexGuard, Wait};
+
+/// A book that threads share, behind one lock.
+///
+/// Whenever the lock is free, the book is lawful: its entries are a run of the lease machine from the base to its state, its totals
+/// are what they did, and as many leases are held as were added and not removed.
+#[derive(Drop)]
+pub struct Shared<K: Label> {
+    held: Mutex<Held<K>>,
+}
+
+impl<K: Label> Shared<K> {
+    /// As `Held::open`, behind a lock.
+    pub fn open(
+        alloc: Global,
+        config: Config,
+        expected: u32,
+        peers: u32,
+        blanks: Blanks,
+    ) -> Result<Shared<K>, AllocError>
+        requires peers { peers ≤ 8 }
+        requires names { (blanks.steps.name ≡ K.steps) × (blanks.counted.name ≡ K.counted) × (blanks.added.name ≡ K.added) × (blanks.removed.name ≡ K.removed) }
+        requires parts { (blanks.steps.parts ≡ K.parts) × (blanks.counted.parts ≡ K.parts) × (blanks.added.parts ≡ K.parts) × (blanks.removed.parts ≡ K.parts) × (K.parts ≡ 1025) }
+    {
+        let held = Held::open(alloc, config, expected, peers, blanks)?;
+        Ok(Shared {
+            held: Mutex::new(held),
+        })
+    }
+
+    /// Takes the lock. The book behind it is lawful.
+    fn lock<R: Wait>(&self, rt: &R) -> MutexGuard<'_, Held<K>>
+        ensures { IsLawful (mutex_guard_value result).book }
+    {
+        let guard = self.held.lock(rt);
+        let _book = guard.book();
+        guard
+    }
+
+    /// A new pass (`Held::pass`). Its number is how many were made before it. Takes no memory.
+    ///
+    /// `TooManyPasses` where 1,024 were made.
+    pub fn pass<R: Wait>(&self, rt: &R, alloc: Global) -> Result<Pass<K>, Fault>
+        ensures pass { IfOk result (λ pass. pass ≡ fresh pass.number) }
+        ensures no_other { IfErr result (λ f. f ≡ Fault.TooManyPasses) }
+    {
+        self.lock(rt).pass(alloc)
+    }
+}
+
+impl<K: Label> Pass<K> {
+    /// Tells the shared book a command, at a moment (`Held::ask`). The room in the log is made before the lock is taken.
+    ///
+    /// What it is answered is logged, and what was done is added to the tallies. The number of the entry is at least that of the
+    /// steps that were made for this pass. A refusal is one of `Book::apply`; it leaves the pass as it was, and asks no word.
+    pub fn ask<C: Chooser, R: Wait>(
+        &mut self,
+        rt: &R,
+        shared: &Shared<K>,
+        alloc: Global,
+        command: Command,
+        moment: Moment,
+        chooser: &mut C,
+    ) -> Result<Receipt, Fault>
+        ensures log { IfOk result (λ r. self.new.log ≡ self.old.log ++ logged command moment r.reply r.number ∷ []) }
+        ensures tally { IfOk result (λ r. self.new.tally ≡ plus self.old.tally (delta command r.reply)) }
+        ensures number { self.new.number ≡ self.old.number }
+        ensures seen { self.old.seen ≤ self.new.seen }
+        ensures fresh { IfOk result (λ r. self.old.tally.steps ≤ r.number) }
+        ensures answer { IfOk result (λ r. IsAnswer C.asks chooser.old self.old.number command moment r.reply r.number chooser.new) }
+        ensures refused { IfErr result (λ f. IsRefused command moment f) }
+        ensures err { OnErr result (self.new ≡ self.old) }
+        ensures unasked { OnErr result (chooser.new ≡ chooser.old) }
+    {
+        if self.reserve().is_err() {
+            drop(command);
+            return Err(Fault::OutOfMemory);
+        }
+        shared.lock(rt).ask(alloc, self, command, moment, chooser)
+    }
+
+    /// What a query sees of the shared book, at a moment (`Held::read`). `AllocError` where no memory is left, which leaves the pass
+    /// as it was.
+    pub fn read<R: Wait>(
+        &mut self,
+        rt: &R,
+        shared: &Shared<K>,
+        alloc: Global,
+        query: &Query,
+        moment: Moment,
+    ) -> Result<View, AllocError>
+        ensures view { IfOk result (λ v. IsShown query.now moment v) }
+        ensures pass { (self.new.number ≡ self.old.number) × (self.new.log ≡ self.old.log) × (self.new.tally ≡ self.old.tally) × (self.old.seen ≤ self.new.seen) }
+        ensures err { OnErr result (self.new ≡ self.old) }
+    {
+        shared.lock(rt).read(alloc, self, query, moment)
+    }
+}
+
+/// Closes a shared book (`Held::close`), for which nobody waits any more: its entries lead from the base to the end, and its totals
+/// are what was done for the passes.
+///
+/// `PassMissing` exactly where what was done for these passes isn't what was done in all; never where as many passes are handed
+/// in as were made. Else `OutOfMemory`. Either hands back the book, without its lock, and the passes, as they were.
+pub fn close<K: Label>(
+    shared: Shared<K>,
+    alloc: Global,
+    passes: Vec<Pass<K>>,
+) -> Result<Closed, Unclosed<K>>
+    ensures lawful { IfOk result (λ c. IsLawful (account_of c)) }
+    ensures plain { IfOk result (λ c. (c.base ≡ state_of (account_of c).base) × (c.end ≡ state_of (account_of c).state)) }
+    ensures sums { IfOk result (λ c. c.totals ≡ done_for passes.items) }
+    ensures logs { IfOk result (λ c. IsPermutation (map log_of passes.items) (map logged_by c.logs.items)) }
+    ensures ascending { IfOk result (λ c. IsNonDecreasingBy (λ (l : PassLog). l.pass) c.logs.items) }
+    ensures unclosed { IfErr result (λ u. (u.sums ≡ done_for passes.items) × IsReason u.fault u.sums u.totals × (u.passes.items ≡ passes.items)) }
+    ensures book { IfErr result (λ u. (u.totals ≡ u.held.book.totals) × (u.made ≡ u.held.made)) }
+    ensures whole { IfErr result (λ u. vec_len passes ≡ u.made → u.sums ≡ u.totals) }
+{
+    let Shared { held } = shared;
+    held.into_inner().close(alloc, passes)
+}

@@ -1,0 +1,209 @@
+//! Accounts of two passes, worked out by hand.
+ghost use Rattle.std.specs.Prelude.{◌≡◌};
+
+use crate::tests::asks::{close_for, drain, open, play, renewal};
+use crate::tests::reads::{Seen, Sights, are_both, look};
+use crate::tests::states::{counts_only, is_same};
+use eu_base::{Config, Fault};
+use eu_model::{Counts, State, Tally};
+use eu_settle::{Closed, Mismatch, settle};
+use eu_shared::{Blanks, Label, Pass, Shared};
+use std::alloc::Global;
+use std::marker::Brand;
+use std::mem::replace;
+use std::sync::Wait;
+use std::test::Fail;
+
+/// How a pass was answered, how long its log is then, and what was done for it.
+#[derive(Clone, Copy)]
+struct Drained {
+    answer: (u64, &'static str),
+    logged: usize,
+    tally: Tally,
+}
+
+/// Has a pass drain a peer that isn't there.
+fn drain_nobody<K: Label, R: Wait>(
+    rt: &R,
+    shared: &Shared<K>,
+    alloc: Global,
+    pass: &mut Pass<K>,
+) -> Drained {
+    Drained {
+        answer: drain(rt, shared, alloc, pass, 0),
+        logged: pass.log().len(),
+        tally: pass.tallies(),
+    }
+}
+
+/// A book that was closed: what was done in all, its first entry and how many there are, whether its base and its end are what they
+/// are to be, and how it is settled, as it is and with an entry turned into another.
+#[derive(Clone, Copy)]
+struct Account {
+    totals: Tally,
+    first: u64,
+    entries: usize,
+    opening: bool,
+    played: bool,
+    settled: Result<(), Mismatch>,
+    turned: Result<(), Mismatch>,
+}
+
+/// Whether it is as it was opened.
+fn is_opening(state: &State, config: Config) -> bool {
+    is_same(state.config, config)
+        && state.expected == 0
+        && state.leases.as_slice().is_empty()
+        && counts_only(state, 0)
+        && state.queues.as_slice().is_empty()
+}
+
+/// Whether it is what the two passes make of it.
+fn is_played(state: &State, config: Config) -> bool {
+    is_same(state.config, config)
+        && state.expected == 0
+        && are_both(&state.leases)
+        && counts_only(state, 5)
+        && state.queues.as_slice().is_empty()
+}
+
+/// Has the entry at that place renew i2.
+fn turn_into_renewal(alloc: Global, closed: &mut Closed, place: usize) -> Result<(), Fault> {
+    let renewal = renewal(alloc, "i2")?;
+    match closed.entries.get_mut(place) {
+        Some(entry) => drop(replace(&mut entry.command, renewal)),
+        None => drop(renewal),
+    }
+    Ok(())
+}
+
+fn examine(alloc: Global, config: Config, closed: &mut Closed) -> Result<Account, Fault> {
+    let settled = settle(closed);
+    turn_into_renewal(alloc, closed, 2)?;
+    Ok(Account {
+        totals: closed.totals,
+        first: closed.first,
+        entries: closed.entries.len(),
+        opening: is_opening(&closed.base, config),
+        played: is_played(&closed.end, config),
+        settled,
+        turned: settle(closed),
+    })
+}
+
+/// What comes of a close.
+fn close_account<K: Label>(
+    shared: Shared<K>,
+    alloc: Global,
+    passes: Vec<Pass<K>>,
+) -> Result<Account, Fault> {
+    let mut closed = close_for(shared, alloc, passes)?;
+    let account = match Config::new(true, 85, 30, 60_000) {
+        Ok(config) => examine(alloc, config, &mut closed),
+        Err(fault) => Err(fault),
+    };
+    drop(closed);
+    account
+}
+
+/// What was found: whether the asks were answered as they are to be, what came of a drain, what each pass sees, and the account.
+#[derive(Clone, Copy)]
+struct Findings {
+    played: bool,
+    drained: Drained,
+    zero: Result<Sights, Fault>,
+    one: Result<Sights, Fault>,
+    account: Account,
+}
+
+fn find<K: Label, R: Wait>(rt: &R, alloc: Global, blanks: Blanks) -> Result<Findings, Fault>
+    requires names { (blanks.steps.name ≡ K.steps) × (blanks.counted.name ≡ K.counted) × (blanks.added.name ≡ K.added) × (blanks.removed.name ≡ K.removed) }
+    requires parts { (blanks.steps.parts ≡ K.parts) × (blanks.counted.parts ≡ K.parts) × (blanks.added.parts ≡ K.parts) × (blanks.removed.parts ≡ K.parts) × (K.parts ≡ 1025) }
+{
+    let shared = open::<K>(alloc, blanks)?;
+    let mut zero = shared.pass(rt, alloc)?;
+    let mut one = shared.pass(rt, alloc)?;
+    let played = play(rt, &shared, alloc, &mut zero, &mut one);
+    let drained = drain_nobody(rt, &shared, alloc, &mut zero);
+    let sights = (
+        look(rt, &shared, alloc, &mut zero),
+        look(rt, &shared, alloc, &mut one),
+    );
+    let passes = Vec::from_array(alloc, [one, zero])?;
+    Ok(Findings {
+        played,
+        drained,
+        zero: sights.0,
+        one: sights.1,
+        account: close_account(shared, alloc, passes)?,
+    })
+}
+
+fn found<R: Wait>(rt: &R, alloc: Global) -> Result<Findings, Fault> {
+    find::<Brand, R>(rt, alloc, Blanks::new())
+}
+
+#[test]
+fn two_passes_are_accounted_for(rt: HostRuntime) -> Result<(), Fail> {
+    let found = found(&rt, rt.alloc())?;
+    let account = found.account;
+    let sums = Tally {
+        steps: 7,
+        counted: 5,
+        added: 2,
+        removed: 0,
+    };
+    assert!(rt; found.played);
+    assert!(rt; account.totals == sums);
+    assert!(rt; account.first == 0 && account.entries == 7);
+    assert!(rt; account.opening);
+    assert!(rt; account.played);
+    assert!(rt; account.settled == Ok(()));
+    assert!(rt; account.turned == Err(Mismatch { pass: 0, place: 2 }));
+    Ok(())
+}
+
+#[test]
+fn a_refusal_is_the_books(rt: HostRuntime) -> Result<(), Fail> {
+    let drained = found(&rt, rt.alloc())?.drained;
+    let tally = Tally {
+        steps: 5,
+        counted: 3,
+        added: 2,
+        removed: 0,
+    };
+    assert!(rt; drained.answer == (15, "refused"));
+    assert!(rt; drained.logged == 5 && drained.tally == tally);
+    Ok(())
+}
+
+fn counts_two(seen: Seen) -> bool {
+    matches!(
+        seen,
+        Seen::Counts(Counts {
+            held: 2,
+            expected: 0,
+            threshold: 0,
+            last: 0,
+            permitted: false,
+            preservation: true,
+        })
+    )
+}
+
+/// Whether both leases are seen and no third, and two are counted, which nobody expected.
+fn are_of_both(sights: Sights) -> bool {
+    matches!(sights.first, Seen::Lease(90_004))
+        && matches!(sights.second, Seen::Lease(90_006))
+        && matches!(sights.third, Seen::NoLease)
+        && matches!(sights.all, Seen::Both)
+        && counts_two(sights.counts)
+}
+
+#[test]
+fn passes_see_what_others_did(rt: HostRuntime) -> Result<(), Fail> {
+    let found = found(&rt, rt.alloc())?;
+    assert!(rt; are_of_both(found.zero?));
+    assert!(rt; are_of_both(found.one?));
+    Ok(())
+}

@@ -1,0 +1,139 @@
+//! Asks through the lock, and a book that is opened and closed for them.
+ghost use Rattle.std.specs.Prelude.{◌≡◌};
+
+use eu_base::{App, Config, Fault, Id, Instance, Key, Moment, Rest, Status};
+use eu_book::Receipt;
+use eu_clock::FirstChooser;
+use eu_model::{Command, Reply};
+use eu_settle::Closed;
+use eu_shared::{Blanks, Label, Pass, Shared, close};
+use std::alloc::Global;
+use std::sync::Wait;
+
+pub fn key(alloc: Global, id: &str) -> Result<Key, Fault> {
+    let app = App::read(alloc, "A")?;
+    let id = Id::read(alloc, id)?;
+    Ok(Key { app, id })
+}
+
+/// A client that is UP registers, for 90 seconds.
+pub fn registration(alloc: Global, id: &str) -> Result<Command, Fault> {
+    let key = key(alloc, id)?;
+    let rest = Rest::of_host(alloc, "h")?;
+    Ok(Command::Register {
+        instance: Instance {
+            key,
+            status: Status::Up,
+            overridden: Status::Unknown,
+            dirty: 0,
+            secs: 90,
+            interval: 30,
+            rest,
+        },
+        replicated: false,
+    })
+}
+
+pub fn renewal(alloc: Global, id: &str) -> Result<Command, Fault> {
+    let key = key(alloc, id)?;
+    Ok(Command::Renew {
+        key,
+        dirty: None,
+        overridden: None,
+        replicated: false,
+    })
+}
+
+fn word(reply: &Reply) -> &'static str {
+    match reply {
+        Reply::Registered { fresh: true } => "new",
+        Reply::Done => "done",
+        _ => "other",
+    }
+}
+
+/// The number of the entry and the reply in a word, or the number of the fault.
+fn told(answer: Result<Receipt, Fault>) -> (u64, &'static str) {
+    match answer {
+        Ok(receipt) => {
+            let told = (receipt.number, word(&receipt.reply));
+            drop(receipt);
+            told
+        }
+        Err(fault) => (u64::from(fault.number()), "refused"),
+    }
+}
+
+/// Asks through the lock, at the moment of so many milliseconds.
+pub fn ask<K: Label, R: Wait>(
+    rt: &R,
+    shared: &Shared<K>,
+    alloc: Global,
+    pass: &mut Pass<K>,
+    command: Result<Command, Fault>,
+    ms: u64,
+) -> (u64, &'static str) {
+    let Some(now) = Moment::new(ms) else {
+        drop(command);
+        return (0, "late");
+    };
+    match command {
+        Ok(command) => told(pass.ask(rt, shared, alloc, command, now, &mut FirstChooser)),
+        Err(fault) => (u64::from(fault.number()), "refused"),
+    }
+}
+
+/// Asks for the batch of a peer.
+pub fn drain<K: Label, R: Wait>(
+    rt: &R,
+    shared: &Shared<K>,
+    alloc: Global,
+    pass: &mut Pass<K>,
+    peer: u32,
+) -> (u64, &'static str) {
+    ask(rt, shared, alloc, pass, Ok(Command::Drain { peer }), 6)
+}
+
+/// Pass 0 registers i1 and i2 and renews i1 three times, pass 1 renews i2 twice, at the moments 0 to 6. Whether each is answered so.
+pub fn play<K: Label, R: Wait>(
+    rt: &R,
+    shared: &Shared<K>,
+    alloc: Global,
+    zero: &mut Pass<K>,
+    one: &mut Pass<K>,
+) -> bool {
+    let came = ask(rt, shared, alloc, zero, registration(alloc, "i1"), 0) == (0, "new")
+        && ask(rt, shared, alloc, zero, registration(alloc, "i2"), 1) == (1, "new");
+    let first = came
+        && ask(rt, shared, alloc, zero, renewal(alloc, "i1"), 2) == (2, "done")
+        && ask(rt, shared, alloc, zero, renewal(alloc, "i1"), 3) == (3, "done")
+        && ask(rt, shared, alloc, zero, renewal(alloc, "i1"), 4) == (4, "done");
+    first
+        && ask(rt, shared, alloc, one, renewal(alloc, "i2"), 5) == (5, "done")
+        && ask(rt, shared, alloc, one, renewal(alloc, "i2"), 6) == (6, "done")
+}
+
+/// A shared book that expects nobody, without peers.
+pub fn open<K: Label>(alloc: Global, blanks: Blanks) -> Result<Shared<K>, Fault>
+    requires names { (blanks.steps.name ≡ K.steps) × (blanks.counted.name ≡ K.counted) × (blanks.added.name ≡ K.added) × (blanks.removed.name ≡ K.removed) }
+    requires parts { (blanks.steps.parts ≡ K.parts) × (blanks.counted.parts ≡ K.parts) × (blanks.added.parts ≡ K.parts) × (blanks.removed.parts ≡ K.parts) × (K.parts ≡ 1025) }
+{
+    let config = Config::new(true, 85, 30, 60_000)?;
+    Ok(Shared::open(alloc, config, 0, 0, blanks)?)
+}
+
+/// Closes a shared book.
+pub fn close_for<K: Label>(
+    shared: Shared<K>,
+    alloc: Global,
+    passes: Vec<Pass<K>>,
+) -> Result<Closed, Fault> {
+    match close(shared, alloc, passes) {
+        Ok(closed) => Ok(closed),
+        Err(unclosed) => {
+            let fault = unclosed.fault;
+            drop(unclosed);
+            Err(fault)
+        }
+    }
+}

@@ -1,0 +1,93 @@
+//! A book that is opened with settings, clients expected and peers.
+ghost use Rattle.std.specs.Prelude.{◌≡◌};
+
+use crate::tests::asks::{close_for, drain};
+use crate::tests::reads::{Seen, see};
+use crate::tests::states::{are_two_idle, counts_only, is_same};
+use eu_base::{Config, Fault};
+use eu_model::{Counts, Query, State};
+use eu_settle::Closed;
+use eu_shared::{Blanks, Label, Shared};
+use std::alloc::Global;
+use std::marker::Brand;
+use std::sync::Wait;
+use std::test::Fail;
+
+/// Whether it is as it was opened.
+fn is_opening(state: &State, config: Config) -> bool {
+    is_same(state.config, config)
+        && state.expected == 7
+        && state.leases.as_slice().is_empty()
+        && counts_only(state, 0)
+        && are_two_idle(state.queues.as_slice())
+}
+
+/// Whether nothing was done from such an opening.
+fn is_untouched(closed: &Closed, config: Config) -> bool {
+    closed.entries.is_empty() && is_opening(&closed.base, config) && is_opening(&closed.end, config)
+}
+
+/// The counts at once, how the drains of peers 1 and 2 are answered, and whether the book is closed as it was opened.
+#[derive(Clone, Copy)]
+struct Opening {
+    counts: Result<Seen, Fault>,
+    known: (u64, &'static str),
+    unknown: (u64, &'static str),
+    untouched: bool,
+}
+
+/// Opens a book without preservation that expects seven clients and has two peers.
+fn open_for_peers<K: Label, R: Wait>(
+    rt: &R,
+    alloc: Global,
+    blanks: Blanks,
+) -> Result<Opening, Fault>
+    requires names { (blanks.steps.name ≡ K.steps) × (blanks.counted.name ≡ K.counted) × (blanks.added.name ≡ K.added) × (blanks.removed.name ≡ K.removed) }
+    requires parts { (blanks.steps.parts ≡ K.parts) × (blanks.counted.parts ≡ K.parts) × (blanks.added.parts ≡ K.parts) × (blanks.removed.parts ≡ K.parts) × (K.parts ≡ 1025) }
+{
+    let config = Config::new(false, 50, 20, 1_000)?;
+    let shared: Shared<K> = Shared::open(alloc, config, 7, 2, blanks)?;
+    let mut pass = shared.pass(rt, alloc)?;
+    let counts = see(rt, &shared, alloc, &mut pass, Query::Counts);
+    let known = drain(rt, &shared, alloc, &mut pass, 1);
+    let unknown = drain(rt, &shared, alloc, &mut pass, 2);
+    let passes = Vec::from_array(alloc, [pass])?;
+    let closed = close_for(shared, alloc, passes)?;
+    let untouched = is_untouched(&closed, config);
+    drop(closed);
+    Ok(Opening {
+        counts,
+        known,
+        unknown,
+        untouched,
+    })
+}
+
+fn opened<R: Wait>(rt: &R, alloc: Global) -> Result<Opening, Fault> {
+    open_for_peers::<Brand, R>(rt, alloc, Blanks::new())
+}
+
+/// Whether they are those of the settings: half of 7 × 60 ÷ 20 renewals, rounded down, is the threshold, and without preservation
+/// eviction is permitted.
+fn counts_seven(seen: Seen) -> bool {
+    matches!(
+        seen,
+        Seen::Counts(Counts {
+            held: 0,
+            expected: 7,
+            threshold: 10,
+            last: 0,
+            permitted: true,
+            preservation: false,
+        })
+    )
+}
+
+#[test]
+fn a_book_is_opened_as_it_is_told(rt: HostRuntime) -> Result<(), Fail> {
+    let opening = opened(&rt, rt.alloc())?;
+    assert!(rt; counts_seven(opening.counts?));
+    assert!(rt; opening.known == (9, "refused") && opening.unknown == (15, "refused"));
+    assert!(rt; opening.untouched);
+    Ok(())
+}

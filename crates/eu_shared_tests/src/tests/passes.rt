@@ -1,0 +1,119 @@
+//! Passes that are made, and one that is missing at the close.
+ghost use Rattle.std.specs.Prelude.{◌≡◌};
+
+use crate::tests::asks::{open, play};
+use eu_base::Fault;
+use eu_model::Tally;
+use eu_shared::{Blanks, Label, MOST_PASSES, Pass, Shared, Unclosed, close};
+use std::alloc::Global;
+use std::marker::Brand;
+use std::sync::Wait;
+use std::test::Fail;
+
+/// What is handed back where a book isn't closed: the fault, the sums, the totals, how many passes were made, and how many are there.
+#[derive(Clone, Copy)]
+struct Refusal {
+    fault: Fault,
+    sums: Tally,
+    totals: Tally,
+    made: u64,
+    passes: usize,
+}
+
+fn refusal_of<K: Label>(unclosed: &Unclosed<K>) -> Refusal {
+    Refusal {
+        fault: unclosed.fault,
+        sums: unclosed.sums,
+        totals: unclosed.totals,
+        made: unclosed.made,
+        passes: unclosed.passes.len(),
+    }
+}
+
+/// What a close is refused by; `Exhausted` where it isn't.
+fn refused_close<K: Label>(
+    shared: Shared<K>,
+    alloc: Global,
+    passes: Vec<Pass<K>>,
+) -> Result<Refusal, Fault> {
+    match close(shared, alloc, passes) {
+        Ok(closed) => {
+            drop(closed);
+            Err(Fault::Exhausted)
+        }
+        Err(unclosed) => {
+            let refusal = refusal_of(&unclosed);
+            drop(unclosed);
+            Ok(refusal)
+        }
+    }
+}
+
+/// Closes the book without pass 1.
+fn close_without_one<K: Label, R: Wait>(
+    rt: &R,
+    alloc: Global,
+    blanks: Blanks,
+) -> Result<Refusal, Fault>
+    requires names { (blanks.steps.name ≡ K.steps) × (blanks.counted.name ≡ K.counted) × (blanks.added.name ≡ K.added) × (blanks.removed.name ≡ K.removed) }
+    requires parts { (blanks.steps.parts ≡ K.parts) × (blanks.counted.parts ≡ K.parts) × (blanks.added.parts ≡ K.parts) × (blanks.removed.parts ≡ K.parts) × (K.parts ≡ 1025) }
+{
+    let shared = open::<K>(alloc, blanks)?;
+    let mut zero = shared.pass(rt, alloc)?;
+    let mut one = shared.pass(rt, alloc)?;
+    play(rt, &shared, alloc, &mut zero, &mut one);
+    let passes = Vec::from_array(alloc, [zero])?;
+    refused_close(shared, alloc, passes)
+}
+
+fn refused<R: Wait>(rt: &R, alloc: Global) -> Result<Refusal, Fault> {
+    close_without_one::<Brand, R>(rt, alloc, Blanks::new())
+}
+
+#[test]
+fn a_missing_pass_is_missed(rt: HostRuntime) -> Result<(), Fail> {
+    let refusal = refused(&rt, rt.alloc())?;
+    let sums = Tally {
+        steps: 5,
+        counted: 3,
+        added: 2,
+        removed: 0,
+    };
+    let totals = Tally {
+        steps: 7,
+        counted: 5,
+        added: 2,
+        removed: 0,
+    };
+    assert!(rt; refusal.fault == Fault::PassMissing);
+    assert!(rt; refusal.sums == sums && refusal.totals == totals);
+    assert!(rt; refusal.made == 2 && refusal.passes == 1);
+    Ok(())
+}
+
+/// Whether 1,024 passes have their numbers, from 0, and the fault that the next one is refused by.
+fn make_all<K: Label, R: Wait>(
+    rt: &R,
+    alloc: Global,
+    blanks: Blanks,
+) -> Result<(bool, Option<Fault>), Fault>
+    requires names { (blanks.steps.name ≡ K.steps) × (blanks.counted.name ≡ K.counted) × (blanks.added.name ≡ K.added) × (blanks.removed.name ≡ K.removed) }
+    requires parts { (blanks.steps.parts ≡ K.parts) × (blanks.counted.parts ≡ K.parts) × (blanks.added.parts ≡ K.parts) × (blanks.removed.parts ≡ K.parts) × (K.parts ≡ 1025) }
+{
+    let shared = open::<K>(alloc, blanks)?;
+    let mut numbered = true;
+    for number in 0..MOST_PASSES {
+        numbered &= shared.pass(rt, alloc)?.number() == number;
+    }
+    Ok((numbered, shared.pass(rt, alloc).err()))
+}
+
+fn made<R: Wait>(rt: &R, alloc: Global) -> Result<(bool, Option<Fault>), Fault> {
+    make_all::<Brand, R>(rt, alloc, Blanks::new())
+}
+
+#[test]
+fn passes_are_1024(rt: HostRuntime) -> Result<(), Fail> {
+    assert!(rt; made(&rt, rt.alloc()) == Ok((true, Some(Fault::TooManyPasses))));
+    Ok(())
+}

@@ -1,0 +1,101 @@
+//! What passes see through the lock.
+use crate::tests::asks::key;
+use eu_base::{Fault, Moment};
+use eu_model::{Counts, Listed, Listing, Query, View};
+use eu_shared::{Label, Pass, Shared};
+use std::alloc::Global;
+use std::sync::Wait;
+
+/// A view in short.
+#[derive(Clone, Copy)]
+pub enum Seen {
+    /// One lease, last updated then.
+    Lease(u64),
+    /// No lease where one was asked for.
+    NoLease,
+    /// All are the leases of i1 and i2, as `play` leaves them.
+    Both,
+    Counts(Counts),
+    Other,
+}
+
+/// Whether it is the lease of that id of A, last updated then.
+fn is_lease(listed: &Listed, id: &str, updated: u64) -> bool {
+    let key = &listed.instance.key;
+    key.app.as_str() == "A" && key.id.as_str() == id && listed.times.updated == updated
+}
+
+/// Whether they are those of i1 and i2, as `play` leaves them.
+pub fn are_both(leases: &Listing) -> bool {
+    match leases.as_slice() {
+        [one, two] => is_lease(one, "i1", 90_004) && is_lease(two, "i2", 90_006),
+        _ => false,
+    }
+}
+
+fn in_short(view: &View) -> Seen {
+    match view {
+        View::One(Some(listed)) => Seen::Lease(listed.times.updated),
+        View::One(None) => Seen::NoLease,
+        View::All(leases) if are_both(leases) => Seen::Both,
+        View::Counts(counts) => Seen::Counts(*counts),
+        _ => Seen::Other,
+    }
+}
+
+/// What a pass sees at the moment 6.
+pub fn see<K: Label, R: Wait>(
+    rt: &R,
+    shared: &Shared<K>,
+    alloc: Global,
+    pass: &mut Pass<K>,
+    query: Query,
+) -> Result<Seen, Fault> {
+    let Some(now) = Moment::new(6) else {
+        drop(query);
+        return Err(Fault::BadValue);
+    };
+    let view = pass.read(rt, shared, alloc, &query, now);
+    drop(query);
+    let view = view?;
+    let seen = in_short(&view);
+    drop(view);
+    Ok(seen)
+}
+
+/// What a pass sees of the lease of an id.
+fn see_lease<K: Label, R: Wait>(
+    rt: &R,
+    shared: &Shared<K>,
+    alloc: Global,
+    pass: &mut Pass<K>,
+    id: &str,
+) -> Result<Seen, Fault> {
+    let key = key(alloc, id)?;
+    see(rt, shared, alloc, pass, Query::One(key))
+}
+
+/// What a pass sees of the leases of i1, i2 and i3, of all leases, and of the counts.
+#[derive(Clone, Copy)]
+pub struct Sights {
+    pub first: Seen,
+    pub second: Seen,
+    pub third: Seen,
+    pub all: Seen,
+    pub counts: Seen,
+}
+
+pub fn look<K: Label, R: Wait>(
+    rt: &R,
+    shared: &Shared<K>,
+    alloc: Global,
+    pass: &mut Pass<K>,
+) -> Result<Sights, Fault> {
+    Ok(Sights {
+        first: see_lease(rt, shared, alloc, pass, "i1")?,
+        second: see_lease(rt, shared, alloc, pass, "i2")?,
+        third: see_lease(rt, shared, alloc, pass, "i3")?,
+        all: see(rt, shared, alloc, pass, Query::All)?,
+        counts: see(rt, shared, alloc, pass, Query::Counts)?,
+    })
+}

@@ -1,0 +1,85 @@
+//! Sessions over a pass.
+ghost use Rattle.std.specs.Prelude.{◌≡◌};
+
+use crate::tests::asks::{close_for, open};
+use eu_base::Fault;
+use eu_clock::ListClock;
+use eu_model::Tally;
+use eu_routes::Routes;
+use eu_session::serve_session;
+use eu_settle::settle;
+use eu_shared::{Blanks, Label, Seat};
+use eu_stream::Writing;
+use std::alloc::Global;
+use std::marker::Brand;
+use std::sync::Wait;
+use std::test::Fail;
+
+/// A registration of i1, its renewal, and a cancel of a lease that isn't there.
+const REQUESTS: &str =
+    "POST /eureka/apps/a HTTP/1.1\r\nHost: x\r\nContent-Length: 150\r\n\r\n{\"instance\":{\"instanceId\":\"i1\",\"hostName\":\"h\",\"app\":\"a\",\"ipAddr\":\"10.0.0.1\",\"status\":\"UP\",\"lastDirtyTimestamp\":\"5\",\"dataCenterInfo\":{\"name\":\"MyOwn\"}}}PUT /eureka/apps/A/i1 HTTP/1.1\r\nHost: x\r\n\r\nDELETE /eureka/apps/B/i1 HTTP/1.1\r\nHost: x\r\nConnection: close\r\n\r\n";
+
+const RESPONSES: &str =
+    "HTTP/1.1 204 No Content\r\n\r\nHTTP/1.1 200 OK\r\nContent-Length: 0\r\n\r\nHTTP/1.1 404 Not Found\r\nContent-Length: 0\r\nConnection: close\r\n\r\n";
+
+/// What a session over a pass writes.
+fn serve<K: Label, R: Wait>(alloc: Global, seat: &mut Seat<'_, K, R>) -> Result<Vec<u8>, Fault> {
+    let routes = Routes::new(alloc)?;
+    let mut clock = ListClock::new(Vec::new(alloc));
+    let mut reader = REQUESTS.as_bytes();
+    let mut out = Vec::new(alloc);
+    let mut writer = Writing::new(&mut out);
+    match serve_session(alloc, &routes, seat, &mut clock, &mut reader, &mut writer) {
+        Ok(_count) => Ok(out),
+        Err(fault) => Err(fault.fault()),
+    }
+}
+
+/// Whether a session over the only pass of a book writes what it is to, what the pass counts, and whether the book that is closed
+/// then is settled.
+fn serve_alone<K: Label, R: Wait>(
+    rt: &R,
+    alloc: Global,
+    blanks: Blanks,
+) -> Result<(bool, Tally, bool), Fault>
+    requires names { (blanks.steps.name ≡ K.steps) × (blanks.counted.name ≡ K.counted) × (blanks.added.name ≡ K.added) × (blanks.removed.name ≡ K.removed) }
+    requires parts { (blanks.steps.parts ≡ K.parts) × (blanks.counted.parts ≡ K.parts) × (blanks.added.parts ≡ K.parts) × (blanks.removed.parts ≡ K.parts) × (K.parts ≡ 1025) }
+{
+    let shared = open::<K>(alloc, blanks)?;
+    let pass = shared.pass(rt, alloc)?;
+    let mut seat = Seat {
+        pass,
+        shared: &shared,
+        rt,
+    };
+    let written = serve(alloc, &mut seat)?.as_slice() == RESPONSES.as_bytes();
+    let Seat {
+        pass,
+        shared: _,
+        rt: _,
+    } = seat;
+    let tally = pass.tallies();
+    let passes = Vec::from_array(alloc, [pass])?;
+    let closed = close_for(shared, alloc, passes)?;
+    let settled = settle(&closed).is_ok();
+    drop(closed);
+    Ok((written, tally, settled))
+}
+
+fn served<R: Wait>(rt: &R, alloc: Global) -> Result<(bool, Tally, bool), Fault> {
+    serve_alone::<Brand, R>(rt, alloc, Blanks::new())
+}
+
+#[test]
+fn a_session_asks_through_a_pass(rt: HostRuntime) -> Result<(), Fail> {
+    let (written, tally, settled) = served(&rt, rt.alloc())?;
+    let sums = Tally {
+        steps: 3,
+        counted: 1,
+        added: 1,
+        removed: 0,
+    };
+    assert!(rt; written && settled);
+    assert!(rt; tally == sums);
+    Ok(())
+}

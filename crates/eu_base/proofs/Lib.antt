@@ -1,3 +1,4 @@
 pub mod InstanceLemmas
 pub mod KeyLemmas
 pub mod RestLemmas
+pub mod Crossing

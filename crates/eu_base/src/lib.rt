@@ -19,6 +19,3 @@ pub use settings::Config;
 pub use statuses::Status;
 pub use tasks::{Action, Codes, Task, TaskName};
 pub use times::{Moment, Stamp};
-
-#[cfg(test)]
-mod tests;

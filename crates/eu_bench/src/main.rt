@@ -1,11 +1,13 @@
-//! `eu_bench`: the reading and the routing of requests, and listings, over memory, to be timed.
+//! `eu_bench`: the reading and the routing of requests, listings, and a shared book, over memory, to be timed.
 //!
 //! - `eu_bench heartbeats N` reads the requests of standard input N times, and prints how many of them have a route.
 //! - `eu_bench pieces K` reads them once, at most K bytes at a time, and prints how many there are and how many bytes their
 //!   bodies have, or the number of the first fault.
 //! - `eu_bench listing N` registers N instances, and prints how long the JSON of all is.
+//! - `eu_bench asks N` has N threads (1, 2 or 4) ask 20 shared books, one after the other, and prints how many steps were accepted.
 #![tactic(auto)]
 
+mod asks;
 mod heartbeats;
 mod listing;
 mod pieces;
@@ -13,16 +15,19 @@ mod pieces;
 mod tests;
 
 use anyhow::{Context, bail};
+use asks::count_accepted;
 use eu_base::Fault;
 use heartbeats::count_routed;
 use listing::listing_text;
 use pieces::{Pieces, Totals, count_requests};
 use std::io::Read;
 use std::rt::Env;
+use std::sync::Wait;
+use std::thread::Threads;
 use std::{env, io};
 
 /// The words that the program takes.
-const USAGE: &str = "eu_bench heartbeats N | pieces K | listing N, with K above 0";
+const USAGE: &str = "eu_bench heartbeats N | pieces K | listing N | asks 1|2|4, with K above 0";
 
 /// All bytes of standard input.
 fn input<R: Input + AllocGlobal>(rt: &R) -> io::Result<Vec<u8>> {
@@ -46,7 +51,11 @@ fn print_totals(rt: &impl Print, totals: Result<Totals, Fault>) -> io::Result<()
 }
 
 /// Does what the words say.
-fn run<R: Input + Print + AllocGlobal>(rt: &R, task: &str, number: u32) -> anyhow::Result<()> {
+fn run<R: Input + Print + AllocGlobal + Threads + Wait + Sync>(
+    rt: &R,
+    task: &str,
+    number: u32,
+) -> anyhow::Result<()> {
     match task {
         "heartbeats" => {
             let routed = count_routed(rt.alloc(), input(rt)?.as_slice(), number)?;
@@ -60,6 +69,10 @@ fn run<R: Input + Print + AllocGlobal>(rt: &R, task: &str, number: u32) -> anyho
         "listing" => {
             let len = listing_text(rt.alloc(), number)?.len();
             println!(rt; "{len} bytes")?;
+        }
+        "asks" if matches!(number, 1 | 2 | 4) => {
+            let steps = count_accepted(rt, rt.alloc(), number)?;
+            println!(rt; "{steps} steps")?;
         }
         _ => bail!("{USAGE}"),
     }

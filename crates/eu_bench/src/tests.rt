@@ -1,3 +1,4 @@
+use crate::asks::accepted;
 use crate::heartbeats::count_routed;
 use crate::listing::listing_text;
 use crate::pieces::{Pieces, Totals, count_requests};
@@ -42,4 +43,11 @@ fn instances_are_listed(rt: HostRuntime) -> Result<(), Fail> {
     assert_eq!(rt; listing_text(rt.alloc(), 0)?.len(), 77);
     assert_eq!(rt; listing_text(rt.alloc(), 1)?.as_str(), ONE);
     Ok(())
+}
+
+#[test]
+fn threads_are_settled(rt: HostRuntime) {
+    assert!(rt; accepted(&rt, rt.alloc(), 1, 1_000) == Ok(1_000));
+    assert!(rt; accepted(&rt, rt.alloc(), 2, 2_000) == Ok(2_000));
+    assert!(rt; accepted(&rt, rt.alloc(), 4, 4_000) == Ok(4_000));
 }

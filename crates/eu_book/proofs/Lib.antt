@@ -1,2 +1,3 @@
 pub mod BookLemmas
 pub mod PeerLemmas
+pub mod Crossing

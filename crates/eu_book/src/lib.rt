@@ -15,6 +15,3 @@ mod tasks;
 
 pub use book::{Book, Receipt};
 pub use journal::{Journal, Logged, MOST_ENTRIES};
-
-#[cfg(test)]
-mod tests;

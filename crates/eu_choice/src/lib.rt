@@ -4,6 +4,3 @@
 mod shuffle;
 
 pub use shuffle::choose;
-
-#[cfg(test)]
-mod tests;

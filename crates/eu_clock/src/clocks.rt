@@ -4,6 +4,8 @@ ghost use Rattle.eu_clock.specs.Moments.{next_moment};
 
 use eu_base::Moment;
 use std::marker::Model;
+use std::rt;
+use std::time::{SystemTime, UNIX_EPOCH};
 
 /// A clock that is asked for the moment.
 ///
@@ -53,5 +55,54 @@ impl Clock for ListClock {
             self.next += 1;
         }
         *moment
+    }
+}
+
+/// The machine's clock: the milliseconds since 1970, in UTC.
+///
+/// Where it can't be read, or tells a time before 1970 or beyond 2^62 ms, it tells what it told last, and 0 at first. Contracts see
+/// what it told last.
+#[derive(Drop)]
+pub struct SystemClock<'a, R: rt::Clock> {
+    rt: &'a R,
+    last: Moment,
+}
+
+impl<'a, R: rt::Clock> Model for SystemClock<'a, R> {
+    ghost use Rattle.std.specs.Prelude.{ℕ};
+
+    ghost Value = { ℕ };
+
+    ghost view = { λ c. c.last };
+}
+
+impl<'a, R: rt::Clock> SystemClock<'a, R> {
+    /// The clock of that machine, which told nothing yet. Takes no memory.
+    pub fn new(rt: &'a R) -> SystemClock<'a, R>
+        ensures { result ≡ 0 }
+    {
+        SystemClock {
+            rt,
+            last: Moment::new(0).unwrap(),
+        }
+    }
+}
+
+/// What the machine's clock reads, if that is a moment.
+fn read<R: rt::Clock>(rt: &R) -> Option<Moment> {
+    let now = SystemTime::now(rt).ok()?;
+    let since = now.duration_since(UNIX_EPOCH).ok()?;
+    Moment::new(u64::try_from(since.as_millis()).ok()?)
+}
+
+/// What the machine tells is no function of anything here: any moment may come.
+impl<R: rt::Clock> Clock for SystemClock<'_, R> {
+    ghost tells = { λ _ moment after. after ≡ moment };
+
+    fn now(&mut self) -> Moment {
+        if let Some(moment) = read(self.rt) {
+            self.last = moment;
+        }
+        self.last
     }
 }

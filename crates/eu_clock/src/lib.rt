@@ -5,7 +5,4 @@ mod choosers;
 mod clocks;
 
 pub use choosers::{Chooser, FirstChooser, ListChooser, RngChooser};
-pub use clocks::{Clock, ListClock};
-
-#[cfg(test)]
-mod tests;
+pub use clocks::{Clock, ListClock, SystemClock};

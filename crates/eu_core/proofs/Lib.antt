@@ -10,3 +10,4 @@ pub mod PassLemmas
 pub mod OnceLemmas
 pub mod StepLemmas
 pub mod StateLemmas
+pub mod Crossing

@@ -33,6 +33,3 @@ pub const MAX_RAW: usize = 4_194_304;
 
 /// The most bytes of a trailer, with the empty line that ends it.
 pub const MAX_TRAILER: usize = 8192;
-
-#[cfg(test)]
-mod tests;

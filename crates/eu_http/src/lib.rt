@@ -14,8 +14,3 @@ mod wanted;
 pub use answers::answer;
 pub use exchange::{Answer, Ask, Asked, Outcome};
 pub use requests::asks;
-
-#[cfg(test)]
-mod batch_tests;
-#[cfg(test)]
-mod tests;

@@ -18,8 +18,3 @@ pub use law::batches_come_back;
 pub use listings::{application_value, applications_value};
 pub use read::read_instance;
 pub use write::{held_value, instance_value};
-
-#[cfg(test)]
-mod batch_tests;
-#[cfg(test)]
-mod tests;

@@ -6,6 +6,3 @@ mod rule;
 
 pub use lease::Lease;
 pub use rule::override_rule;
-
-#[cfg(test)]
-mod tests;

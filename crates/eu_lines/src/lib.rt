@@ -18,6 +18,3 @@ pub use script::{MOST_BYTES, answer_lines};
 
 /// The most bytes of a line, without its LF. A longer line is bad.
 pub const LONGEST_LINE: usize = 4096;
-
-#[cfg(test)]
-mod tests;

@@ -6,6 +6,3 @@ mod threshold;
 
 pub use rate::Rate;
 pub use threshold::{Threshold, evict_limit};
-
-#[cfg(test)]
-mod tests;

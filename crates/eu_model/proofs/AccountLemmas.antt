@@ -1,18 +1,15 @@
 -- A list of entries with one more at its end, and the leases that a step adds and removes
-use Rattle.std.proofs.Common.{◌≡◌, ℕ, ◌+◌, ◌≤◌, List, [], ◌∷◌, ◌++◌, length, refl, sym, ap, ◌∙◌, subst, true, false, arith, All, Contains}
-use Rattle.std.specs.Prelude.{Bool, cond, not, Option, Some, None, Result, Ok, is_some}
-use Rattle.std.specs.Option.{option_map}
-use Rattle.std.specs.FinMap.{FinMap, get, insert, remove, len, contains_key, len-insert, len-remove}
-use Rattle.eu_base.specs.declared.names.Key.{Key}
-use Rattle.eu_base.specs.Key.{key_cmp, key_eq}
-use Rattle.eu_base.proofs.KeyLemmas.{keys_total, keys_exact}
+use Rattle.std.proofs.Common.{◌≡◌, ℕ, ◌+◌, ◌≤◌, List, [], ◌∷◌, ◌++◌, length, refl, sym, ap, ◌∙◌, subst, true, false, arith}
+use Rattle.std.specs.Prelude.{Bool, Ok}
+use Rattle.std.specs.FinMap.{len}
+use Rattle.eu_base.specs.Key.{key_cmp}
 use Rattle.eu_model.specs.declared.commands.Command.{Command}
 use Rattle.eu_model.specs.declared.commands.Command.TheVariants.{Register, Renew, Cancel, SetStatus, UnsetStatus, Adopt, Roll, Update, Evict, Drain, Landed, Lost}
 use Rattle.eu_model.specs.declared.commands.Entry.{Entry}
 use Rattle.eu_model.specs.declared.commands.Reply.{Reply}
 use Rattle.eu_model.specs.declared.commands.Reply.TheVariants.{Registered, Done, NotFound, Stale, Conflict, Last, Expected, Evicted, Batch, Settled}
 use Rattle.eu_model.specs.declared.tallies.Tally.{Tally}
-use Rattle.eu_model.specs.Delta.{counted_by, added_by, removed_by, delta, nothing, plus, tally_of}
+use Rattle.eu_model.specs.Delta.{counted_by, added_by, removed_by, delta, plus, tally_of}
 use Rattle.eu_model.specs.Machine.{Machine}
 use Rattle.eu_model.specs.Plain.{listed}
 use Rattle.eu_model.specs.Server.{Server, PlainServer, ServerStep, plain_server}

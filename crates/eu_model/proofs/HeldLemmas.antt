@@ -1,5 +1,5 @@
 -- Each lease that is held came once, and hasn't gone
-use Rattle.std.proofs.Common.{◌≡◌, ℕ, zero, suc, ◌+◌, ◌-◌, T, ◌≤◌, ◌<◌, List, [], ◌∷◌, length, refl, sym, ap, ◌∙◌, subst, true, false, arith, get_or, All, Contains}
+use Rattle.std.proofs.Common.{◌≡◌, ℕ, zero, suc, ◌+◌, ◌-◌, T, ◌≤◌, ◌<◌, List, [], ◌∷◌, length, refl, sym, ap, ◌∙◌, subst, true, false, arith, get_or}
 use Rattle.std.specs.Prelude.{Bool, cond, ◌&&◌, not, Option, Some, None, is_some}
 use Rattle.std.specs.List.{IsDistinct, AllByRecursion}
 use Rattle.std.specs.Option.{option_map}
@@ -15,10 +15,8 @@ use Rattle.eu_base.specs.declared.statuses.Status.TheVariants.{Unknown}
 use Rattle.eu_base.specs.declared.times.Stamp.{Stamp}
 use Rattle.eu_base.specs.Key.{key_cmp, key_eq}
 use Rattle.eu_base.proofs.KeyLemmas.{keys_total, key_eq-ties, key_eq-flips}
-use Rattle.eu_model.specs.declared.commands.Command.{Command}
 use Rattle.eu_model.specs.declared.commands.Command.TheVariants.{Register, Renew, Cancel, SetStatus, UnsetStatus, Adopt, Roll, Update, Evict, Drain, Landed, Lost}
-use Rattle.eu_model.specs.declared.commands.Reply.{Reply}
-use Rattle.eu_model.specs.declared.commands.Reply.TheVariants.{Registered, Done, NotFound, Evicted}
+use Rattle.eu_model.specs.declared.commands.Reply.TheVariants.{Registered, Done, NotFound}
 use Rattle.eu_model.specs.Change.{uncounted, renew, renew_as, set_status, unset_status, in_status, cancel, told, overridden_by}
 use Rattle.eu_model.specs.Delta.{added_by, removed_by}
 use Rattle.eu_model.specs.Law.{LeasesAreAccounted}
@@ -26,7 +24,6 @@ use Rattle.eu_model.specs.Machine.{Machine, seen, permits}
 use Rattle.eu_model.specs.Maps.{with_value, without}
 use Rattle.eu_model.specs.Override.{rule, is_status}
 use Rattle.eu_model.specs.Record.{Record, is_expired, renewed}
-use Rattle.eu_model.specs.Step.{Step}
 use Rattle.eu_model.proofs.PassLemmas.{victims_have_expired}
 
 -- ---- how many leases a map holds

@@ -22,3 +22,4 @@ pub mod LawLemmas
 pub mod DeterminedLemmas
 pub mod ServerLemmas
 pub mod ServedLemmas
+pub mod Crossing

@@ -1,5 +1,5 @@
 -- What a registry and the queues of its peers answer together
-use Rattle.std.proofs.Common.{◌≡◌, ℕ, Bool, true, false, List, map, Option, Some, None, refl, sym, ap, ◌∙◌, subst}
+use Rattle.std.proofs.Common.{◌≡◌, ℕ, false, List, map, Option, Some, None, refl, sym, ap, ◌∙◌, subst}
 use Rattle.std.specs.Prelude.{Ok, Err, slice_get, slice_set}
 use Rattle.eu_base.specs.declared.faults.Fault.{Fault}
 use Rattle.eu_base.specs.declared.faults.Fault.TheVariants.{NoPeer}
@@ -9,7 +9,7 @@ use Rattle.eu_model.specs.declared.commands.Reply.{Reply}
 use Rattle.eu_model.specs.declared.commands.Reply.TheVariants.{Batch, Settled}
 use Rattle.eu_model.specs.declared.queues.Queue.{Queue}
 use Rattle.eu_model.specs.Answers.{Answers, IsAnswer, IsRefusal}
-use Rattle.eu_model.specs.Plain.{Plain, plain, held_under}
+use Rattle.eu_model.specs.Plain.{Plain, held_under}
 use Rattle.eu_model.specs.Queue.{drained, drain_fault, landed, landed_fault, lost, lost_fault}
 use Rattle.eu_model.specs.Faults.{fault}
 use Rattle.eu_model.specs.Server.{Server, PlainServer, plain_server, instance_at, key_of, is_for_peers, task_for, with_task, queue_fault, server_fault, TurnsQueue, ServerStep}

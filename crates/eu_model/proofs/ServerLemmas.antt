@@ -1,23 +1,22 @@
 -- What a server does depends on what is kept of its machine, and on its queues; what peers and timers do queues nothing
-use Rattle.std.proofs.Common.{◌≡◌, ℕ, Bool, true, false, List, map, Option, Some, None, refl, sym, ap, ◌∙◌, subst}
+use Rattle.std.proofs.Common.{◌≡◌, ℕ, true, false, List, map, Option, Some, None, refl, sym, ap, ◌∙◌}
 use Rattle.std.specs.Prelude.{slice_get, slice_set}
 use Rattle.std.specs.Option.{option_map}
 use Rattle.std.specs.FinMap.{get}
 use Rattle.std.proofs.lemmas.List.{map-id}
 use Rattle.eu_base.specs.declared.faults.Fault.{Fault}
-use Rattle.eu_base.specs.declared.instances.Instance.{Instance}
 use Rattle.eu_base.specs.declared.names.Key.{Key}
 use Rattle.eu_model.specs.declared.commands.Command.{Command}
 use Rattle.eu_model.specs.declared.commands.Command.TheVariants.{Register, Renew, Cancel, SetStatus, UnsetStatus, Adopt, Roll, Update, Evict, Drain, Landed, Lost}
 use Rattle.eu_model.specs.declared.commands.Reply.{Reply}
 use Rattle.eu_model.specs.Machine.{Machine}
-use Rattle.eu_model.specs.Plain.{Plain, plain, listed, held_under}
+use Rattle.eu_model.specs.Plain.{plain, listed, held_under}
 use Rattle.eu_model.specs.declared.queues.Queue.{Queue}
 use Rattle.eu_model.specs.Queue.{drained, drain_fault, landed, landed_fault, lost, lost_fault}
 use Rattle.eu_model.specs.Record.{Record}
 use Rattle.eu_model.specs.Faults.{fault}
-use Rattle.eu_model.specs.Server.{Server, PlainServer, plain_server, instance_at, key_of, task_for, with_task, queue_fault, server_fault, TurnsQueue, ServerStep}
-use Rattle.eu_model.specs.ServerLaw.{NothingIsQueued, ServersStepAlike, ServersFaultAlike, is_of_peers_or_timers}
+use Rattle.eu_model.specs.Server.{Server, plain_server, instance_at, key_of, task_for, with_task, queue_fault, TurnsQueue}
+use Rattle.eu_model.specs.ServerLaw.{NothingIsQueued, ServersStepAlike, ServersFaultAlike}
 use Rattle.eu_model.specs.Step.{Step}
 use Rattle.eu_model.proofs.ChangedLemmas.{held_of}
 use Rattle.eu_model.proofs.LawLemmas.{steps_alike, faults_alike}

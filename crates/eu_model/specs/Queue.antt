@@ -1,9 +1,8 @@
 -- The tasks that wait for a peer, and those that are in flight to it
-use Rattle.std.specs.Prelude.{◌≡◌, ℕ, ◌+◌, ◌-◌, Bool, not, ◌&&◌, ◌==◌, List, [], ◌∷◌, ◌++◌, length, take, drop, map, filter, Option, Some, None, nat_lt, if◌then◌else◌}
+use Rattle.std.specs.Prelude.{ℕ, ◌+◌, ◌-◌, Bool, not, ◌&&◌, ◌==◌, List, [], ◌∷◌, ◌++◌, length, take, drop, map, filter, Option, Some, None, nat_lt, if◌then◌else◌}
 use Rattle.std.specs.List.{list_any}
 use Rattle.eu_base.specs.declared.faults.Fault.{Fault}
 use Rattle.eu_base.specs.declared.faults.Fault.TheVariants.{Busy, EmptyBatch, NoFlight, CountDiffers}
-use Rattle.eu_base.specs.declared.names.Key.{Key}
 use Rattle.eu_base.specs.declared.tasks.Action.TheVariants.{Register, Heartbeat}
 use Rattle.eu_base.specs.declared.tasks.Task.{Task}
 use Rattle.eu_base.specs.Action.{is_action, same_name}

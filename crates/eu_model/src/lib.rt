@@ -27,6 +27,3 @@ pub use states::State;
 pub use tallies::Tally;
 pub use tasks::Tasks;
 pub use views::{Counts, Listed, Query, Times, View};
-
-#[cfg(test)]
-mod tests;

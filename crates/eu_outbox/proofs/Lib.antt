@@ -1,3 +1,4 @@
 pub mod NameLemmas
 pub mod TaskLemmas
 pub mod EntryLemmas
+pub mod Crossing

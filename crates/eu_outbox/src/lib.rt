@@ -6,6 +6,3 @@ mod outbox;
 
 pub use line::{MOST_SENT, MOST_WAITING};
 pub use outbox::Outbox;
-
-#[cfg(test)]
-mod tests;

@@ -7,6 +7,3 @@ mod tally;
 
 pub use codes::hash_code;
 pub use pages::{Page, page_of, status_page};
-
-#[cfg(test)]
-mod tests;

@@ -11,6 +11,3 @@ pub use asks::Route;
 pub use paths::{cut, path_of};
 pub use queries::{read_stamp, read_status};
 pub use table::Routes;
-
-#[cfg(test)]
-mod tests;

@@ -7,10 +7,3 @@ mod script;
 
 pub use eu_lines::ScriptFault;
 pub use script::{answer_script, run_script};
-
-#[cfg(test)]
-mod examples;
-#[cfg(test)]
-mod peer_tests;
-#[cfg(test)]
-mod tests;

@@ -1,5 +1,5 @@
 mod BookLemmas
-mod ChainLemmas
+pub mod ChainLemmas
 mod FaultLemmas
 mod SessionLemmas
 mod TurnLemmas

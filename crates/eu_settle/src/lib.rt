@@ -7,6 +7,3 @@ mod settling;
 
 pub use closed::{Closed, PassLog};
 pub use settling::{Mismatch, settle};
-
-#[cfg(test)]
-mod tests;

@@ -15,6 +15,3 @@ pub use pass::Pass;
 pub use seat::Seat;
 pub use shared::{Shared, close};
 pub use shares::{Blanks, Label};
-
-#[cfg(test)]
-mod tests;

@@ -1,8 +1,10 @@
 //! The tests, by what they are of.
 mod accounts;
 mod asks;
+mod held;
 mod openings;
 mod passes;
 mod reads;
 mod sessions;
 mod states;
+mod threads;

@@ -3,3 +3,4 @@ pub mod TableLemmas
 pub mod MapLemmas
 pub mod ListedLemmas
 pub mod RowLemmas
+pub mod Crossing

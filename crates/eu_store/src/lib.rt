@@ -6,6 +6,3 @@ mod leases;
 
 pub use held::Held;
 pub use leases::{Leases, MOST_LEASES};
-
-#[cfg(test)]
-mod tests;

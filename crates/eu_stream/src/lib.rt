@@ -14,6 +14,3 @@ pub use source::{ReadFault, Reading, Source};
 
 /// A call that a signal interrupts is made again, until it was made this many times.
 pub const MOST_TRIES: usize = 16;
-
-#[cfg(test)]
-mod tests;

@@ -7,6 +7,3 @@ mod words;
 
 pub use lines::{Line, read_line};
 pub use openings::Opening;
-
-#[cfg(test)]
-mod tests;

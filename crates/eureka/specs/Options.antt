@@ -7,6 +7,7 @@ use Rattle.clap.specs.declared.parser.matches.ArgMatches.{ArgMatches}
 use Rattle.clap.specs.declared.builder.value_parser.ValueParser.{ValueParser}
 use Rattle.clap.specs.declared.builder.value_parser.ValueParser.TheVariants.{Names, Signed, Unsigned}
 use Rattle.eu_base.specs.declared.settings.Config.{Config}
+use Rattle.eureka.specs.declared.serving.Serving.{Serving}
 
 -- ---- the command line
 
@@ -14,6 +15,11 @@ use Rattle.eu_base.specs.declared.settings.Config.{Config}
 abbrev pub option_rule : Text → ValueParser → Text → Rule
 option_rule name parser given =
     record (new_rule name) { long = Some name; value_names = 1; parser = Some parser; defaults = given ∷ [] }
+
+-- the option `--NAME N`, which has to be given
+abbrev pub needed_rule : Text → ValueParser → Rule
+needed_rule name parser =
+    record (new_rule name) { long = Some name; value_names = 1; parser = Some parser; required = true }
 
 -- the words "on" and "off", and no others
 abbrev pub IsSwitchParser : ValueParser → Type 0
@@ -34,13 +40,25 @@ with_options app switch =
     (option_rule (codes "evict-ms") (Signed (pos 0) (pos 4294967295)) (codes "60000")))
     seed_rule
 
+-- a command with the four options of a server more: a port of 16 bits and a number of sessions, which have to be given, 1 to 16 workers,
+-- and a number expected
+abbrev pub with_server_options : App → App
+with_server_options app =
+    with_rule (with_rule (with_rule (with_rule app
+    (needed_rule (codes "port") (Signed (pos 0) (pos 65535))))
+    (needed_rule (codes "sessions") (Signed (pos 0) (pos 4294967295))))
+    (option_rule (codes "workers") (Signed (pos 1) (pos 16)) (codes "2")))
+    (option_rule (codes "expected") (Signed (pos 0) (pos 4294967295)) (codes "1"))
+
 abbrev required : App → App
 required app = record app { top = record app.top { subcommand_required = true } }
 
--- `eureka script` with the options: the subcommand has to be there
-abbrev pub program_app : ValueParser → App
-program_app switch =
-    with_subcommand (required (new_app (codes "eureka"))) (with_options (new_app (codes "script")) switch).top
+-- `eureka script` and `eureka serve` with their options: the subcommand has to be there
+abbrev pub program_app : ValueParser → ValueParser → App
+program_app one other =
+    with_subcommand (with_subcommand (required (new_app (codes "eureka")))
+    (with_options (new_app (codes "script")) one).top)
+    (with_server_options (with_options (new_app (codes "serve")) other)).top
 
 -- ---- what was given
 
@@ -59,3 +77,9 @@ abbrev pub IsConfig : ArgMatches → Config → Type 0
 IsConfig m c =
     IsSwitch m (codes "preservation") c.preservation × IsNumber m (codes "percent") c.percent
     × IsNumber m (codes "interval") c.interval × IsNumber m (codes "evict-ms") c.evict_ms
+
+-- each part is the value of the option that names it
+abbrev pub IsServing : ArgMatches → Serving → Type 0
+IsServing m s =
+    IsNumber m (codes "port") s.port × IsNumber m (codes "sessions") s.sessions
+    × IsNumber m (codes "workers") s.workers × IsNumber m (codes "expected") s.expected

@@ -1,21 +1,27 @@
-//! `eureka script`: a script from standard input to standard output.
+//! `eureka script`: a script from standard input to standard output. `eureka serve`: a server of HTTP.
 #![tactic(auto)]
 
 ghost use Rattle.std.specs.Prelude.{ℕ, ◌≡◌, ◌≢◌, ◌⊎◌, OnOk, Err};
 ghost use Rattle.clap.specs.Words.{kind_of};
 
 mod options;
+mod serving;
 #[cfg(test)]
 mod tests;
 
-use clap::Error;
 use clap::error::ErrorKind;
+use clap::{ArgMatches, Error};
 use eu_base::{Config, Fault};
 use eu_clock::{Chooser, FirstChooser, RngChooser};
 use eu_server::{ScriptFault, run_script};
-use options::{command, config_of, seed_of};
+use options::{command, config_of, seed_of, serving_of};
+use serving::serve;
+use std::net::{Net, TcpListener, TcpStream};
 use std::process::ExitCode;
 use std::rt::Env;
+use std::sync::Wait;
+use std::thread::Threads;
+use std::time::Clock;
 use std::{env, io};
 
 /// The exit status of a run without a fault.
@@ -94,8 +100,54 @@ fn words_given<R: Env + AllocGlobal>(rt: &R) -> Option<Vec<String>> {
     env::args(rt).ok()?.collect(rt.alloc()).ok()
 }
 
+/// Runs a script as the options say, and gives the exit status.
+fn start_script<R: Input + Print + Eprint + AllocGlobal>(rt: &R, given: &ArgMatches<'_>) -> u8
+    ensures { (result ≡ 0) ⊎ ((result ≡ 2) ⊎ (result ≡ 3)) }
+{
+    let Some(config) = config_of(given) else {
+        return BAD_INPUT;
+    };
+    match seed_of(given) {
+        Some(seed) => run(rt, config, &mut RngChooser::seeded(seed)),
+        None => run(rt, config, &mut FirstChooser),
+    }
+}
+
+/// Serves as the options say, and gives the exit status.
+fn start_server<
+    R: Threads
+        + Wait
+        + Clock
+        + Net<Listener = TcpListener, Stream = TcpStream>
+        + Print
+        + Eprint
+        + AllocGlobal
+        + Sync,
+>(rt: &R, given: &ArgMatches<'_>) -> u8
+    ensures { (result ≡ 0) ⊎ ((result ≡ 2) ⊎ (result ≡ 3)) }
+{
+    let (Some(config), Some(serving)) = (config_of(given), serving_of(given)) else {
+        return BAD_INPUT;
+    };
+    match seed_of(given) {
+        Some(seed) => serve(rt, config, serving, RngChooser::seeded(seed)),
+        None => serve(rt, config, serving, FirstChooser),
+    }
+}
+
 /// Judges the words, and then does what they say. Gives the exit status.
-fn start<R: Env + Input + Print + Eprint + AllocGlobal>(rt: &R) -> u8
+fn start<
+    R: Threads
+        + Wait
+        + Clock
+        + Net<Listener = TcpListener, Stream = TcpStream>
+        + Env
+        + Input
+        + Print
+        + Eprint
+        + AllocGlobal
+        + Sync,
+>(rt: &R) -> u8
     ensures { (result ≡ 0) ⊎ ((result ≡ 2) ⊎ (result ≡ 3)) }
 {
     let Some(words) = words_given(rt) else {
@@ -108,15 +160,10 @@ fn start<R: Env + Input + Print + Eprint + AllocGlobal>(rt: &R) -> u8
         Ok(matches) => matches,
         Err(error) => return tell_words(rt, &error),
     };
-    let Some(("script", given)) = matches.subcommand() else {
-        return BAD_INPUT;
-    };
-    let Some(config) = config_of(given) else {
-        return BAD_INPUT;
-    };
-    match seed_of(given) {
-        Some(seed) => run(rt, config, &mut RngChooser::seeded(seed)),
-        None => run(rt, config, &mut FirstChooser),
+    match matches.subcommand() {
+        Some(("script", given)) => start_script(rt, given),
+        Some(("serve", given)) => start_server(rt, given),
+        _ => BAD_INPUT,
     }
 }
 

@@ -1,12 +1,15 @@
 //! The words of the command line.
-ghost use Rattle.std.specs.Prelude.{ℕ, ◌≡◌, ◌<◌, ◌^◌, false, codes, IfOk, IfSome, IsSome};
-ghost use Rattle.clap.specs.Words.{rule_of, app_of};
+ghost use Rattle.std.specs.Prelude.{ℕ, ◌≡◌, ◌≤◌, ◌<◌, ◌^◌, false, codes, IfOk, IfSome, IsSome};
+ghost use Rattle.clap.specs.Words.{rule_of, app_of, new_app};
 ghost use Rattle.clap.specs.declared.builder.command.Command.TheViews.{out-Command};
-ghost use Rattle.eureka.specs.Options.{option_rule, with_options, seed_rule, program_app, IsSwitchParser, IsNumber, IsConfig};
+ghost use Rattle.eureka.specs.declared.serving.Serving.{Serving};
+ghost use Rattle.eureka.specs.Options.{option_rule, needed_rule, with_options, with_server_options, seed_rule, program_app, IsSwitchParser, IsNumber, IsConfig, IsServing};
 
+use crate::serving::Serving;
 use clap::builder::ValueParser;
 use clap::{Arg, ArgMatches, Command, value_parser};
 use eu_base::Config;
+use eu_serve::MOST_WORKERS;
 use std::alloc::{AllocError, Global};
 
 /// The words of an option that is on or off.
@@ -28,6 +31,18 @@ fn option<'a>(
         .value_name(value_name)
         .value_parser(parser)
         .default_value(given)
+}
+
+/// The option `--NAME N`, which has to be given.
+fn needed<'a>(alloc: Global, name: &'a str, parser: ValueParser<'a>) -> Arg<'a>
+    ensures rule { rule_of result ≡ needed_rule name.entry.now parser.entry }
+    ensures local { result.global ≡ false }
+{
+    Arg::new(alloc, name)
+        .long(name)
+        .value_name("N")
+        .value_parser(parser)
+        .required(true)
 }
 
 /// The option `--seed N`, which may be left out.
@@ -80,18 +95,61 @@ fn with_settings<'a>(alloc: Global, command: Command<'a>) -> Result<Command<'a>,
         .arg(seed_option(alloc))
 }
 
-/// The command line: `eureka script` with its options.
-pub fn command<'a>(alloc: Global) -> Result<Command<'a>, AllocError>
-    ensures { IfOk result (λ c. (switch : _) × IsSwitchParser switch × (app_of c ≡ program_app switch)) }
+/// The options that say where a server listens, and how much it serves.
+fn with_server<'a>(alloc: Global, command: Command<'a>) -> Result<Command<'a>, AllocError>
+    ensures app { IfOk result (λ c. app_of c ≡ with_server_options (app_of command.entry)) }
+    ensures local { (out-Command command.entry).has_globals ≡ false → IfOk result (λ c. (out-Command c).has_globals ≡ false) }
+{
+    let port = needed(alloc, "port", value_parser!(u16)).help(
+        "The port of 127.0.0.1 to listen on; 0 has the system choose one, which is told",
+    );
+    let sessions = needed(alloc, "sessions", value_parser!(u32)).help(
+        "How many connections are served before the server ends",
+    );
+    let workers = option(alloc, "workers", "N", value_parser!(u32).range(1..=16), "2").help(
+        "How many connections are served at once",
+    );
+    let expected = option(alloc, "expected", "N", value_parser!(u32), "1").help(
+        "How many clients are expected at first",
+    );
+    command
+        .arg(port)?
+        .arg(sessions)?
+        .arg(workers)?
+        .arg(expected)
+}
+
+/// The command `script` with its options.
+fn script<'a>(alloc: Global) -> Result<Command<'a>, AllocError>
+    ensures app { IfOk result (λ c. (switch : _) × IsSwitchParser switch × (app_of c ≡ with_options (new_app (codes "script")) switch)) }
+    ensures local { IfOk result (λ c. (out-Command c).has_globals ≡ false) }
 {
     let script = Command::new(alloc, "script").about(
         "Runs a script from standard input and prints the replies",
     );
-    let script = with_settings(alloc, script)?;
+    with_settings(alloc, script)
+}
+
+/// The command `serve` with its options.
+fn serve<'a>(alloc: Global) -> Result<Command<'a>, AllocError>
+    ensures app { IfOk result (λ c. (switch : _) × IsSwitchParser switch × (app_of c ≡ with_server_options (with_options (new_app (codes "serve")) switch))) }
+    ensures local { IfOk result (λ c. (out-Command c).has_globals ≡ false) }
+{
+    let serve = Command::new(alloc, "serve").about("Serves clients over HTTP");
+    with_server(alloc, with_settings(alloc, serve)?)
+}
+
+/// The command line: `eureka script` and `eureka serve` with their options.
+pub fn command<'a>(alloc: Global) -> Result<Command<'a>, AllocError>
+    ensures { IfOk result (λ c. (one : _) × (other : _) × IsSwitchParser one × IsSwitchParser other × (app_of c ≡ program_app one other)) }
+{
+    let script = script(alloc)?;
+    let serve = serve(alloc)?;
     Command::new(alloc, "eureka")
         .about("A proved lease registry")
         .subcommand_required(true)
-        .subcommand(script)
+        .subcommand(script)?
+        .subcommand(serve)
 }
 
 /// The number that an option gives. None where it has none, or one that is no `u32`.
@@ -120,4 +178,33 @@ pub fn seed_of(given: &ArgMatches<'_>) -> Option<u64>
     ensures none { (n : ℕ) → n < 2 ^ 64 → IsNumber given.now (codes "seed") n → IsSome result }
 {
     given.get_one::<u64>("seed")
+}
+
+/// The port that the options give. None where they give none.
+fn port_of(given: &ArgMatches<'_>) -> Option<u16>
+    ensures some { IfSome result (IsNumber given.now (codes "port")) }
+    ensures none { (n : ℕ) → n < 2 ^ 16 → IsNumber given.now (codes "port") n → IsSome result }
+{
+    given.get_one::<u16>("port")
+}
+
+/// Where a server listens, and how much it serves, as the options say. None where one is missing or out of its range, which the command
+/// line rules out.
+pub fn serving_of(given: &ArgMatches<'_>) -> Option<Serving>
+    ensures some { IfSome result (IsServing given.now) }
+    ensures none { (s : Serving) → s.port < 2 ^ 16 → s.sessions < 2 ^ 32 → s.expected < 2 ^ 32 → IsServing given.now s → IsSome result }
+{
+    let port = port_of(given)?;
+    let sessions = number(given, "sessions")?;
+    let workers = number(given, "workers")?;
+    let expected = number(given, "expected")?;
+    if workers < 1 || workers > MOST_WORKERS {
+        return None;
+    }
+    Some(Serving {
+        port,
+        sessions,
+        workers,
+        expected,
+    })
 }

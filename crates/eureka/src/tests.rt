@@ -1,7 +1,11 @@
 //! The command line, from words to settings.
-use crate::options::{command, config_of};
+use crate::options::{command, config_of, serving_of};
+use crate::serving::{Serving, serve};
 use clap::error::ErrorKind;
+use eu_base::Config;
+use eu_clock::FirstChooser;
 use std::alloc::{AllocError, Global};
+use std::net::TcpListener;
 use std::test::Fail;
 
 /// What words give: whether preservation is on, the percentage, the interval and the time between passes.
@@ -78,7 +82,115 @@ fn values_out_of_range_are_refused(rt: HostRuntime) -> Result<(), Fail> {
 fn the_subcommand_is_required(rt: HostRuntime) -> Result<(), Fail> {
     let none = ["eureka"];
     assert!(rt; read(rt.alloc(), none.as_slice())? == Given::Refused);
-    let unknown = ["eureka", "serve"];
+    let unknown = ["eureka", "listen"];
     assert!(rt; read(rt.alloc(), unknown.as_slice())? == Given::Refused);
+    Ok(())
+}
+
+/// What words for a server give: the port, the connections, the workers and the clients expected.
+#[derive(Debug, PartialEq, Eq, Clone, Copy)]
+enum Wanted {
+    Server(u16, u32, u32, u32),
+    Refused,
+}
+
+fn read_server<'a>(alloc: Global, words: &'a [&'a str]) -> Result<Wanted, Fail> {
+    let matches = match command(alloc)?.try_get_matches_from(words) {
+        Ok(matches) => matches,
+        Err(error) if error.kind() == ErrorKind::OutOfMemory => return Err(Fail::from(AllocError)),
+        Err(_) => return Ok(Wanted::Refused),
+    };
+    let Some(("serve", found)) = matches.subcommand() else {
+        return Ok(Wanted::Refused);
+    };
+    Ok(match serving_of(found) {
+        Some(serving) => Wanted::Server(
+            serving.port,
+            serving.sessions,
+            serving.workers,
+            serving.expected,
+        ),
+        None => Wanted::Refused,
+    })
+}
+
+#[test]
+fn a_server_has_two_workers_and_expects_one_client(rt: HostRuntime) -> Result<(), Fail> {
+    let words = ["eureka", "serve", "--port", "8761", "--sessions", "7"];
+    assert!(rt; read_server(rt.alloc(), words.as_slice())? == Wanted::Server(8761, 7, 2, 1));
+    Ok(())
+}
+
+#[test]
+fn a_server_has_what_its_options_say(rt: HostRuntime) -> Result<(), Fail> {
+    let words = [
+        "eureka",
+        "serve",
+        "--port",
+        "0",
+        "--sessions",
+        "0",
+        "--workers",
+        "16",
+        "--expected",
+        "500",
+    ];
+    assert!(rt; read_server(rt.alloc(), words.as_slice())? == Wanted::Server(0, 0, 16, 500));
+    Ok(())
+}
+
+#[test]
+fn a_server_needs_a_port_and_a_number_of_sessions(rt: HostRuntime) -> Result<(), Fail> {
+    let no_port = ["eureka", "serve", "--sessions", "7"];
+    assert!(rt; read_server(rt.alloc(), no_port.as_slice())? == Wanted::Refused);
+    let no_sessions = ["eureka", "serve", "--port", "8761"];
+    assert!(rt; read_server(rt.alloc(), no_sessions.as_slice())? == Wanted::Refused);
+    Ok(())
+}
+
+#[test]
+fn a_server_has_one_to_sixteen_workers(rt: HostRuntime) -> Result<(), Fail> {
+    for workers in ["0", "17"] {
+        let words = [
+            "eureka",
+            "serve",
+            "--port",
+            "8761",
+            "--sessions",
+            "7",
+            "--workers",
+            workers,
+        ];
+        assert!(rt;
+            read_server(rt.alloc(), words.as_slice())? == Wanted::Refused,
+            "{workers}"
+        );
+    }
+    Ok(())
+}
+
+/// A server of no session, on that port.
+fn idle(port: u16) -> Serving {
+    Serving {
+        port,
+        sessions: 0,
+        workers: 2,
+        expected: 1,
+    }
+}
+
+#[test]
+fn a_server_that_is_done_has_exit_status_0(rt: HostRuntime) -> Result<(), Fail> {
+    let config = Config::new(true, 85, 30, 60_000)?;
+    assert!(rt; serve(&rt, config, idle(0), FirstChooser) == 0);
+    Ok(())
+}
+
+#[test]
+fn a_port_that_is_taken_is_a_fault(rt: HostRuntime) -> Result<(), Fail> {
+    let config = Config::new(true, 85, 30, 60_000)?;
+    let taken = TcpListener::bind(&rt, "127.0.0.1:0")?;
+    let port = taken.local_addr()?.port();
+    assert!(rt; serve(&rt, config, idle(port), FirstChooser) == 3);
     Ok(())
 }

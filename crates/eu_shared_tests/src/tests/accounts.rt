@@ -1,7 +1,7 @@
 //! Accounts of two passes, worked out by hand.
 ghost use Rattle.std.specs.Prelude.{◌≡◌};
 
-use crate::tests::asks::{close_for, drain, open, play, renewal};
+use crate::tests::asks::{both, close_for, drain, open, play, renewal};
 use crate::tests::reads::{Seen, Sights, are_both, look};
 use crate::tests::states::{counts_only, is_same};
 use eu_base::{Config, Fault};
@@ -129,7 +129,7 @@ fn find<K: Label, R: Wait>(rt: &R, alloc: Global, blanks: Blanks) -> Result<Find
         look(rt, &shared, alloc, &mut zero),
         look(rt, &shared, alloc, &mut one),
     );
-    let passes = Vec::from_array(alloc, [one, zero])?;
+    let passes = both(alloc, one, zero)?;
     Ok(Findings {
         played,
         drained,

@@ -122,6 +122,24 @@ pub fn open<K: Label>(alloc: Global, blanks: Blanks) -> Result<Shared<K>, Fault>
     Ok(Shared::open(alloc, config, 0, 0, blanks)?)
 }
 
+/// The list of one pass.
+pub fn only<K: Label>(alloc: Global, pass: Pass<K>) -> Result<Vec<Pass<K>>, Fault> {
+    let mut passes = Vec::new(alloc);
+    passes.push(pass)?;
+    Ok(passes)
+}
+
+/// The list of two passes.
+pub fn both<K: Label>(
+    alloc: Global,
+    first: Pass<K>,
+    second: Pass<K>,
+) -> Result<Vec<Pass<K>>, Fault> {
+    let mut passes = only(alloc, first)?;
+    passes.push(second)?;
+    Ok(passes)
+}
+
 /// Closes a shared book.
 pub fn close_for<K: Label>(
     shared: Shared<K>,

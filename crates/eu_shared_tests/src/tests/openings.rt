@@ -1,7 +1,7 @@
 //! A book that is opened with settings, clients expected and peers.
 ghost use Rattle.std.specs.Prelude.{◌≡◌};
 
-use crate::tests::asks::{close_for, drain};
+use crate::tests::asks::{close_for, drain, only};
 use crate::tests::reads::{Seen, see};
 use crate::tests::states::{are_two_idle, counts_only, is_same};
 use eu_base::{Config, Fault};
@@ -51,7 +51,7 @@ fn open_for_peers<K: Label, R: Wait>(
     let counts = see(rt, &shared, alloc, &mut pass, Query::Counts);
     let known = drain(rt, &shared, alloc, &mut pass, 1);
     let unknown = drain(rt, &shared, alloc, &mut pass, 2);
-    let passes = Vec::from_array(alloc, [pass])?;
+    let passes = only(alloc, pass)?;
     let closed = close_for(shared, alloc, passes)?;
     let untouched = is_untouched(&closed, config);
     drop(closed);

@@ -1,7 +1,7 @@
 //! Passes that are made, and one that is missing at the close.
 ghost use Rattle.std.specs.Prelude.{◌≡◌};
 
-use crate::tests::asks::{open, play};
+use crate::tests::asks::{only, open, play};
 use eu_base::Fault;
 use eu_model::Tally;
 use eu_shared::{Blanks, Label, MOST_PASSES, Pass, Shared, Unclosed, close};
@@ -12,15 +12,15 @@ use std::test::Fail;
 
 /// What is handed back where a book isn't closed: the fault, the sums, the totals, how many passes were made, and how many are there.
 #[derive(Clone, Copy)]
-struct Refusal {
-    fault: Fault,
-    sums: Tally,
-    totals: Tally,
-    made: u64,
-    passes: usize,
+pub struct Refusal {
+    pub fault: Fault,
+    pub sums: Tally,
+    pub totals: Tally,
+    pub made: u64,
+    pub passes: usize,
 }
 
-fn refusal_of<K: Label>(unclosed: &Unclosed<K>) -> Refusal {
+pub fn refusal_of<K: Label>(unclosed: &Unclosed<K>) -> Refusal {
     Refusal {
         fault: unclosed.fault,
         sums: unclosed.sums,
@@ -62,7 +62,7 @@ fn close_without_one<K: Label, R: Wait>(
     let mut zero = shared.pass(rt, alloc)?;
     let mut one = shared.pass(rt, alloc)?;
     play(rt, &shared, alloc, &mut zero, &mut one);
-    let passes = Vec::from_array(alloc, [zero])?;
+    let passes = only(alloc, zero)?;
     refused_close(shared, alloc, passes)
 }
 
@@ -91,6 +91,27 @@ fn a_missing_pass_is_missed(rt: HostRuntime) -> Result<(), Fail> {
     Ok(())
 }
 
+/// The number of a new pass.
+fn number<K: Label, R: Wait>(rt: &R, shared: &Shared<K>, alloc: Global) -> Result<u64, Fault> {
+    let pass = shared.pass(rt, alloc)?;
+    let number = pass.number();
+    drop(pass);
+    Ok(number)
+}
+
+/// Whether 1,024 new passes have their numbers, from 0.
+fn are_numbered<K: Label, R: Wait>(
+    rt: &R,
+    shared: &Shared<K>,
+    alloc: Global,
+) -> Result<bool, Fault> {
+    let mut numbered = true;
+    for wanted in 0..MOST_PASSES {
+        numbered &= number(rt, shared, alloc)? == wanted;
+    }
+    Ok(numbered)
+}
+
 /// Whether 1,024 passes have their numbers, from 0, and the fault that the next one is refused by.
 fn make_all<K: Label, R: Wait>(
     rt: &R,
@@ -101,11 +122,10 @@ fn make_all<K: Label, R: Wait>(
     requires parts { (blanks.steps.parts ≡ K.parts) × (blanks.counted.parts ≡ K.parts) × (blanks.added.parts ≡ K.parts) × (blanks.removed.parts ≡ K.parts) × (K.parts ≡ 1025) }
 {
     let shared = open::<K>(alloc, blanks)?;
-    let mut numbered = true;
-    for number in 0..MOST_PASSES {
-        numbered &= shared.pass(rt, alloc)?.number() == number;
-    }
-    Ok((numbered, shared.pass(rt, alloc).err()))
+    let numbered = are_numbered(rt, &shared, alloc);
+    let fault = number(rt, &shared, alloc).err();
+    drop(shared);
+    Ok((numbered?, fault))
 }
 
 fn made<R: Wait>(rt: &R, alloc: Global) -> Result<(bool, Option<Fault>), Fault> {

@@ -33,7 +33,7 @@ pub fn are_both(leases: &Listing) -> bool {
     }
 }
 
-fn in_short(view: &View) -> Seen {
+pub fn in_short(view: &View) -> Seen {
     match view {
         View::One(Some(listed)) => Seen::Lease(listed.times.updated),
         View::One(None) => Seen::NoLease,

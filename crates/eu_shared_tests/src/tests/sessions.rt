@@ -1,7 +1,7 @@
 //! Sessions over a pass.
 ghost use Rattle.std.specs.Prelude.{◌≡◌};
 
-use crate::tests::asks::{close_for, open};
+use crate::tests::asks::{close_for, only, open};
 use eu_base::Fault;
 use eu_clock::ListClock;
 use eu_model::Tally;
@@ -23,16 +23,29 @@ const RESPONSES: &str =
     "HTTP/1.1 204 No Content\r\n\r\nHTTP/1.1 200 OK\r\nContent-Length: 0\r\n\r\nHTTP/1.1 404 Not Found\r\nContent-Length: 0\r\nConnection: close\r\n\r\n";
 
 /// What a session over a pass writes.
-fn serve<K: Label, R: Wait>(alloc: Global, seat: &mut Seat<'_, K, R>) -> Result<Vec<u8>, Fault> {
-    let routes = Routes::new(alloc)?;
+fn written<K: Label, R: Wait>(
+    alloc: Global,
+    routes: &Routes,
+    seat: &mut Seat<'_, K, R>,
+) -> Result<Vec<u8>, Fault> {
     let mut clock = ListClock::new(Vec::new(alloc));
     let mut reader = REQUESTS.as_bytes();
     let mut out = Vec::new(alloc);
     let mut writer = Writing::new(&mut out);
-    match serve_session(alloc, &routes, seat, &mut clock, &mut reader, &mut writer) {
+    let served = serve_session(alloc, routes, seat, &mut clock, &mut reader, &mut writer);
+    drop(clock);
+    match served {
         Ok(_count) => Ok(out),
         Err(fault) => Err(fault.fault()),
     }
+}
+
+/// Whether a session over a pass writes what it is to.
+fn serve<K: Label, R: Wait>(alloc: Global, seat: &mut Seat<'_, K, R>) -> Result<bool, Fault> {
+    let routes = Routes::new(alloc)?;
+    let written = written(alloc, &routes, seat);
+    drop(routes);
+    Ok(written?.as_slice() == RESPONSES.as_bytes())
 }
 
 /// Whether a session over the only pass of a book writes what it is to, what the pass counts, and whether the book that is closed
@@ -52,18 +65,18 @@ fn serve_alone<K: Label, R: Wait>(
         shared: &shared,
         rt,
     };
-    let written = serve(alloc, &mut seat)?.as_slice() == RESPONSES.as_bytes();
+    let written = serve(alloc, &mut seat);
     let Seat {
         pass,
         shared: _,
         rt: _,
     } = seat;
     let tally = pass.tallies();
-    let passes = Vec::from_array(alloc, [pass])?;
+    let passes = only(alloc, pass)?;
     let closed = close_for(shared, alloc, passes)?;
     let settled = settle(&closed).is_ok();
     drop(closed);
-    Ok((written, tally, settled))
+    Ok((written?, tally, settled))
 }
 
 fn served<R: Wait>(rt: &R, alloc: Global) -> Result<(bool, Tally, bool), Fault> {

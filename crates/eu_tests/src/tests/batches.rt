@@ -3,11 +3,10 @@ use crate::tests::served::{answers, looked, opened, opened_with, registered};
 use crate::tests::sessions::{RENEWAL, RENEWED};
 use crate::tests::texts::{joined, push_number};
 use eu_base::{Fault, Moment};
-use eu_book::Book;
+use eu_book::{Book, Receipt};
 use eu_clock::FirstChooser;
 use eu_model::{Command, Reply};
 use std::alloc::{AllocError, Global};
-use std::test::Fail;
 
 /// The request of a batch.
 fn posted(alloc: Global, body: &str) -> Result<String, AllocError> {
@@ -27,6 +26,31 @@ fn replies(alloc: Global, book: &mut Book, body: &str, response: &str) -> Result
     answers(alloc, book, &text, response)
 }
 
+/// Whether it is, and so many steps were made then.
+fn replies_by(
+    alloc: Global,
+    book: &mut Book,
+    body: &str,
+    response: &str,
+    steps: u64,
+) -> Result<bool, Fault> {
+    let replies = replies(alloc, book, body, response)?;
+    Ok(replies && book.totals().steps == steps)
+}
+
+/// The same of a book in which the client was registered.
+fn registered_replies(
+    alloc: Global,
+    body: &str,
+    response: &str,
+    steps: u64,
+) -> Result<bool, Fault> {
+    let mut book = registered(alloc)?;
+    let replies = replies_by(alloc, &mut book, body, response, steps);
+    drop(book);
+    replies
+}
+
 /// Whether the client is listed as it was registered.
 fn is_unchanged(alloc: Global, book: &mut Book) -> Result<bool, Fault> {
     let look = looked(alloc)?;
@@ -42,69 +66,72 @@ const RENEWS_NOBODY: &str =
 const NOBODY: &str =
     "HTTP/1.1 200 OK\r\nContent-Type: application/json\r\nContent-Length: 37\r\n\r\n{\"responseList\":[{\"statusCode\":404}]}";
 
-#[test]
-fn nobody_is_renewed_in_an_empty_registry(rt: HostRuntime) -> Result<(), Fail> {
-    let alloc = rt.alloc();
+/// Whether a book that is just opened answers that so, in one step.
+fn renews_nobody(alloc: Global) -> Result<bool, Fault> {
     let mut book = opened(alloc)?;
-    assert!(rt; replies(alloc, &mut book, RENEWS_NOBODY, NOBODY)?);
-    assert!(rt; book.totals().steps == 1);
-    Ok(())
+    let replies = replies_by(alloc, &mut book, RENEWS_NOBODY, NOBODY, 1);
+    drop(book);
+    replies
 }
 
 #[test]
-fn an_older_stamp_is_told_what_is_held(rt: HostRuntime) -> Result<(), Fail> {
-    let alloc = rt.alloc();
-    let mut book = registered(alloc)?;
+fn nobody_is_renewed_in_an_empty_registry(rt: HostRuntime) {
+    assert!(rt; renews_nobody(rt.alloc()) == Ok(true));
+}
+
+#[test]
+fn an_older_stamp_is_told_what_is_held(rt: HostRuntime) {
     let older =
         r#"{"replicationList":[{"action":"Heartbeat","appName":"A","id":"i1","lastDirtyTimestamp":"4"}]}"#;
     let conflict =
         "HTTP/1.1 200 OK\r\nContent-Type: application/json\r\nContent-Length: 282\r\n\r\n{\"responseList\":[{\"responseEntity\":{\"app\":\"A\",\"dataCenterInfo\":{\"name\":\"MyOwn\"},\"hostName\":\"h\",\"instanceId\":\"i1\",\"ipAddr\":\"10.0.0.1\",\"lastDirtyTimestamp\":\"5\",\"leaseInfo\":{\"durationInSecs\":90,\"renewalIntervalInSecs\":30},\"overriddenStatus\":\"UNKNOWN\",\"status\":\"UP\"},\"statusCode\":409}]}";
-    assert!(rt; replies(alloc, &mut book, older, conflict)?);
-    assert!(rt; book.totals().steps == 2);
-    Ok(())
+    assert!(rt; registered_replies(rt.alloc(), older, conflict, 2) == Ok(true));
+}
+
+/// Whether batches are each answered so, and leave the client as it was registered, which was the only step.
+fn leaves(alloc: Global, book: &mut Book, bodies: &[&str], response: &str) -> Result<bool, Fault> {
+    for body in bodies {
+        if !replies_by(alloc, book, body, response, 1)? {
+            return Ok(false);
+        }
+    }
+    is_unchanged(alloc, book)
+}
+
+/// The same of a book in which the client was registered.
+fn registered_leaves(alloc: Global, bodies: &[&str], response: &str) -> Result<bool, Fault> {
+    let mut book = registered(alloc)?;
+    let leaves = leaves(alloc, &mut book, bodies, response);
+    drop(book);
+    leaves
 }
 
 #[test]
-fn an_empty_batch_asks_nothing(rt: HostRuntime) -> Result<(), Fail> {
-    let alloc = rt.alloc();
-    let mut book = registered(alloc)?;
+fn an_empty_batch_asks_nothing(rt: HostRuntime) {
     let nothing =
         "HTTP/1.1 200 OK\r\nContent-Type: application/json\r\nContent-Length: 19\r\n\r\n{\"responseList\":[]}";
-    assert!(rt; replies(alloc, &mut book, r#"{"replicationList":[]}"#, nothing)?);
-    assert!(rt; book.totals().steps == 1);
-    assert!(rt; is_unchanged(alloc, &mut book)?);
-    Ok(())
+    let bodies = [r#"{"replicationList":[]}"#];
+    assert!(rt; registered_leaves(rt.alloc(), bodies.as_slice(), nothing) == Ok(true));
 }
 
 #[test]
-fn a_bad_batch_changes_nothing(rt: HostRuntime) -> Result<(), Fail> {
-    let alloc = rt.alloc();
+fn a_bad_batch_changes_nothing(rt: HostRuntime) {
     let bodies = [
         "{",
         r#"{"replicationList":[{"action":"Cancel","appName":"A","id":"i1"},{"action":"Evict","appName":"A","id":"i1"}]}"#,
     ];
     let refused =
         "HTTP/1.1 400 Bad Request\r\nContent-Type: application/json\r\nContent-Length: 12\r\n\r\n{\"fault\":31}";
-    let mut book = registered(alloc)?;
-    for body in bodies {
-        assert!(rt; replies(alloc, &mut book, body, refused)?);
-    }
-    assert!(rt; book.totals().steps == 1);
-    assert!(rt; is_unchanged(alloc, &mut book)?);
-    Ok(())
+    assert!(rt; registered_leaves(rt.alloc(), bodies.as_slice(), refused) == Ok(true));
 }
 
 #[test]
-fn the_items_of_a_batch_are_taken_in_order(rt: HostRuntime) -> Result<(), Fail> {
-    let alloc = rt.alloc();
-    let mut book = registered(alloc)?;
+fn the_items_of_a_batch_are_taken_in_order(rt: HostRuntime) {
     let leaves =
         r#"{"replicationList":[{"action":"Cancel","appName":"a","id":"i1"},{"action":"Heartbeat","appName":"A","id":"i1"}]}"#;
     let codes =
         "HTTP/1.1 200 OK\r\nContent-Type: application/json\r\nContent-Length: 56\r\n\r\n{\"responseList\":[{\"statusCode\":200},{\"statusCode\":404}]}";
-    assert!(rt; replies(alloc, &mut book, leaves, codes)?);
-    assert!(rt; book.totals().steps == 3);
-    Ok(())
+    assert!(rt; registered_replies(rt.alloc(), leaves, codes, 3) == Ok(true));
 }
 
 /// How many tasks a reply gives.
@@ -116,25 +143,47 @@ fn tasks(reply: &Reply) -> usize {
 }
 
 /// How many tasks go to the peer, or the number of the fault.
-fn drained(alloc: Global, book: &mut Book, now: Moment) -> (usize, u8) {
-    match book.apply(alloc, 0, Command::Drain { peer: 0 }, now, &mut FirstChooser) {
+fn counted(answer: &Result<Receipt, Fault>) -> (usize, u8) {
+    match answer {
         Ok(receipt) => (tasks(&receipt.reply), 0),
         Err(fault) => (0, fault.number()),
     }
 }
 
-#[test]
-fn what_a_peer_sends_is_queued_for_nobody(rt: HostRuntime) -> Result<(), Fail> {
-    let alloc = rt.alloc();
+/// The same of a drain.
+fn drained(alloc: Global, book: &mut Book, now: Moment) -> (usize, u8) {
+    let answer = book.apply(alloc, 0, Command::Drain { peer: 0 }, now, &mut FirstChooser);
+    let counted = counted(&answer);
+    drop(answer);
+    counted
+}
+
+/// A batch by which the client comes.
+const COMES: &str =
+    r#"{"replicationList":[{"action":"Register","appName":"A","id":"i1","instanceInfo":{"instanceId":"i1","hostName":"h","app":"a","ipAddr":"10.0.0.1","dataCenterInfo":{"name":"MyOwn"}}}]}"#;
+
+const DONE: &str =
+    "HTTP/1.1 200 OK\r\nContent-Type: application/json\r\nContent-Length: 37\r\n\r\n{\"responseList\":[{\"statusCode\":200}]}";
+
+/// Whether no task goes to the peer after that batch, and one after a renewal.
+fn queues(alloc: Global, book: &mut Book) -> Result<bool, Fault> {
     let now = Moment::new(3000).ok_or(Fault::BadValue)?;
-    let comes =
-        r#"{"replicationList":[{"action":"Register","appName":"A","id":"i1","instanceInfo":{"instanceId":"i1","hostName":"h","app":"a","ipAddr":"10.0.0.1","dataCenterInfo":{"name":"MyOwn"}}}]}"#;
-    let done =
-        "HTTP/1.1 200 OK\r\nContent-Type: application/json\r\nContent-Length: 37\r\n\r\n{\"responseList\":[{\"statusCode\":200}]}";
+    let comes = replies(alloc, book, COMES, DONE)?;
+    let none = drained(alloc, book, now);
+    let renewed = answers(alloc, book, RENEWAL, RENEWED)?;
+    let one = drained(alloc, book, now);
+    Ok(comes && none == (0, 9) && renewed && one == (1, 0))
+}
+
+/// The same of a book with one peer.
+fn opened_queues(alloc: Global) -> Result<bool, Fault> {
     let mut book = opened_with(alloc, 1)?;
-    assert!(rt; replies(alloc, &mut book, comes, done)?);
-    assert!(rt; drained(alloc, &mut book, now) == (0, 9));
-    assert!(rt; answers(alloc, &mut book, RENEWAL, RENEWED)?);
-    assert!(rt; drained(alloc, &mut book, now) == (1, 0));
-    Ok(())
+    let queues = queues(alloc, &mut book);
+    drop(book);
+    queues
+}
+
+#[test]
+fn what_a_peer_sends_is_queued_for_nobody(rt: HostRuntime) {
+    assert!(rt; opened_queues(rt.alloc()) == Ok(true));
 }

@@ -3,9 +3,8 @@ use crate::tests::texts::{joined, push_number, push_numbers};
 use eu_base::{App, Config, Fault, Id, Instance, Key, Moment, Rest, Stamp, Status};
 use eu_clock::{Chooser, FirstChooser, ListChooser};
 use eu_core::Registry;
-use eu_model::{Keys, Reply};
+use eu_model::{Keys, Listed, Reply, Times};
 use std::alloc::{AllocError, Global};
-use std::test::Fail;
 
 /// A call of a registry, with the id that it names. Each application is A.
 #[derive(Clone, Copy)]
@@ -214,11 +213,26 @@ fn tell_ids(out: &mut String, keys: &Keys) -> Result<(), AllocError> {
 }
 
 /// Writes what came of a call as a word; a fault as its number.
-fn tell_answer(out: &mut String, answer: Result<Reply, Fault>) -> Result<(), AllocError> {
+fn tell_answer(out: &mut String, answer: &Result<Reply, Fault>) -> Result<(), AllocError> {
     match answer {
-        Ok(reply) => tell(out, &reply),
+        Ok(reply) => tell(out, reply),
         Err(fault) => tell_number(out, "fault", u64::from(fault.number())),
     }
+}
+
+/// Makes a call, and writes what came of it.
+fn make<C: Chooser>(
+    alloc: Global,
+    out: &mut String,
+    registry: &mut Registry,
+    call: Call,
+    now: Moment,
+    chooser: &mut C,
+) -> Result<(), AllocError> {
+    let answer = answer(alloc, registry, call, now, chooser);
+    let told = tell_answer(out, &answer);
+    drop(answer);
+    told
 }
 
 /// Writes a status and numbers as one word.
@@ -228,7 +242,16 @@ fn tell_lease(out: &mut String, status: Status, numbers: &[u64]) -> Result<(), A
     out.push_str(" ")
 }
 
-/// Writes the status, the stamp, the duration and the last update of the lease of an id, where it is visible.
+/// Writes the status, the stamp, the duration and the last update of a lease that was found.
+fn tell_found(out: &mut String, found: Option<(&Instance, Times)>) -> Result<(), AllocError> {
+    let Some((instance, times)) = found else {
+        return out.push_str("hidden ");
+    };
+    let numbers = [instance.dirty, u64::from(instance.secs), times.updated];
+    tell_lease(out, instance.status, numbers.as_slice())
+}
+
+/// The same of the lease of an id, where it is visible.
 fn look(
     alloc: Global,
     out: &mut String,
@@ -237,11 +260,9 @@ fn look(
     now: Moment,
 ) -> Result<(), Fault> {
     let key = key(alloc, "A", id)?;
-    let Some((instance, times)) = registry.look(&key, now) else {
-        return Ok(out.push_str("hidden ")?);
-    };
-    let numbers = [instance.dirty, u64::from(instance.secs), times.updated];
-    Ok(tell_lease(out, instance.status, numbers.as_slice())?)
+    let told = tell_found(out, registry.look(&key, now));
+    drop(key);
+    Ok(told?)
 }
 
 /// Writes leases held, clients expected, threshold, last minute's renewals, and whether eviction is permitted.
@@ -252,6 +273,15 @@ fn tell_counts(out: &mut String, registry: &Registry) -> Result<(), AllocError> 
     out.push_str(if counts.permitted { ":yes " } else { ":no " })
 }
 
+/// Writes the ids of leases.
+fn tell_listed(out: &mut String, all: &[Listed]) -> Result<(), AllocError> {
+    for listed in all {
+        out.push_str("-")?;
+        out.push_str(listed.instance.key.id.as_str())?;
+    }
+    out.push_str(" ")
+}
+
 /// Writes the ids that are listed of an application, or of all.
 fn list(
     alloc: Global,
@@ -259,16 +289,17 @@ fn list(
     registry: &Registry,
     app: Option<&App>,
 ) -> Result<(), AllocError> {
-    for listed in registry.list(alloc, app)? {
-        out.push_str("-")?;
-        out.push_str(listed.instance.key.id.as_str())?;
-    }
-    out.push_str(" ")
+    let all = registry.list(alloc, app)?;
+    let told = tell_listed(out, all.as_slice());
+    drop(all);
+    told
 }
 
 fn list_of(alloc: Global, out: &mut String, registry: &Registry, app: &str) -> Result<(), Fault> {
     let app = App::read(alloc, app)?;
-    Ok(list(alloc, out, registry, Some(&app))?)
+    let told = list(alloc, out, registry, Some(&app));
+    drop(app);
+    Ok(told?)
 }
 
 fn go<C: Chooser>(
@@ -280,10 +311,7 @@ fn go<C: Chooser>(
     chooser: &mut C,
 ) -> Result<(), Fault> {
     match line {
-        Line::Do(call) => {
-            let answer = answer(alloc, registry, call, now, chooser);
-            Ok(tell_answer(out, answer)?)
-        }
+        Line::Do(call) => Ok(make(alloc, out, registry, call, now, chooser)?),
         Line::Look(id) => look(alloc, out, registry, id, now),
         Line::Counts => Ok(tell_counts(out, registry)?),
         Line::Of(app) => list_of(alloc, out, registry, app),
@@ -320,7 +348,9 @@ fn drawn<C: Chooser>(
     chooser: &mut C,
 ) -> Result<String, Fault> {
     let mut registry = opened(alloc, settings)?;
-    told(alloc, &mut registry, lines, chooser)
+    let told = told(alloc, &mut registry, lines, chooser);
+    drop(registry);
+    told
 }
 
 /// The same where the first is always drawn.
@@ -332,135 +362,154 @@ fn played(
     drawn(alloc, settings, lines, &mut FirstChooser)
 }
 
+/// Whether that comes of the lines.
+fn tells(
+    alloc: Global,
+    settings: (bool, u32, u32),
+    lines: &[(u64, Line)],
+    words: &str,
+) -> Result<bool, Fault> {
+    let told = played(alloc, settings, lines)?;
+    Ok(told.as_str() == words)
+}
+
+/// The same where these are drawn.
+fn draws_tell(
+    alloc: Global,
+    settings: (bool, u32, u32),
+    lines: &[(u64, Line)],
+    draws: &[u64],
+    words: &str,
+) -> Result<bool, Fault> {
+    let mut chooser = ListChooser::new(Vec::from_slice(alloc, draws)?);
+    let told = drawn(alloc, settings, lines, &mut chooser);
+    drop(chooser);
+    Ok(told?.as_str() == words)
+}
+
 const UP: Line = Line::Do(Call::Join("i1", Status::Up, 0, 90));
 
-#[test]
-fn a_client_comes_and_renews(rt: HostRuntime) -> Result<(), Fail> {
-    let lines = [
-        (0u64, UP),
-        (0, UP),
-        (5, Line::Do(Call::Renew("i1"))),
-        (5, Line::Do(Call::Renew("i2"))),
-        (5, Line::Counts),
-        (5, Line::Look("i1")),
-    ];
-    let told = played(rt.alloc(), (true, 85, 1), lines.as_slice())?;
-    assert_eq!(rt;
-        told.as_str(),
-        "new again done none :1:2:3:0:no UP:0:90:90005 "
-    );
-    Ok(())
-}
+const COMES: [(u64, Line); 6] = [
+    (0, UP),
+    (0, UP),
+    (5, Line::Do(Call::Renew("i1"))),
+    (5, Line::Do(Call::Renew("i2"))),
+    (5, Line::Counts),
+    (5, Line::Look("i1")),
+];
 
 #[test]
-fn nobody_is_expected_where_none_was(rt: HostRuntime) -> Result<(), Fail> {
-    let lines = [
-        (0u64, Line::Do(Call::Join("i1", Status::Unknown, 0, 90))),
-        (0, Line::Do(Call::Renew("i1"))),
-        (0, Line::Counts),
-    ];
-    let told = played(rt.alloc(), (false, 85, 0), lines.as_slice())?;
-    assert_eq!(rt; told.as_str(), "new none :1:0:0:0:yes ");
-    Ok(())
+fn a_client_comes_and_renews(rt: HostRuntime) {
+    let words = "new again done none :1:2:3:0:no UP:0:90:90005 ";
+    assert!(rt; tells(rt.alloc(), (true, 85, 1), COMES.as_slice(), words) == Ok(true));
 }
 
-#[test]
-fn minutes_end(rt: HostRuntime) -> Result<(), Fail> {
-    let lines = [
-        (0u64, UP),
-        (0, Line::Do(Call::Renew("i1"))),
-        (1, Line::Do(Call::Roll)),
-        (2, Line::Do(Call::Roll)),
-    ];
-    let told = played(rt.alloc(), (true, 85, 1), lines.as_slice())?;
-    assert_eq!(rt; told.as_str(), "new done last=1 last=0 ");
-    Ok(())
-}
+const UNEXPECTED: [(u64, Line); 3] = [
+    (0, Line::Do(Call::Join("i1", Status::Unknown, 0, 90))),
+    (0, Line::Do(Call::Renew("i1"))),
+    (0, Line::Counts),
+];
 
 #[test]
-fn more_than_the_percentage_is_expected(rt: HostRuntime) -> Result<(), Fail> {
-    let lines = [(0u64, UP), (0, Line::Do(Call::Update))];
+fn nobody_is_expected_where_none_was(rt: HostRuntime) {
+    let words = "new none :1:0:0:0:yes ";
+    assert!(rt; tells(rt.alloc(), (false, 85, 0), UNEXPECTED.as_slice(), words) == Ok(true));
+}
+
+const MINUTES: [(u64, Line); 4] = [
+    (0, UP),
+    (0, Line::Do(Call::Renew("i1"))),
+    (1, Line::Do(Call::Roll)),
+    (2, Line::Do(Call::Roll)),
+];
+
+#[test]
+fn minutes_end(rt: HostRuntime) {
+    let words = "new done last=1 last=0 ";
+    assert!(rt; tells(rt.alloc(), (true, 85, 1), MINUTES.as_slice(), words) == Ok(true));
+}
+
+const PERCENTAGE: [(u64, Line); 2] = [(0, UP), (0, Line::Do(Call::Update))];
+
+#[test]
+fn more_than_the_percentage_is_expected(rt: HostRuntime) {
     for (percent, words) in [(50u32, "new expected=2 "), (49, "new expected=1 ")] {
-        let told = played(rt.alloc(), (true, percent, 1), lines.as_slice())?;
-        assert_eq!(rt; told.as_str(), words);
+        let tells = tells(rt.alloc(), (true, percent, 1), PERCENTAGE.as_slice(), words);
+        assert!(rt; tells == Ok(true), "at {percent}");
     }
-    Ok(())
 }
 
-#[test]
-fn a_client_leaves(rt: HostRuntime) -> Result<(), Fail> {
-    let lines = [
-        (0u64, UP),
-        (0, Line::Do(Call::Cancel("i1"))),
-        (0, Line::Do(Call::Cancel("i1"))),
-        (0, Line::Counts),
-        (0, Line::Look("i1")),
-    ];
-    let told = played(rt.alloc(), (true, 85, 1), lines.as_slice())?;
-    assert_eq!(rt; told.as_str(), "new done none :0:1:1:0:no hidden ");
-    let told = played(rt.alloc(), (true, 85, 0), lines.as_slice())?;
-    assert_eq!(rt; told.as_str(), "new done none :0:0:0:0:no hidden ");
-    Ok(())
-}
+const LEAVES: [(u64, Line); 5] = [
+    (0, UP),
+    (0, Line::Do(Call::Cancel("i1"))),
+    (0, Line::Do(Call::Cancel("i1"))),
+    (0, Line::Counts),
+    (0, Line::Look("i1")),
+];
 
 #[test]
-fn a_row_goes_with_a_cancel_of_another(rt: HostRuntime) -> Result<(), Fail> {
-    let lines = [
-        (0u64, Line::Do(Call::Override("i1", Status::OutOfService))),
-        (0, Line::Do(Call::CancelOther("i1"))),
-        (0, Line::Do(Call::Cancel("i1"))),
-        (0, UP),
-        (0, Line::Look("i1")),
-    ];
-    let told = played(rt.alloc(), (true, 85, 1), lines.as_slice())?;
-    assert_eq!(rt; told.as_str(), "new none done new UP:0:90:0 ");
-    Ok(())
+fn a_client_leaves(rt: HostRuntime) {
+    let words = "new done none :0:1:1:0:no hidden ";
+    assert!(rt; tells(rt.alloc(), (true, 85, 1), LEAVES.as_slice(), words) == Ok(true));
+    let words = "new done none :0:0:0:0:no hidden ";
+    assert!(rt; tells(rt.alloc(), (true, 85, 0), LEAVES.as_slice(), words) == Ok(true));
 }
 
-#[test]
-fn the_greater_stamp_is_kept(rt: HostRuntime) -> Result<(), Fail> {
-    let lines = [
-        (5u64, Line::Do(Call::Join("i1", Status::Starting, 2, 90))),
-        (6, Line::Do(Call::Join("i1", Status::Down, 1, 30))),
-        (6, Line::Look("i1")),
-        (7, Line::Do(Call::Join("i1", Status::Down, 2, 60))),
-        (7, Line::Look("i1")),
-    ];
-    let told = played(rt.alloc(), (true, 85, 1), lines.as_slice())?;
-    assert_eq!(rt;
-        told.as_str(),
-        "new again STARTING:2:30:6 again DOWN:2:60:7 "
-    );
-    Ok(())
-}
+const ROW: [(u64, Line); 5] = [
+    (0, Line::Do(Call::Override("i1", Status::OutOfService))),
+    (0, Line::Do(Call::CancelOther("i1"))),
+    (0, Line::Do(Call::Cancel("i1"))),
+    (0, UP),
+    (0, Line::Look("i1")),
+];
 
 #[test]
-fn an_expired_lease_is_hidden_where_it_may_be_evicted(rt: HostRuntime) -> Result<(), Fail> {
-    let lines = [
-        (0u64, UP),
-        (90_000, Line::Look("i1")),
-        (90_001, Line::Look("i1")),
-    ];
-    let told = played(rt.alloc(), (false, 85, 1), lines.as_slice())?;
-    assert_eq!(rt; told.as_str(), "new UP:0:90:0 hidden ");
-    Ok(())
+fn a_row_goes_with_a_cancel_of_another(rt: HostRuntime) {
+    let words = "new none done new UP:0:90:0 ";
+    assert!(rt; tells(rt.alloc(), (true, 85, 1), ROW.as_slice(), words) == Ok(true));
 }
 
+const GREATER: [(u64, Line); 5] = [
+    (5, Line::Do(Call::Join("i1", Status::Starting, 2, 90))),
+    (6, Line::Do(Call::Join("i1", Status::Down, 1, 30))),
+    (6, Line::Look("i1")),
+    (7, Line::Do(Call::Join("i1", Status::Down, 2, 60))),
+    (7, Line::Look("i1")),
+];
+
 #[test]
-fn what_is_held_is_listed_in_key_order(rt: HostRuntime) -> Result<(), Fail> {
-    // at 10,001 ms all three have expired, and eviction is permitted
-    let lines = [
-        (0u64, Line::Do(Call::Join("i2", Status::Up, 0, 10))),
-        (0, Line::Do(Call::Join("i10", Status::Down, 0, 10))),
-        (0, Line::Do(Call::Join("i1", Status::Starting, 0, 10))),
-        (10_001, Line::Look("i1")),
-        (10_001, Line::All),
-        (10_001, Line::Of("a")),
-        (10_001, Line::Of("B")),
-    ];
-    let told = played(rt.alloc(), (false, 85, 1), lines.as_slice())?;
-    assert_eq!(rt; told.as_str(), "new new new hidden -i1-i10-i2 -i1-i10-i2  ");
-    Ok(())
+fn the_greater_stamp_is_kept(rt: HostRuntime) {
+    let words = "new again STARTING:2:30:6 again DOWN:2:60:7 ";
+    assert!(rt; tells(rt.alloc(), (true, 85, 1), GREATER.as_slice(), words) == Ok(true));
+}
+
+const EXPIRED: [(u64, Line); 3] = [
+    (0, UP),
+    (90_000, Line::Look("i1")),
+    (90_001, Line::Look("i1")),
+];
+
+#[test]
+fn an_expired_lease_is_hidden_where_it_may_be_evicted(rt: HostRuntime) {
+    let words = "new UP:0:90:0 hidden ";
+    assert!(rt; tells(rt.alloc(), (false, 85, 1), EXPIRED.as_slice(), words) == Ok(true));
+}
+
+/// At 10,001 ms all three have expired, and eviction is permitted.
+const LISTED: [(u64, Line); 7] = [
+    (0, Line::Do(Call::Join("i2", Status::Up, 0, 10))),
+    (0, Line::Do(Call::Join("i10", Status::Down, 0, 10))),
+    (0, Line::Do(Call::Join("i1", Status::Starting, 0, 10))),
+    (10_001, Line::Look("i1")),
+    (10_001, Line::All),
+    (10_001, Line::Of("a")),
+    (10_001, Line::Of("B")),
+];
+
+#[test]
+fn what_is_held_is_listed_in_key_order(rt: HostRuntime) {
+    let words = "new new new hidden -i1-i10-i2 -i1-i10-i2  ";
+    assert!(rt; tells(rt.alloc(), (false, 85, 1), LISTED.as_slice(), words) == Ok(true));
 }
 
 const FOUR: [(u64, Line); 6] = [
@@ -473,34 +522,46 @@ const FOUR: [(u64, Line); 6] = [
 ];
 
 #[test]
-fn half_of_the_expired_are_drawn(rt: HostRuntime) -> Result<(), Fail> {
-    let mut chooser = ListChooser::new(Vec::from_slice(rt.alloc(), [3u64, 0].as_slice())?);
-    let told = drawn(rt.alloc(), (false, 50, 0), FOUR.as_slice(), &mut chooser)?;
-    assert_eq!(rt;
-        told.as_str(),
-        "new new new new evicted-i3-i1 :2:0:0:0:yes "
+fn half_of_the_expired_are_drawn(rt: HostRuntime) {
+    let words = "new new new new evicted-i3-i1 :2:0:0:0:yes ";
+    let draws = [3u64, 0];
+    let settings = (false, 50, 0);
+    let tells = draws_tell(
+        rt.alloc(),
+        settings,
+        FOUR.as_slice(),
+        draws.as_slice(),
+        words,
     );
-    Ok(())
+    assert!(rt; tells == Ok(true));
 }
 
 #[test]
-fn nobody_is_evicted_while_preservation_forbids_it(rt: HostRuntime) -> Result<(), Fail> {
-    let told = played(rt.alloc(), (true, 50, 0), FOUR.as_slice())?;
-    assert_eq!(rt; told.as_str(), "new new new new evicted :4:0:0:0:no ");
-    Ok(())
+fn nobody_is_evicted_while_preservation_forbids_it(rt: HostRuntime) {
+    let words = "new new new new evicted :4:0:0:0:no ";
+    assert!(rt; tells(rt.alloc(), (true, 50, 0), FOUR.as_slice(), words) == Ok(true));
 }
 
-/// Registers the client i and that number, and tells whether it is taken.
+/// The id i and that number.
+fn numbered(alloc: Global, number: u64) -> Result<String, AllocError> {
+    let mut id = joined(alloc, &["i"])?;
+    push_number(&mut id, number)?;
+    Ok(id)
+}
+
+/// Registers that client, and tells whether it is taken.
 fn is_joined(
     alloc: Global,
     registry: &mut Registry,
     number: u64,
     now: Moment,
 ) -> Result<bool, Fault> {
-    let mut id = joined(alloc, &["i"])?;
-    push_number(&mut id, number)?;
+    let id = numbered(alloc, number)?;
     let statuses = (Status::Up, Status::Unknown);
-    Ok(join(alloc, registry, id.as_str(), statuses, 0, 90, now).is_ok())
+    let reply = join(alloc, registry, id.as_str(), statuses, 0, 90, now);
+    let is_joined = reply.is_ok();
+    drop(reply);
+    Ok(is_joined)
 }
 
 /// A registry with 65,536 leases, i0 to i65535.
@@ -515,85 +576,81 @@ fn full(alloc: Global) -> Result<Registry, Fault> {
     Ok(registry)
 }
 
-#[test]
-fn a_full_registry_takes_back_who_is_held(rt: HostRuntime) -> Result<(), Fail> {
-    let lines = [
-        (7u64, Line::Do(Call::Join("stranger", Status::Up, 0, 90))),
-        (7, Line::Counts),
-        (7, Line::Do(Call::Join("i65535", Status::Up, 0, 90))),
-    ];
-    let mut registry = full(rt.alloc())?;
-    let told = told(
-        rt.alloc(),
-        &mut registry,
-        lines.as_slice(),
-        &mut FirstChooser,
-    )?;
-    assert_eq!(rt; told.as_str(), "fault=7 :65536:65537:111412:0:no again ");
-    Ok(())
+/// Whether that comes of the lines in that registry.
+fn full_tells(alloc: Global, lines: &[(u64, Line)], words: &str) -> Result<bool, Fault> {
+    let mut registry = full(alloc)?;
+    let told = told(alloc, &mut registry, lines, &mut FirstChooser);
+    drop(registry);
+    Ok(told?.as_str() == words)
 }
 
-#[test]
-fn stamps_settle_a_quarrel(rt: HostRuntime) -> Result<(), Fail> {
-    let lines = [
-        (0u64, Line::Do(Call::Join("i1", Status::Up, 10, 90))),
-        (1, Line::Do(Call::Stamped("i1", 9, false))),
-        (1, Line::Do(Call::Stamped("i1", 10, false))),
-        (1, Line::Do(Call::Stamped("i1", 11, false))),
-        (1, Line::Do(Call::Stamped("i1", 9, true))),
-        (1, Line::Do(Call::Stamped("i1", 10, true))),
-        (1, Line::Do(Call::Stamped("i1", 11, true))),
-        (1, Line::Do(Call::Roll)),
-    ];
-    let told = played(rt.alloc(), (true, 85, 0), lines.as_slice())?;
-    assert_eq!(rt;
-        told.as_str(),
-        "new done done stale conflict=10 done stale last=6 "
-    );
-    Ok(())
-}
+const FULL: [(u64, Line); 3] = [
+    (7, Line::Do(Call::Join("stranger", Status::Up, 0, 90))),
+    (7, Line::Counts),
+    (7, Line::Do(Call::Join("i65535", Status::Up, 0, 90))),
+];
 
 #[test]
-fn a_status_is_set_and_unset(rt: HostRuntime) -> Result<(), Fail> {
-    let lines = [
-        (0u64, UP),
-        (1, Line::Do(Call::Set("i1", Status::OutOfService))),
-        (2, Line::Do(Call::Renew("i1"))),
-        (2, Line::Look("i1")),
-        (3, Line::Do(Call::Unset("i1", None))),
-        (4, Line::Do(Call::Renew("i1"))),
-        (5, Line::Do(Call::Set("i2", Status::Up))),
-        (6, Line::Do(Call::Roll)),
-    ];
-    let told = played(rt.alloc(), (true, 85, 0), lines.as_slice())?;
-    assert_eq!(rt;
-        told.as_str(),
-        "new done done OUT_OF_SERVICE:0:90:90002 done none none last=1 "
-    );
-    Ok(())
+fn a_full_registry_takes_back_who_is_held(rt: HostRuntime) {
+    let words = "fault=7 :65536:65537:111412:0:no again ";
+    assert!(rt; full_tells(rt.alloc(), FULL.as_slice(), words) == Ok(true));
 }
 
-#[test]
-fn an_instance_is_adopted(rt: HostRuntime) -> Result<(), Fail> {
-    let lines = [
-        (0u64, Line::Do(Call::Join("i1", Status::Up, 3, 90))),
-        (1, Line::Do(Call::Adopt("i1", Status::OutOfService, 7, 30))),
-        (1, Line::Look("i1")),
-    ];
-    let told = played(rt.alloc(), (true, 85, 0), lines.as_slice())?;
-    assert_eq!(rt; told.as_str(), "new again OUT_OF_SERVICE:7:30:1 ");
-    Ok(())
-}
+const STAMPS: [(u64, Line); 8] = [
+    (0, Line::Do(Call::Join("i1", Status::Up, 10, 90))),
+    (1, Line::Do(Call::Stamped("i1", 9, false))),
+    (1, Line::Do(Call::Stamped("i1", 10, false))),
+    (1, Line::Do(Call::Stamped("i1", 11, false))),
+    (1, Line::Do(Call::Stamped("i1", 9, true))),
+    (1, Line::Do(Call::Stamped("i1", 10, true))),
+    (1, Line::Do(Call::Stamped("i1", 11, true))),
+    (1, Line::Do(Call::Roll)),
+];
 
 #[test]
-fn a_peer_brings_a_row(rt: HostRuntime) -> Result<(), Fail> {
-    let lines = [
-        (0u64, UP),
-        (1, Line::Do(Call::Brings("i1", 5, Status::OutOfService))),
-        (2, Line::Do(Call::Renew("i1"))),
-        (2, Line::Look("i1")),
-    ];
-    let told = played(rt.alloc(), (true, 85, 0), lines.as_slice())?;
-    assert_eq!(rt; told.as_str(), "new stale done OUT_OF_SERVICE:0:90:90002 ");
-    Ok(())
+fn stamps_settle_a_quarrel(rt: HostRuntime) {
+    let words = "new done done stale conflict=10 done stale last=6 ";
+    assert!(rt; tells(rt.alloc(), (true, 85, 0), STAMPS.as_slice(), words) == Ok(true));
+}
+
+const SET: [(u64, Line); 8] = [
+    (0, UP),
+    (1, Line::Do(Call::Set("i1", Status::OutOfService))),
+    (2, Line::Do(Call::Renew("i1"))),
+    (2, Line::Look("i1")),
+    (3, Line::Do(Call::Unset("i1", None))),
+    (4, Line::Do(Call::Renew("i1"))),
+    (5, Line::Do(Call::Set("i2", Status::Up))),
+    (6, Line::Do(Call::Roll)),
+];
+
+#[test]
+fn a_status_is_set_and_unset(rt: HostRuntime) {
+    let words = "new done done OUT_OF_SERVICE:0:90:90002 done none none last=1 ";
+    assert!(rt; tells(rt.alloc(), (true, 85, 0), SET.as_slice(), words) == Ok(true));
+}
+
+const ADOPTED: [(u64, Line); 3] = [
+    (0, Line::Do(Call::Join("i1", Status::Up, 3, 90))),
+    (1, Line::Do(Call::Adopt("i1", Status::OutOfService, 7, 30))),
+    (1, Line::Look("i1")),
+];
+
+#[test]
+fn an_instance_is_adopted(rt: HostRuntime) {
+    let words = "new again OUT_OF_SERVICE:7:30:1 ";
+    assert!(rt; tells(rt.alloc(), (true, 85, 0), ADOPTED.as_slice(), words) == Ok(true));
+}
+
+const BROUGHT: [(u64, Line); 4] = [
+    (0, UP),
+    (1, Line::Do(Call::Brings("i1", 5, Status::OutOfService))),
+    (2, Line::Do(Call::Renew("i1"))),
+    (2, Line::Look("i1")),
+];
+
+#[test]
+fn a_peer_brings_a_row(rt: HostRuntime) {
+    let words = "new stale done OUT_OF_SERVICE:0:90:90002 ";
+    assert!(rt; tells(rt.alloc(), (true, 85, 0), BROUGHT.as_slice(), words) == Ok(true));
 }

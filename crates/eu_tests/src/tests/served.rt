@@ -11,7 +11,6 @@ use eu_routes::Routes;
 use eu_session::{serve_session, sessions_are_runs};
 use eu_stream::Writing;
 use std::alloc::{AllocError, Global};
-use std::test::Fail;
 
 /// Self-preservation is on, at 85%, with a renewal each 30 s and an eviction pass each minute. Nobody is expected.
 pub fn opened_with(alloc: Global, peers: u32) -> Result<Book, Fault> {
@@ -27,17 +26,43 @@ pub fn opened(alloc: Global) -> Result<Book, Fault> {
     opened_with(alloc, 0)
 }
 
-/// What a session with the book writes at the moments 1000, 2000 and 3000, which reads these two texts.
-fn answered(alloc: Global, book: &mut Book, first: &[u8], second: &[u8]) -> Result<Vec<u8>, Fault> {
-    let routes = Routes::new(alloc)?;
+/// Serves a session with the book at the moments 1000, 2000 and 3000, which reads these two texts.
+fn serve(
+    alloc: Global,
+    routes: &Routes,
+    book: &mut Book,
+    texts: (&[u8], &[u8]),
+    out: &mut Vec<u8>,
+) -> Result<(), Fault> {
     let mut clock = clock(alloc, &[1000, 2000, 3000])?;
-    let mut reader = Parts::ending(first, second);
-    let mut out = Vec::new(alloc);
-    let mut writer = Writing::new(&mut out);
-    match serve_session(alloc, &routes, book, &mut clock, &mut reader, &mut writer) {
-        Ok(_count) => Ok(out),
+    let mut reader = Parts::ending(texts.0, texts.1);
+    let mut writer = Writing::new(out);
+    let served = serve_session(alloc, routes, book, &mut clock, &mut reader, &mut writer);
+    drop(clock);
+    match served {
+        Ok(_count) => Ok(()),
         Err(fault) => Err(fault.fault()),
     }
+}
+
+/// The same by routes of its own.
+fn serve_routed(
+    alloc: Global,
+    book: &mut Book,
+    texts: (&[u8], &[u8]),
+    out: &mut Vec<u8>,
+) -> Result<(), Fault> {
+    let routes = Routes::new(alloc)?;
+    let served = serve(alloc, &routes, book, texts, out);
+    drop(routes);
+    served
+}
+
+/// What such a session writes.
+fn answered(alloc: Global, book: &mut Book, first: &[u8], second: &[u8]) -> Result<Vec<u8>, Fault> {
+    let mut out = Vec::new(alloc);
+    serve_routed(alloc, book, (first, second), &mut out)?;
+    Ok(out)
 }
 
 /// Whether a session of this text writes that.
@@ -54,6 +79,17 @@ pub fn answers_each(alloc: Global, book: &mut Book, cases: &[(&str, &str)]) -> R
         }
     }
     Ok(true)
+}
+
+/// Whether they do, and so many steps were made then.
+fn answers_by(
+    alloc: Global,
+    book: &mut Book,
+    cases: &[(&str, &str)],
+    steps: u64,
+) -> Result<bool, Fault> {
+    let answers = answers_each(alloc, book, cases)?;
+    Ok(answers && book.totals().steps == steps)
 }
 
 /// A registration of that body, a look at its lease, and what is never given.
@@ -87,8 +123,9 @@ fn cut_answers(alloc: Global, text: &[u8], at: usize, responses: &[u8]) -> Resul
         return Err(Fault::BadValue);
     };
     let mut book = opened(alloc)?;
-    let out = answered(alloc, &mut book, first, second)?;
-    Ok(out.as_slice() == responses)
+    let out = answered(alloc, &mut book, first, second);
+    drop(book);
+    Ok(out?.as_slice() == responses)
 }
 
 /// Whether each cut of the text gives a book that is just opened what the three requests are answered.
@@ -102,27 +139,35 @@ fn each_cut_answers(alloc: Global, text: &[u8]) -> Result<bool, Fault> {
     Ok(true)
 }
 
-#[test]
-fn a_registration_is_shown_however_it_is_cut(rt: HostRuntime) -> Result<(), Fail> {
-    let alloc = rt.alloc();
-    let sized = stream(alloc, &["Content-Length: 150\r\n\r\n", REGISTRATION])?;
-    assert!(rt; each_cut_answers(alloc, sized.as_bytes())?);
-    let chunked = stream(
-        alloc,
-        &[
-            "Transfer-Encoding: chunked\r\n\r\n96\r\n",
-            REGISTRATION,
-            "\r\n0\r\n\r\n",
-        ],
-    )?;
-    assert!(rt; each_cut_answers(alloc, chunked.as_bytes())?);
-    sessions_are_runs::<ListClock>();
-    Ok(())
+/// Whether a registration of that body is shown, wherever its text is cut.
+fn is_shown(alloc: Global, body: &[&str]) -> Result<bool, Fault> {
+    let text = stream(alloc, body)?;
+    each_cut_answers(alloc, text.as_bytes())
 }
 
 #[test]
-fn an_empty_registry_is_asked(rt: HostRuntime) -> Result<(), Fail> {
-    let alloc = rt.alloc();
+fn a_registration_is_shown_however_it_is_cut(rt: HostRuntime) {
+    let sized = ["Content-Length: 150\r\n\r\n", REGISTRATION];
+    assert!(rt; is_shown(rt.alloc(), sized.as_slice()) == Ok(true));
+    let chunked = [
+        "Transfer-Encoding: chunked\r\n\r\n96\r\n",
+        REGISTRATION,
+        "\r\n0\r\n\r\n",
+    ];
+    assert!(rt; is_shown(rt.alloc(), chunked.as_slice()) == Ok(true));
+    sessions_are_runs::<ListClock>();
+}
+
+/// Whether a book that is just opened answers so, with so many steps.
+fn opened_answers(alloc: Global, cases: &[(&str, &str)], steps: u64) -> Result<bool, Fault> {
+    let mut book = opened(alloc)?;
+    let answers = answers_by(alloc, &mut book, cases, steps);
+    drop(book);
+    answers
+}
+
+/// Whether an empty registry lists nobody, and refuses a registration of another application, a leave and a body that is too long.
+fn empty_answers(alloc: Global) -> Result<bool, Fault> {
     let registration = joined(
         alloc,
         &[
@@ -145,42 +190,70 @@ fn an_empty_registry_is_asked(rt: HostRuntime) -> Result<(), Fail> {
         ),
         (LONG, LONG_REFUSED),
     ];
-    let mut book = opened(alloc)?;
-    assert!(rt; answers_each(alloc, &mut book, cases.as_slice())?);
-    assert!(rt; book.totals().steps == 1);
+    opened_answers(alloc, cases.as_slice(), 1)
+}
+
+#[test]
+fn an_empty_registry_is_asked(rt: HostRuntime) {
+    assert!(rt; empty_answers(rt.alloc()) == Ok(true));
+}
+
+/// Registers the client at 1000.
+fn register(alloc: Global, book: &mut Book) -> Result<(), Fault> {
+    let text = stream(alloc, &["Content-Length: 150\r\n\r\n", REGISTRATION])?;
+    answered(alloc, book, text.as_bytes(), b"")?;
     Ok(())
 }
 
 /// A book in which the client was registered at 1000.
 pub fn registered(alloc: Global) -> Result<Book, Fault> {
-    let text = stream(alloc, &["Content-Length: 150\r\n\r\n", REGISTRATION])?;
     let mut book = opened(alloc)?;
-    answered(alloc, &mut book, text.as_bytes(), b"")?;
+    register(alloc, &mut book)?;
     Ok(book)
 }
 
-#[test]
-fn what_is_held_is_listed(rt: HostRuntime) -> Result<(), Fail> {
-    let alloc = rt.alloc();
+/// Whether it answers so, with so many steps.
+fn registered_answers(alloc: Global, cases: &[(&str, &str)], steps: u64) -> Result<bool, Fault> {
+    let mut book = registered(alloc)?;
+    let answers = answers_by(alloc, &mut book, cases, steps);
+    drop(book);
+    answers
+}
+
+/// All that is listed then.
+fn listed_all(alloc: Global) -> Result<String, AllocError> {
     let instance = &LISTED[12..344];
-    let all = joined(
+    joined(
         alloc,
         &[
             "HTTP/1.1 200 OK\r\nContent-Type: application/json\r\nContent-Length: 440\r\n\r\n{\"applications\":{\"application\":[{\"instance\":[",
             instance,
             "],\"name\":\"A\"}],\"apps__hashcode\":\"UP_1_\",\"versions__delta\":\"1\"}}",
         ],
-    )?;
-    let one = joined(
+    )
+}
+
+/// What is listed of the application.
+fn listed_of(alloc: Global) -> Result<String, AllocError> {
+    let instance = &LISTED[12..344];
+    joined(
         alloc,
         &[
             "HTTP/1.1 200 OK\r\nContent-Type: application/json\r\nContent-Length: 374\r\n\r\n{\"application\":{\"instance\":[",
             instance,
             "],\"name\":\"A\"}}",
         ],
-    )?;
-    let page =
-        "HTTP/1.1 200 OK\r\nContent-Type: text/plain; charset=utf-8\r\nContent-Length: 81\r\n\r\nheld 1\nexpected 0\nthreshold 0\nlast 0\npreservation on\npermitted no\nstatuses UP_1_\n";
+    )
+}
+
+/// The status page.
+const PAGE: &str =
+    "HTTP/1.1 200 OK\r\nContent-Type: text/plain; charset=utf-8\r\nContent-Length: 81\r\n\r\nheld 1\nexpected 0\nthreshold 0\nlast 0\npreservation on\npermitted no\nstatuses UP_1_\n";
+
+/// Whether these are answered.
+fn lists(alloc: Global) -> Result<bool, Fault> {
+    let all = listed_all(alloc)?;
+    let one = listed_of(alloc)?;
     let cases = [
         (
             "GET /eureka/apps/ HTTP/1.1\r\nHost: x\r\n\r\n",
@@ -190,11 +263,14 @@ fn what_is_held_is_listed(rt: HostRuntime) -> Result<(), Fail> {
             "GET /eureka/apps/A HTTP/1.1\r\nHost: x\r\n\r\n",
             one.as_str(),
         ),
-        ("GET /eureka/status HTTP/1.1\r\nHost: x\r\n\r\n", page),
+        ("GET /eureka/status HTTP/1.1\r\nHost: x\r\n\r\n", PAGE),
     ];
-    let mut book = registered(alloc)?;
-    assert!(rt; answers_each(alloc, &mut book, cases.as_slice())?);
-    Ok(())
+    registered_answers(alloc, cases.as_slice(), 1)
+}
+
+#[test]
+fn what_is_held_is_listed(rt: HostRuntime) {
+    assert!(rt; lists(rt.alloc()) == Ok(true));
 }
 
 const MISSING: &str = "HTTP/1.1 404 Not Found\r\nContent-Length: 0\r\n\r\n";
@@ -210,32 +286,46 @@ fn targeted(alloc: Global, book: &mut Book, target: &str, response: &str) -> Res
     answers(alloc, book, &text, response)
 }
 
-#[test]
-fn targets_are_read_as_clients_write_them(rt: HostRuntime) -> Result<(), Fail> {
-    let alloc = rt.alloc();
-    let cases = [
-        ("GET /eureka/apps/delta", FORBIDDEN),
-        ("GET /eureka/apps/%64elta", MISSING),
-        ("GET /eureka/apps/DELTA", MISSING),
-        ("PUT http://host/eureka/apps/A/i1", RENEWED),
-        ("PUT HTTPS://host:8761/eureka/v2/apps/a/i1/", RENEWED),
-        ("PUT /eureka/apps/%61/i%31", RENEWED),
-        ("PUT /eureka/apps/A/i1/other", MISSING),
-        ("PUT /other/apps/A/i1", MISSING),
-        ("PATCH /eureka/apps/A/i1", MISSING),
-        ("PUT /eureka/apps/A/i1?lastDirtyTimestamp=x", BAD_VALUE),
-        ("PUT /eureka/apps/A/i1?lastDirtyTimestamp=", RENEWED),
-        ("PUT /eureka/apps/A/i1/status?value=out_of_service", RENEWED),
-        ("PUT /eureka/apps/A/i1/status", BAD_VALUE),
-        ("DELETE /eureka/apps/A/i1/status?value=up", RENEWED),
-        ("DELETE /eureka/apps/A/i1", RENEWED),
-        ("DELETE /eureka/apps/A/i1", MISSING),
-    ];
-    let mut book = registered(alloc)?;
+/// Whether each request for a target alone, one after another, is answered by what stands beside it.
+fn targeted_each(alloc: Global, book: &mut Book, cases: &[(&str, &str)]) -> Result<bool, Fault> {
     for (target, response) in cases {
-        assert!(rt; targeted(alloc, &mut book, target, response)?);
+        if !targeted(alloc, book, target, response)? {
+            return Ok(false);
+        }
     }
-    Ok(())
+    Ok(true)
+}
+
+/// The same of a book in which the client was registered.
+fn registered_targeted(alloc: Global, cases: &[(&str, &str)]) -> Result<bool, Fault> {
+    let mut book = registered(alloc)?;
+    let answers = targeted_each(alloc, &mut book, cases);
+    drop(book);
+    answers
+}
+
+const TARGETS: [(&str, &str); 16] = [
+    ("GET /eureka/apps/delta", FORBIDDEN),
+    ("GET /eureka/apps/%64elta", MISSING),
+    ("GET /eureka/apps/DELTA", MISSING),
+    ("PUT http://host/eureka/apps/A/i1", RENEWED),
+    ("PUT HTTPS://host:8761/eureka/v2/apps/a/i1/", RENEWED),
+    ("PUT /eureka/apps/%61/i%31", RENEWED),
+    ("PUT /eureka/apps/A/i1/other", MISSING),
+    ("PUT /other/apps/A/i1", MISSING),
+    ("PATCH /eureka/apps/A/i1", MISSING),
+    ("PUT /eureka/apps/A/i1?lastDirtyTimestamp=x", BAD_VALUE),
+    ("PUT /eureka/apps/A/i1?lastDirtyTimestamp=", RENEWED),
+    ("PUT /eureka/apps/A/i1/status?value=out_of_service", RENEWED),
+    ("PUT /eureka/apps/A/i1/status", BAD_VALUE),
+    ("DELETE /eureka/apps/A/i1/status?value=up", RENEWED),
+    ("DELETE /eureka/apps/A/i1", RENEWED),
+    ("DELETE /eureka/apps/A/i1", MISSING),
+];
+
+#[test]
+fn targets_are_read_as_clients_write_them(rt: HostRuntime) {
+    assert!(rt; registered_targeted(rt.alloc(), TARGETS.as_slice()) == Ok(true));
 }
 
 /// What a look at the lease of the client is answered.
@@ -255,21 +345,28 @@ fn is_rolled(alloc: Global, book: &mut Book, now: Moment) -> bool {
         .is_ok()
 }
 
-/// A book whose journal is full.
-fn filled(alloc: Global) -> Result<Book, Fault> {
+/// Fills the journal of a book in which the client was registered.
+fn fill(alloc: Global, book: &mut Book) -> Result<(), Fault> {
     let now = Moment::new(0).ok_or(Fault::BadValue)?;
-    let mut book = registered(alloc)?;
     for _ in 1..MOST_ENTRIES {
-        if !is_rolled(alloc, &mut book, now) {
+        if !is_rolled(alloc, book, now) {
             return Err(Fault::BadValue);
         }
     }
-    Ok(book)
+    Ok(())
 }
 
-#[test]
-fn a_full_journal_is_told(rt: HostRuntime) -> Result<(), Fail> {
-    let alloc = rt.alloc();
+/// Whether that book answers so, with so many steps.
+fn filled_answers(alloc: Global, cases: &[(&str, &str)], steps: u64) -> Result<bool, Fault> {
+    let mut book = registered(alloc)?;
+    let filled = fill(alloc, &mut book);
+    let answers = answers_by(alloc, &mut book, cases, steps);
+    drop(book);
+    Ok(filled.is_ok() && answers?)
+}
+
+/// Whether it refuses a renewal, and shows the lease.
+fn refuses(alloc: Global) -> Result<bool, Fault> {
     let look = looked(alloc)?;
     let cases = [
         (
@@ -281,8 +378,10 @@ fn a_full_journal_is_told(rt: HostRuntime) -> Result<(), Fail> {
             look.as_str(),
         ),
     ];
-    let mut book = filled(alloc)?;
-    assert!(rt; answers_each(alloc, &mut book, cases.as_slice())?);
-    assert!(rt; book.totals().steps == 65_536);
-    Ok(())
+    filled_answers(alloc, cases.as_slice(), 65_536)
+}
+
+#[test]
+fn a_full_journal_is_told(rt: HostRuntime) {
+    assert!(rt; refuses(rt.alloc()) == Ok(true));
 }

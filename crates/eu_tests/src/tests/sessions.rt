@@ -12,7 +12,6 @@ use eu_session::{Desk, MAX_REQUESTS, SessionFault, serve_session};
 use eu_stream::{ReadFault, Sink, Source, WriteFault};
 use std::alloc::{AllocError, Global};
 use std::cell::RefCell;
-use std::test::Fail;
 
 /// What a client sends at least, with a status and a stamp.
 pub const REGISTRATION: &str =
@@ -157,7 +156,9 @@ impl Desk for Stored {
     fn ask(&mut self, alloc: Global, ask: Ask, moment: Moment) -> Result<Answer, Fault> {
         self.count = self.count.saturating_add(1);
         let kind = kind_of(&ask);
-        note_ask(&mut self.asked, ask, moment)?;
+        let noted = note_ask(&mut self.asked, &ask, moment);
+        drop(ask);
+        noted?;
         match self.faults.pop() {
             Some(fault) => Err(fault),
             None => found(alloc, kind),
@@ -191,8 +192,8 @@ fn found(alloc: Global, kind: Kind) -> Result<Answer, Fault> {
 }
 
 /// Writes an ask with its moment: a registration of a client, a look at a lease, or another.
-fn note_ask(out: &mut String, ask: Ask, moment: Moment) -> Result<(), AllocError> {
-    match &ask {
+fn note_ask(out: &mut String, ask: &Ask, moment: Moment) -> Result<(), AllocError> {
+    match ask {
         Ask::Do(
             Command::Register {
                 instance,
@@ -292,7 +293,11 @@ fn serve<R: Source>(
     writer: &mut Narrow,
 ) -> Result<u32, SessionFault> {
     match Routes::new(alloc) {
-        Ok(routes) => serve_session(alloc, &routes, desk, clock, reader, writer),
+        Ok(routes) => {
+            let served = serve_session(alloc, &routes, desk, clock, reader, writer);
+            drop(routes);
+            served
+        }
         Err(_error) => Err(SessionFault::OutOfMemory),
     }
 }
@@ -303,7 +308,13 @@ fn told(alloc: Global, text: &str) -> Result<String, Fault> {
     served(alloc, &mut Stored::of(alloc), &mut reader, usize::MAX)
 }
 
-/// The same where the text is cut, followed by the asks.
+/// Whether that is told of such a session.
+fn tells(alloc: Global, text: &str, session: &str) -> Result<bool, Fault> {
+    let told = told(alloc, text)?;
+    Ok(told.as_str() == session)
+}
+
+/// What is told where the text is cut, followed by the asks.
 fn cut(alloc: Global, text: &str, at: usize) -> Result<String, Fault> {
     let Some((first, second)) = text.as_bytes().split_at_checked(at) else {
         return Err(Fault::BadValue);
@@ -326,9 +337,8 @@ fn each_cut_tells(alloc: Global, text: &str, session: &str) -> Result<bool, Faul
     Ok(true)
 }
 
-#[test]
-fn any_cut_gives_the_same_session(rt: HostRuntime) -> Result<(), Fail> {
-    let alloc = rt.alloc();
+/// Whether a registration, a look at its lease and a request that is forbidden are the same session wherever they are cut.
+fn cuts_tell(alloc: Global) -> Result<bool, Fault> {
     let text = joined(
         alloc,
         &[
@@ -345,13 +355,16 @@ fn any_cut_gives_the_same_session(rt: HostRuntime) -> Result<(), Fail> {
             "HTTP/1.1 403 Forbidden\r\nContent-Length: 0\r\n\r\nregister 5 at 1000;A i1 at 1001;",
         ],
     )?;
-    assert!(rt; each_cut_tells(alloc, &text, &session)?);
-    Ok(())
+    each_cut_tells(alloc, &text, &session)
 }
 
 #[test]
-fn the_hundredth_request_is_the_last(rt: HostRuntime) -> Result<(), Fail> {
-    let alloc = rt.alloc();
+fn any_cut_gives_the_same_session(rt: HostRuntime) {
+    assert!(rt; cuts_tell(rt.alloc()) == Ok(true));
+}
+
+/// Whether a session of a request too many ends with the hundredth.
+fn hundred_end(alloc: Global) -> Result<bool, Fault> {
     let text = repeated(alloc, RENEWAL, MAX_REQUESTS + 1)?;
     let responses = repeated(alloc, RENEWED, 99)?;
     let session = joined(
@@ -362,76 +375,97 @@ fn the_hundredth_request_is_the_last(rt: HostRuntime) -> Result<(), Fail> {
             "HTTP/1.1 200 OK\r\nContent-Length: 0\r\nConnection: close\r\n\r\n",
         ],
     )?;
-    assert!(rt; told(alloc, &text)? == session);
-    Ok(())
+    tells(alloc, &text, &session)
 }
 
 #[test]
-fn a_session_ends(rt: HostRuntime) -> Result<(), Fail> {
-    let alloc = rt.alloc();
-    let heads = [
-        // with a request that closes it
-        (
-            "DELETE /eureka/apps/A/i1 HTTP/1.0\r\n\r\nPUT /eureka/apps/A/i1 HTTP/1.1\r\nHost: x\r\n\r\n",
-            "requests 1 asks 1 next 1001 HTTP/1.1 200 OK\r\nContent-Length: 0\r\nConnection: close\r\n\r\n",
-        ),
-        (
-            "DELETE /eureka/apps/A/i1 HTTP/1.1\r\nHost: x\r\nConnection: Close\r\n\r\nPUT /eureka/apps/A/i1 HTTP/1.1\r\nHost: x\r\n\r\n",
-            "requests 1 asks 1 next 1001 HTTP/1.1 200 OK\r\nContent-Length: 0\r\nConnection: close\r\n\r\n",
-        ),
-        // before a request
-        ("", "requests 0 asks 0 next 1000 "),
-        ("\r\n\r\n", "requests 0 asks 0 next 1000 "),
-        (
-            RENEWAL,
-            "requests 1 asks 1 next 1001 HTTP/1.1 200 OK\r\nContent-Length: 0\r\n\r\n",
-        ),
-    ];
-    for (text, session) in heads {
-        assert!(rt; told(alloc, text)?.as_str() == session);
+fn the_hundredth_request_is_the_last(rt: HostRuntime) {
+    assert!(rt; hundred_end(rt.alloc()) == Ok(true));
+}
+
+const ENDS: [(&str, &str); 5] = [
+    // with a request that closes it
+    (
+        "DELETE /eureka/apps/A/i1 HTTP/1.0\r\n\r\nPUT /eureka/apps/A/i1 HTTP/1.1\r\nHost: x\r\n\r\n",
+        "requests 1 asks 1 next 1001 HTTP/1.1 200 OK\r\nContent-Length: 0\r\nConnection: close\r\n\r\n",
+    ),
+    (
+        "DELETE /eureka/apps/A/i1 HTTP/1.1\r\nHost: x\r\nConnection: Close\r\n\r\nPUT /eureka/apps/A/i1 HTTP/1.1\r\nHost: x\r\n\r\n",
+        "requests 1 asks 1 next 1001 HTTP/1.1 200 OK\r\nContent-Length: 0\r\nConnection: close\r\n\r\n",
+    ),
+    // before a request
+    ("", "requests 0 asks 0 next 1000 "),
+    ("\r\n\r\n", "requests 0 asks 0 next 1000 "),
+    (
+        RENEWAL,
+        "requests 1 asks 1 next 1001 HTTP/1.1 200 OK\r\nContent-Length: 0\r\n\r\n",
+    ),
+];
+
+#[test]
+fn a_session_ends(rt: HostRuntime) {
+    for (text, session) in ENDS.as_slice() {
+        assert!(rt; tells(rt.alloc(), text, session) == Ok(true), "at {text}");
     }
-    Ok(())
 }
 
-#[test]
-fn a_framing_fault_counts_and_closes(rt: HostRuntime) -> Result<(), Fail> {
-    let alloc = rt.alloc();
+/// Whether a body that is too long between two renewals is the last request.
+fn counts_and_closes(alloc: Global) -> Result<bool, Fault> {
     let text = joined(alloc, &[RENEWAL, LONG, RENEWAL])?;
     let session = joined(
         alloc,
         &["requests 2 asks 1 next 1001 ", RENEWED, LONG_REFUSED],
     )?;
-    assert!(rt; told(alloc, &text)? == session);
-    Ok(())
+    tells(alloc, &text, &session)
 }
 
 #[test]
-fn a_fault_behind_the_framing_goes_on(rt: HostRuntime) -> Result<(), Fail> {
-    let alloc = rt.alloc();
-    let mut desk = Stored::of(alloc);
-    desk.faults.push(Fault::Full)?;
-    desk.faults.push(Fault::OutOfMemory)?;
+fn a_framing_fault_counts_and_closes(rt: HostRuntime) {
+    assert!(rt; counts_and_closes(rt.alloc()) == Ok(true));
+}
+
+/// A desk that has these faults, the last of them first.
+fn faulty(alloc: Global, faults: &[Fault]) -> Result<Stored, Fault> {
+    let faults = Vec::from_slice(alloc, faults)?;
+    Ok(Stored {
+        faults,
+        asked: String::new(alloc),
+        count: 0,
+    })
+}
+
+/// Whether that is told of a session of a text, whose desk has these faults, the last of them first.
+fn faults_tell(alloc: Global, faults: &[Fault], text: &str, session: &str) -> Result<bool, Fault> {
+    let mut desk = faulty(alloc, faults)?;
+    let mut reader = text.as_bytes();
+    let told = served(alloc, &mut desk, &mut reader, usize::MAX);
+    drop(desk);
+    Ok(told?.as_str() == session)
+}
+
+#[test]
+fn a_fault_behind_the_framing_goes_on(rt: HostRuntime) {
+    let faults = [Fault::Full, Fault::OutOfMemory];
     let text =
         "GET /eureka/peers HTTP/1.1\r\nHost: x\r\n\r\nPUT /eureka/apps/%FF/i1 HTTP/1.1\r\nHost: x\r\n\r\nPUT /eureka/apps/A/i1 HTTP/1.1\r\nHost: x\r\n\r\nPUT /eureka/apps/A/i1 HTTP/1.1\r\nHost: x\r\n\r\n";
-    let mut reader = text.as_bytes();
-    let told = served(alloc, &mut desk, &mut reader, usize::MAX)?;
-    assert!(rt;
-        told.as_str()
-            == "requests 4 asks 2 next 1002 HTTP/1.1 404 Not Found\r\nContent-Length: 0\r\n\r\nHTTP/1.1 400 Bad Request\r\nContent-Type: application/json\r\nContent-Length: 12\r\n\r\n{\"fault\":37}HTTP/1.1 503 Service Unavailable\r\nContent-Type: application/json\r\nContent-Length: 11\r\n\r\n{\"fault\":3}HTTP/1.1 503 Service Unavailable\r\nContent-Type: application/json\r\nContent-Length: 11\r\n\r\n{\"fault\":7}"
-    );
-    Ok(())
+    let session =
+        "requests 4 asks 2 next 1002 HTTP/1.1 404 Not Found\r\nContent-Length: 0\r\n\r\nHTTP/1.1 400 Bad Request\r\nContent-Type: application/json\r\nContent-Length: 12\r\n\r\n{\"fault\":37}HTTP/1.1 503 Service Unavailable\r\nContent-Type: application/json\r\nContent-Length: 11\r\n\r\n{\"fault\":3}HTTP/1.1 503 Service Unavailable\r\nContent-Type: application/json\r\nContent-Length: 11\r\n\r\n{\"fault\":7}";
+    assert!(rt; faults_tell(rt.alloc(), faults.as_slice(), text, session) == Ok(true));
 }
 
-#[test]
-fn a_reader_fails(rt: HostRuntime) -> Result<(), Fail> {
-    let alloc = rt.alloc();
+/// Whether a reader that fails within the second request ends the session.
+fn tells_of_the_reader(alloc: Global) -> Result<bool, Fault> {
     let mut desk = Stored::of(alloc);
     let text = joined(alloc, &[RENEWAL, "PUT /eureka/apps/A/i1 HTTP/1.1\r\n"])?;
     let session = joined(alloc, &["fault 40 asks 1 next 1001 ", RENEWED])?;
     let mut reader = Parts::failing(text.as_bytes());
     let told = served(alloc, &mut desk, &mut reader, usize::MAX)?;
-    assert!(rt; told == session);
-    Ok(())
+    Ok(told == session)
+}
+
+#[test]
+fn a_reader_fails(rt: HostRuntime) {
+    assert!(rt; tells_of_the_reader(rt.alloc()) == Ok(true));
 }
 
 /// Whether a session of the text has written that where the writer held so much, and failed.
@@ -456,13 +490,16 @@ fn fails_at_each(alloc: Global, text: &str, responses: &str) -> Result<bool, Fau
     Ok(true)
 }
 
-#[test]
-fn a_writer_fails(rt: HostRuntime) -> Result<(), Fail> {
-    let alloc = rt.alloc();
+/// Whether a writer that is full at any place of the responses ends the session.
+fn tells_of_the_writer(alloc: Global) -> Result<bool, Fault> {
     let text = joined(alloc, &[RENEWAL, LONG])?;
     let responses = joined(alloc, &[RENEWED, LONG_REFUSED])?;
-    assert!(rt; fails_at_each(alloc, &text, &responses)?);
-    Ok(())
+    fails_at_each(alloc, &text, &responses)
+}
+
+#[test]
+fn a_writer_fails(rt: HostRuntime) {
+    assert!(rt; tells_of_the_writer(rt.alloc()) == Ok(true));
 }
 
 #[test]
@@ -550,7 +587,8 @@ struct NotingDesk<'a> {
 impl Desk for NotingDesk<'_> {
     ghost asked = { λ _ _ _ _ _. Unit {0} };
 
-    fn ask(&mut self, _alloc: Global, _ask: Ask, _moment: Moment) -> Result<Answer, Fault> {
+    fn ask(&mut self, _alloc: Global, ask: Ask, _moment: Moment) -> Result<Answer, Fault> {
+        drop(ask);
         call(self.calls, "asked ");
         Ok(Answer::Did(Reply::NotFound))
     }
@@ -559,20 +597,19 @@ impl Desk for NotingDesk<'_> {
 /// Serves a session of these two texts, and notes the calls.
 fn serve_noting(
     alloc: Global,
+    routes: &Routes,
     calls: &RefCell<String>,
-    first: &[u8],
-    second: &[u8],
+    texts: (&[u8], &[u8]),
 ) -> Result<u32, Fault> {
-    let routes = Routes::new(alloc)?;
     let moment = Moment::new(7).ok_or(Fault::BadValue)?;
-    let parts = Parts::ending(first, second);
+    let parts = Parts::ending(texts.0, texts.1);
     let mut reader = NotingReader { calls, parts };
     let mut desk = NotingDesk { calls };
     let mut writer = NotingWriter { calls };
     let mut clock = NotingClock { calls, moment };
     match serve_session(
         alloc,
-        &routes,
+        routes,
         &mut desk,
         &mut clock,
         &mut reader,
@@ -583,16 +620,27 @@ fn serve_noting(
     }
 }
 
+/// The same by routes of its own.
+fn route_noting(
+    alloc: Global,
+    calls: &RefCell<String>,
+    texts: (&[u8], &[u8]),
+) -> Result<u32, Fault> {
+    let routes = Routes::new(alloc)?;
+    let served = serve_noting(alloc, &routes, calls, texts);
+    drop(routes);
+    served
+}
+
 #[test]
-fn calls_come_in_their_order(rt: HostRuntime) -> Result<(), Fail> {
+fn calls_come_in_their_order(rt: HostRuntime) {
     let alloc = rt.alloc();
     let calls = RefCell::new(String::new(alloc));
     let first = b"PUT /eureka/apps/A/i1 HTTP/1.1\r\nHost: x\r\nContent-Length: 4\r\n\r\nbo";
     let second = b"dyGET /eureka/status HTTP/1.1\r\nHost: x\r\n\r\n";
-    assert!(rt; serve_noting(alloc, &calls, first, second)? == 2);
+    assert!(rt; route_noting(alloc, &calls, (first, second)) == Ok(2));
     assert_eq!(rt;
         calls.into_inner().as_str(),
         "read read told asked write flush told asked asked write flush read "
     );
-    Ok(())
 }

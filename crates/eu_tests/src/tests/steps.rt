@@ -9,7 +9,26 @@ use eu_clock::{Chooser, FirstChooser, ListChooser};
 use eu_core::{Registry, Stepped};
 use eu_model::{Command, Reply, State};
 use std::alloc::{AllocError, Global};
-use std::test::Fail;
+
+/// What a registry is told.
+#[derive(Clone, Copy)]
+enum Step {
+    /// A client registers, with that status, stamp and duration.
+    Join(&'static str, Status, u64, u32),
+    /// A peer told of i1.
+    Adopt,
+    /// A peer renews i1, with a stamp or without.
+    Renew(Option<u64>),
+    /// The client i1 leaves.
+    Cancel,
+    /// An operator has an instance DOWN, with a stamp or without.
+    Down(&'static str, Option<u64>),
+    /// And takes that back of i1; it may be UP.
+    Up,
+    Roll,
+    Update,
+    Evict,
+}
 
 fn join(alloc: Global, id: &str, status: Status, dirty: u64, secs: u32) -> Result<Command, Fault>
     ensures { IfOk result (λ c. is_for_peers c ≡ false) }
@@ -72,6 +91,22 @@ fn up(alloc: Global) -> Result<Command, Fault>
     })
 }
 
+fn command(alloc: Global, step: Step) -> Result<Command, Fault>
+    ensures { IfOk result (λ c. is_for_peers c ≡ false) }
+{
+    match step {
+        Step::Join(id, status, dirty, secs) => join(alloc, id, status, dirty, secs),
+        Step::Adopt => adoption(alloc),
+        Step::Renew(stamp) => renewal(alloc, stamp),
+        Step::Cancel => cancel(alloc),
+        Step::Down(id, stamp) => down(alloc, id, stamp),
+        Step::Up => up(alloc),
+        Step::Roll => Ok(Command::Roll),
+        Step::Update => Ok(Command::Update),
+        Step::Evict => Ok(Command::Evict),
+    }
+}
+
 fn tell_copy(out: &mut String, held: &Instance) -> Result<(), AllocError> {
     out.push_str(held.status.name())?;
     push_numbers(out, [held.dirty, u64::from(held.secs)].as_slice())
@@ -84,32 +119,42 @@ fn tell_replies(out: &mut String, replies: &[Reply]) -> Result<(), AllocError> {
     Ok(())
 }
 
-/// Writes the replies, and of each copy status, stamp and duration.
-fn tell_step(out: &mut String, stepped: Stepped) -> Result<(), AllocError> {
-    tell_replies(out, stepped.replies.as_slice())?;
-    for held in &stepped.held {
+/// Writes of each copy status, stamp and duration.
+fn tell_copies(out: &mut String, copies: &[Instance]) -> Result<(), AllocError> {
+    for held in copies {
         tell_copy(out, held)?;
     }
+    Ok(())
+}
+
+/// Writes the replies, and the copies.
+fn tell_step(out: &mut String, stepped: &Stepped) -> Result<(), AllocError> {
+    tell_replies(out, stepped.replies.as_slice())?;
+    tell_copies(out, stepped.held.as_slice())?;
     out.push_str("; ")
 }
 
-fn tell_taken(out: &mut String, taken: Result<Stepped, Fault>) -> Result<(), Fault> {
+fn tell_taken(out: &mut String, taken: &Result<Stepped, Fault>) -> Result<(), Fault> {
     match taken {
         Ok(stepped) => Ok(tell_step(out, stepped)?),
-        Err(fault) => Err(fault),
+        Err(fault) => Err(*fault),
     }
 }
 
-fn taken<C: Chooser>(
+fn take<C: Chooser>(
     alloc: Global,
+    out: &mut String,
     registry: &mut Registry,
     now: Moment,
-    command: Command,
+    command: &Command,
     chooser: &mut C,
-) -> Result<Stepped, Fault>
-    requires { is_for_peers command ≡ false }
+) -> Result<(), Fault>
+    requires { is_for_peers command.now ≡ false }
 {
-    registry.step(alloc, &command, now, 2, 1, chooser)
+    let taken = registry.step(alloc, command, now, 2, 1, chooser);
+    let told = tell_taken(out, &taken);
+    drop(taken);
+    told
 }
 
 /// One step with two replies and one copy, as words.
@@ -118,28 +163,23 @@ fn go<C: Chooser>(
     out: &mut String,
     registry: &mut Registry,
     now: Moment,
-    command: Result<Command, Fault>,
+    step: Step,
     chooser: &mut C,
-) -> Result<(), Fault>
-    requires { IfOk command (λ c. is_for_peers c ≡ false) }
-{
-    match command {
-        Ok(command) => tell_taken(out, taken(alloc, registry, now, command, chooser)),
-        Err(fault) => Err(fault),
-    }
+) -> Result<(), Fault> {
+    let command = command(alloc, step)?;
+    let told = take(alloc, out, registry, now, &command, chooser);
+    drop(command);
+    told
 }
 
-/// The same at moment 0.
-fn first(
-    alloc: Global,
-    out: &mut String,
-    registry: &mut Registry,
-    command: Result<Command, Fault>,
-) -> Result<(), Fault>
-    requires { IfOk command (λ c. is_for_peers c ≡ false) }
-{
-    let now = Moment::new(0).unwrap();
-    go(alloc, out, registry, now, command, &mut FirstChooser)
+/// What comes of each step at moment 0, as words.
+fn told(alloc: Global, registry: &mut Registry, steps: &[Step]) -> Result<String, Fault> {
+    let now = at(0)?;
+    let mut out = String::new(alloc);
+    for step in steps {
+        go(alloc, &mut out, registry, now, *step, &mut FirstChooser)?;
+    }
+    Ok(out)
 }
 
 fn opened(alloc: Global, preservation: bool, percent: u32) -> Result<Registry, Fault> {
@@ -147,91 +187,118 @@ fn opened(alloc: Global, preservation: bool, percent: u32) -> Result<Registry, F
     Ok(Registry::open(alloc, config, 1))
 }
 
-#[test]
-fn a_newcomer_meets_a_greater_stamp(rt: HostRuntime) -> Result<(), Fail> {
-    let alloc = rt.alloc();
-    let mut registry = opened(alloc, true, 85)?;
-    let mut out = String::new(alloc);
-    let command = join(alloc, "i1", Status::Up, 5, 90);
-    first(alloc, &mut out, &mut registry, command)?;
-    first(alloc, &mut out, &mut registry, renewal(alloc, Some(3)))?;
-    let command = join(alloc, "i1", Status::Down, 3, 60);
-    first(alloc, &mut out, &mut registry, command)?;
-    assert_eq!(rt;
-        out.as_str(),
-        "new new UP:5:90; conflict=5 conflict=5 UP:5:90; again again UP:5:60; "
-    );
-    Ok(())
+/// Whether that comes of steps in a registry that is opened at that percentage.
+fn tells(alloc: Global, percent: u32, steps: &[Step], words: &str) -> Result<bool, Fault> {
+    let mut registry = opened(alloc, true, percent)?;
+    let told = told(alloc, &mut registry, steps);
+    drop(registry);
+    Ok(told?.as_str() == words)
 }
 
-#[test]
-fn copies_are_of_the_status_after(rt: HostRuntime) -> Result<(), Fail> {
-    let alloc = rt.alloc();
-    let mut registry = opened(alloc, true, 85)?;
-    let mut out = String::new(alloc);
-    let command = join(alloc, "i1", Status::Up, 5, 90);
-    first(alloc, &mut out, &mut registry, command)?;
-    first(alloc, &mut out, &mut registry, down(alloc, "i1", Some(9)))?;
-    first(alloc, &mut out, &mut registry, up(alloc))?;
-    assert_eq!(rt;
-        out.as_str(),
-        "new new UP:5:90; done done DOWN:9:90; done done UP:9:90; "
-    );
-    Ok(())
-}
+const NEWCOMER: [Step; 3] = [
+    Step::Join("i1", Status::Up, 5, 90),
+    Step::Renew(Some(3)),
+    Step::Join("i1", Status::Down, 3, 60),
+];
 
 #[test]
-fn nothing_is_copied_of_nobody(rt: HostRuntime) -> Result<(), Fail> {
-    let alloc = rt.alloc();
-    let mut registry = opened(alloc, true, 85)?;
-    let mut out = String::new(alloc);
-    first(alloc, &mut out, &mut registry, adoption(alloc))?;
-    first(alloc, &mut out, &mut registry, cancel(alloc))?;
-    first(alloc, &mut out, &mut registry, renewal(alloc, None))?;
-    assert_eq!(rt; out.as_str(), "new new UP:10:30; done done ; none none ; ");
-    Ok(())
+fn a_newcomer_meets_a_greater_stamp(rt: HostRuntime) {
+    let words = "new new UP:5:90; conflict=5 conflict=5 UP:5:90; again again UP:5:60; ";
+    assert!(rt; tells(rt.alloc(), 85, NEWCOMER.as_slice(), words) == Ok(true));
 }
+
+const STATUSES: [Step; 3] = [
+    Step::Join("i1", Status::Up, 5, 90),
+    Step::Down("i1", Some(9)),
+    Step::Up,
+];
 
 #[test]
-fn minutes_and_updates_are_steps(rt: HostRuntime) -> Result<(), Fail> {
-    let alloc = rt.alloc();
-    let mut registry = opened(alloc, true, 50)?;
-    let mut out = String::new(alloc);
-    let command = join(alloc, "i1", Status::Up, 5, 90);
-    first(alloc, &mut out, &mut registry, command)?;
-    first(alloc, &mut out, &mut registry, renewal(alloc, None))?;
-    first(alloc, &mut out, &mut registry, Ok(Command::Roll))?;
-    first(alloc, &mut out, &mut registry, Ok(Command::Update))?;
-    assert_eq!(rt;
-        out.as_str(),
-        "new new UP:5:90; done done UP:5:90; last=1 last=1 ; expected=2 expected=2 ; "
-    );
-    Ok(())
+fn copies_are_of_the_status_after(rt: HostRuntime) {
+    let words = "new new UP:5:90; done done DOWN:9:90; done done UP:9:90; ";
+    assert!(rt; tells(rt.alloc(), 85, STATUSES.as_slice(), words) == Ok(true));
 }
 
-/// A pass over three leases that have expired, of which all may go.
-fn passes<C: Chooser>(alloc: Global, chooser: &mut C) -> Result<String, Fault> {
-    let (start, end) = (at(0)?, at(200_000)?);
-    let mut registry = opened(alloc, false, 0)?;
+const NOBODY: [Step; 3] = [Step::Adopt, Step::Cancel, Step::Renew(None)];
+
+#[test]
+fn nothing_is_copied_of_nobody(rt: HostRuntime) {
+    let words = "new new UP:10:30; done done ; none none ; ";
+    assert!(rt; tells(rt.alloc(), 85, NOBODY.as_slice(), words) == Ok(true));
+}
+
+const MINUTE: [Step; 4] = [
+    Step::Join("i1", Status::Up, 5, 90),
+    Step::Renew(None),
+    Step::Roll,
+    Step::Update,
+];
+
+#[test]
+fn minutes_and_updates_are_steps(rt: HostRuntime) {
+    let words = "new new UP:5:90; done done UP:5:90; last=1 last=1 ; expected=2 expected=2 ; ";
+    assert!(rt; tells(rt.alloc(), 50, MINUTE.as_slice(), words) == Ok(true));
+}
+
+/// Three clients register for 90 seconds.
+fn join_three<C: Chooser>(
+    alloc: Global,
+    registry: &mut Registry,
+    chooser: &mut C,
+) -> Result<(), Fault> {
+    let start = at(0)?;
     let mut out = String::new(alloc);
-    for id in ["i3", "i1", "i2"].as_slice() {
-        let command = join(alloc, id, Status::Up, 0, 90);
-        go(alloc, &mut out, &mut registry, start, command, chooser)?;
+    for id in ["i3", "i1", "i2"] {
+        let step = Step::Join(id, Status::Up, 0, 90);
+        go(alloc, &mut out, registry, start, step, chooser)?;
     }
-    out.clear();
-    let command = Ok(Command::Evict);
-    go(alloc, &mut out, &mut registry, end, command, chooser)?;
+    Ok(())
+}
+
+/// What comes of a pass, as words.
+fn pass<C: Chooser>(
+    alloc: Global,
+    registry: &mut Registry,
+    chooser: &mut C,
+) -> Result<String, Fault> {
+    let end = at(200_000)?;
+    let mut out = String::new(alloc);
+    go(alloc, &mut out, registry, end, Step::Evict, chooser)?;
     Ok(out)
 }
 
+/// The same over three leases that have expired, of which all may go.
+fn passes<C: Chooser>(
+    alloc: Global,
+    registry: &mut Registry,
+    chooser: &mut C,
+) -> Result<String, Fault> {
+    join_three(alloc, registry, chooser)?;
+    pass(alloc, registry, chooser)
+}
+
+/// Whether that comes of such a pass.
+fn passes_tell<C: Chooser>(alloc: Global, chooser: &mut C, words: &str) -> Result<bool, Fault> {
+    let mut registry = opened(alloc, false, 0)?;
+    let told = passes(alloc, &mut registry, chooser);
+    drop(registry);
+    Ok(told?.as_str() == words)
+}
+
+/// The same where these are drawn.
+fn draws_tell(alloc: Global, draws: &[u64], words: &str) -> Result<bool, Fault> {
+    let mut chooser = ListChooser::new(Vec::from_slice(alloc, draws)?);
+    let tells = passes_tell(alloc, &mut chooser, words);
+    drop(chooser);
+    tells
+}
+
 #[test]
-fn each_reply_tells_the_victims(rt: HostRuntime) -> Result<(), Fail> {
-    let in_order = passes(rt.alloc(), &mut FirstChooser)?;
-    assert_eq!(rt; in_order.as_str(), "evicted-i1-i2-i3 evicted-i1-i2-i3 ; ");
-    let words = Vec::from_slice(rt.alloc(), [1u64, 1].as_slice())?;
-    let drawn = passes(rt.alloc(), &mut ListChooser::new(words))?;
-    assert_eq!(rt; drawn.as_str(), "evicted-i2-i3-i1 evicted-i2-i3-i1 ; ");
-    Ok(())
+fn each_reply_tells_the_victims(rt: HostRuntime) {
+    let in_order = "evicted-i1-i2-i3 evicted-i1-i2-i3 ; ";
+    assert!(rt; passes_tell(rt.alloc(), &mut FirstChooser, in_order) == Ok(true));
+    let drawn = "evicted-i2-i3-i1 evicted-i2-i3-i1 ; ";
+    assert!(rt; draws_tell(rt.alloc(), [1u64, 1].as_slice(), drawn) == Ok(true));
 }
 
 fn tell_rows(out: &mut String, rows: &[(Id, Status)]) -> Result<(), AllocError> {
@@ -256,24 +323,39 @@ fn tell_state(out: &mut String, state: &State) -> Result<(), AllocError> {
 
 /// What a registry is as plain data.
 fn plain(alloc: Global, registry: &Registry) -> Result<String, Fault> {
-    let mut out = String::new(alloc);
     let state = registry.plain(alloc)?;
-    tell_state(&mut out, &state)?;
+    let mut out = String::new(alloc);
+    let told = tell_state(&mut out, &state);
+    drop(state);
+    told?;
     Ok(out)
 }
 
-#[test]
-fn a_registry_is_plain_data(rt: HostRuntime) -> Result<(), Fail> {
-    let alloc = rt.alloc();
+/// The same after these steps.
+fn told_plain(alloc: Global, registry: &mut Registry, steps: &[Step]) -> Result<String, Fault> {
+    let words = told(alloc, registry, steps)?;
+    drop(words);
+    plain(alloc, registry)
+}
+
+/// Whether that is what a registry is after these steps.
+fn is_plainly(alloc: Global, steps: &[Step], words: &str) -> Result<bool, Fault> {
     let mut registry = opened(alloc, true, 85)?;
-    let mut out = String::new(alloc);
-    for id in ["i2", "i1"].as_slice() {
-        let command = join(alloc, id, Status::Up, 5, 90);
-        first(alloc, &mut out, &mut registry, command)?;
-        first(alloc, &mut out, &mut registry, down(alloc, id, None))?;
-    }
-    first(alloc, &mut out, &mut registry, renewal(alloc, None))?;
-    let plain = plain(alloc, &registry)?;
-    assert_eq!(rt; plain.as_str(), ":3:0:1 i1 i2 i1=DOWN i2=DOWN");
-    Ok(())
+    let plain = told_plain(alloc, &mut registry, steps);
+    drop(registry);
+    Ok(plain?.as_str() == words)
+}
+
+const OVERRIDDEN: [Step; 5] = [
+    Step::Join("i2", Status::Up, 5, 90),
+    Step::Down("i2", None),
+    Step::Join("i1", Status::Up, 5, 90),
+    Step::Down("i1", None),
+    Step::Renew(None),
+];
+
+#[test]
+fn a_registry_is_plain_data(rt: HostRuntime) {
+    let words = ":3:0:1 i1 i2 i1=DOWN i2=DOWN";
+    assert!(rt; is_plainly(rt.alloc(), OVERRIDDEN.as_slice(), words) == Ok(true));
 }

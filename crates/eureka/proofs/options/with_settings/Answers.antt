@@ -1,7 +1,7 @@
 -- Each argument is added with its rule, and none is global
-use Rattle.std.proofs.Common.{rules, refl, ap₂, codes, pos, ◌≡◌, ◌∙◌, ◌||◌, false}
+use Rattle.std.proofs.Common.{refl, ap₂, codes, pos, ◌≡◌, ◌∙◌, ◌||◌, false}
 use Rattle.std.proofs.lemmas.Result.{IfOk-weaker}
-use Rattle.clap.specs.Words.{rule_of, app_of, with_rule}
+use Rattle.clap.specs.Words.{rule_of, with_rule}
 use Rattle.clap.specs.declared.builder.value_parser.ValueParser.TheVariants.{Signed}
 use Rattle.eureka.specs.Options.{option_rule, IsSwitchParser}
 use Rattle.eureka.proofs.options.with_settings.Goals as goal

@@ -1,0 +1,18 @@
+-- Which of this crate's values may go to another thread, for `search`.
+use denote.Param.Send.{IsSend, sendable}
+use Rattle.std.proofs.Crossing as heap
+use Rattle.std.proofs.MapsCrossing as maps
+use Rattle.serde_json.proofs.value.Value.TheLaws.TheKnot as value
+use Rattle.eu_base.specs.contracts.instances.Instance as instance
+use Rattle.eu_base.specs.contracts.rest.Rest as rest
+use Rattle.eu_base.specs.contracts.tasks.Task as task
+
+Rest-send : IsSend rest.the_field.row
+Rest-send = search (sendable, heap.crosses, maps.crosses, value.send-Value) depth 40 fits 20000
+
+pub Instance-send : IsSend instance.the_field.row
+Instance-send = search (Rest-send, sendable, heap.crosses, maps.crosses) depth 40 fits 20000
+
+-- as an element of a list
+pub Task-send : IsSend task.the_row
+Task-send = search (Instance-send, sendable, heap.crosses, maps.crosses) depth 40 fits 20000

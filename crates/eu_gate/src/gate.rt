@@ -1,0 +1,41 @@
+//! Gates: what workers pass before they go on.
+
+/// The number of the evictor. Session workers have the numbers 1 to 16.
+pub const EVICTOR: u32 = 17;
+
+/// The number of the bucket's worker.
+pub const BUCKET: u32 = 18;
+
+/// The number of the threshold's worker.
+pub const THRESHOLD: u32 = 19;
+
+/// The number of the replicator of peer 0. That of peer `p` is greater by `p`.
+pub const FIRST_REPLICATOR: u32 = 20;
+
+/// Where a worker stands.
+#[derive(Clone, Copy, Debug, PartialEq, Eq)]
+pub enum Point {
+    /// Before a turn.
+    Turn,
+    /// Before a read of a connection.
+    Read,
+    /// Before the flush of a response, which is written.
+    Replied,
+}
+
+/// What a gate says.
+#[derive(Clone, Copy, Debug, PartialEq, Eq)]
+pub enum Go {
+    /// Go on.
+    On,
+    /// Go no further. Before a turn it ends the worker, before a read it is a failure of that read, and before a flush it changes
+    /// nothing.
+    Stop,
+}
+
+/// What the workers of a server pass before they go on. So a server paces its timers and stops its workers, and a test holds them
+/// where it wants them.
+pub trait Gate {
+    /// Lets the worker of that number go on from a point, or stops it. It may take as long as it wants.
+    fn pass(&self, who: u32, point: Point) -> Go;
+}

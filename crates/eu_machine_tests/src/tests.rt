@@ -1,0 +1,10 @@
+//! The tests, by the crates that they are of.
+mod base;
+mod choice;
+mod clock;
+mod lease;
+mod meter;
+mod model;
+mod outbox;
+mod page;
+mod store;

@@ -1,0 +1,109 @@
+//! Hash codes and status pages, with what they say worked out by hand.
+use eu_base::{App, Fault, Id, Instance, Key, Rest, Status};
+use eu_model::{Counts, Listed, Times};
+use eu_page::{hash_code, page_of, status_page};
+use std::alloc::Global;
+
+fn instance(alloc: Global, status: Status) -> Result<Instance, Fault> {
+    let app = App::read(alloc, "a")?;
+    let id = Id::read(alloc, "i1")?;
+    let rest = Rest::of_host(alloc, "h")?;
+    Ok(Instance {
+        key: Key { app, id },
+        status,
+        overridden: Status::Unknown,
+        dirty: 0,
+        secs: 90,
+        interval: 30,
+        rest,
+    })
+}
+
+/// Leases with these statuses.
+fn listed(alloc: Global, statuses: &[Status]) -> Result<Vec<Listed>, Fault> {
+    let mut held = Vec::new(alloc);
+    for status in statuses {
+        let instance = instance(alloc, *status)?;
+        held.push(Listed {
+            instance,
+            times: Times {
+                registered: 0,
+                updated: 0,
+                up: 0,
+            },
+        })?;
+    }
+    Ok(held)
+}
+
+/// Whether leases with these statuses have that hash code.
+fn has_code(alloc: Global, statuses: &[Status], code: &str) -> Result<bool, Fault> {
+    let held = listed(alloc, statuses)?;
+    let told = hash_code(alloc, held.as_slice());
+    drop(held);
+    Ok(told?.as_str() == code)
+}
+
+#[test]
+fn statuses_stand_in_the_order_of_their_bytes(rt: HostRuntime) {
+    let statuses = [
+        Status::Up,
+        Status::Unknown,
+        Status::Up,
+        Status::Starting,
+        Status::OutOfService,
+        Status::Down,
+        Status::Up,
+    ];
+    let code = "DOWN_1_OUT_OF_SERVICE_1_STARTING_1_UNKNOWN_1_UP_3_";
+    assert!(rt; has_code(rt.alloc(), statuses.as_slice(), code) == Ok(true));
+}
+
+#[test]
+fn a_status_that_nobody_has_is_left_out(rt: HostRuntime) {
+    let statuses = [Status::OutOfService; 12];
+    let code = has_code(rt.alloc(), statuses.as_slice(), "OUT_OF_SERVICE_12_");
+    assert!(rt; code == Ok(true));
+    assert!(rt; has_code(rt.alloc(), &[], "") == Ok(true));
+}
+
+/// Whether the page of leases with these statuses is that text.
+fn is_page(alloc: Global, counts: &Counts, statuses: &[Status], text: &str) -> Result<bool, Fault> {
+    let held = listed(alloc, statuses)?;
+    let page = page_of(alloc, counts, held.as_slice());
+    drop(held);
+    let page = page?;
+    let told = status_page(alloc, &page);
+    drop(page);
+    Ok(told?.as_str() == text)
+}
+
+#[test]
+fn a_page_has_seven_lines(rt: HostRuntime) {
+    let counts = Counts {
+        held: 1,
+        expected: 2,
+        threshold: 3,
+        last: 0,
+        permitted: false,
+        preservation: true,
+    };
+    let text =
+        "held 1\nexpected 2\nthreshold 3\nlast 0\npreservation on\npermitted no\nstatuses UP_1_\n";
+    assert!(rt; is_page(rt.alloc(), &counts, &[Status::Up], text) == Ok(true));
+}
+
+#[test]
+fn the_page_of_nothing_ends_with_a_space(rt: HostRuntime) {
+    let counts = Counts {
+        held: 0,
+        expected: 18_446_744_073_709_551_615,
+        threshold: 0,
+        last: 7,
+        permitted: true,
+        preservation: false,
+    };
+    let text =
+        "held 0\nexpected 18446744073709551615\nthreshold 0\nlast 7\npreservation off\npermitted yes\nstatuses \n";
+    assert!(rt; is_page(rt.alloc(), &counts, &[], text) == Ok(true));
+}

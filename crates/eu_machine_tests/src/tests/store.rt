@@ -1,0 +1,296 @@
+//! Leases, with what they answer worked out by hand.
+use eu_base::{App, Fault, Id, Instance, Key, Moment, Rest, Stamp, Status};
+use eu_lease::Lease;
+use eu_model::Listed;
+use eu_store::{Held, Leases};
+use std::alloc::{AllocError, Global};
+use std::test::Fail;
+
+fn at(ms: u64) -> Result<Moment, Fault> {
+    Moment::new(ms).ok_or(Fault::BadStamp)
+}
+
+fn key(alloc: Global, app: &str, id: &str) -> Result<Key, Fault> {
+    let app = App::read(alloc, app)?;
+    let id = Id::read(alloc, id)?;
+    Ok(Key { app, id })
+}
+
+/// The key of that id, of application A.
+fn own(alloc: Global, id: &str) -> Result<Key, Fault> {
+    key(alloc, "A", id)
+}
+
+/// A lease of 10 s that is made at 0, of an instance that is UP.
+fn held(alloc: Global, id: &str) -> Result<Held, Fault> {
+    let lease = Lease::fresh(at(0)?, 10);
+    let key = own(alloc, id)?;
+    let rest = Rest::of_host(alloc, "h")?;
+    let instance = Instance {
+        key,
+        status: Status::Up,
+        overridden: Status::Unknown,
+        dirty: 7,
+        secs: 10,
+        interval: 30,
+        rest,
+    };
+    Ok(Held::new(instance, lease))
+}
+
+/// Puts such a lease under that key.
+fn put(alloc: Global, leases: &mut Leases, key: Key, id: &str) -> Result<(), Fault> {
+    leases.prepare_put(&key)?;
+    let held = held(alloc, id)?;
+    drop(leases.put_prepared(key, held));
+    Ok(())
+}
+
+fn put_each(alloc: Global, leases: &mut Leases, ids: &[&str]) -> Result<(), Fault> {
+    for id in ids {
+        put(alloc, leases, own(alloc, id)?, id)?;
+    }
+    Ok(())
+}
+
+/// Leases under these ids.
+fn leases(alloc: Global, ids: &[&str]) -> Result<Leases, Fault> {
+    let mut leases = Leases::new(alloc);
+    put_each(alloc, &mut leases, ids)?;
+    Ok(leases)
+}
+
+/// Whether there is something, which is dropped.
+fn is_there<T: Drop>(found: Option<T>) -> bool {
+    found.is_some()
+}
+
+/// Whether i1 can be taken, once and again, and how many leases are left.
+fn taken_twice(alloc: Global, leases: &mut Leases) -> Result<(bool, bool, usize), Fault> {
+    let first = own(alloc, "i1")?;
+    let taken = is_there(leases.take(&first));
+    let again = is_there(leases.take(&first));
+    Ok((taken, again, leases.len()))
+}
+
+#[test]
+fn a_lease_is_put_and_taken(rt: HostRuntime) -> Result<(), Fail> {
+    let mut leases = leases(rt.alloc(), &["i1", "i2"])?;
+    let len = leases.len();
+    let left = taken_twice(rt.alloc(), &mut leases);
+    drop(leases);
+    assert_eq!(rt; len, 2);
+    assert!(rt; left == Ok((true, false, 1)));
+    Ok(())
+}
+
+/// Whether there is an i1 to replace.
+fn replaced(alloc: Global, leases: &mut Leases) -> Result<bool, Fault> {
+    let again = held(alloc, "i1")?;
+    Ok(is_there(leases.replace(again)))
+}
+
+#[test]
+fn a_lease_is_put_again(rt: HostRuntime) -> Result<(), Fail> {
+    let mut leases = leases(rt.alloc(), &["i1"])?;
+    let replaced = replaced(rt.alloc(), &mut leases);
+    let len = leases.len();
+    drop(leases);
+    assert!(rt; replaced == Ok(true));
+    assert_eq!(rt; len, 1);
+    Ok(())
+}
+
+/// The last update of a lease.
+fn updated(leases: &Leases, key: &Key) -> Option<u64> {
+    match leases.get(key) {
+        Some(held) => Some(held.times().updated),
+        None => None,
+    }
+}
+
+/// The last update of i1, where it is renewed and marked up at 5, and then renewed with other statuses.
+fn renewed(alloc: Global, leases: &mut Leases) -> Result<Option<u64>, Fault> {
+    let now = at(5)?;
+    let first = own(alloc, "i1")?;
+    if !leases.renew(&first, now) || !leases.mark_up(&first, now) {
+        return Ok(None);
+    }
+    let updated = updated(leases, &first);
+    if !leases.renew_as(&first, now, Status::Down, Status::Down, None) {
+        return Ok(None);
+    }
+    Ok(updated)
+}
+
+#[test]
+fn a_lease_is_renewed(rt: HostRuntime) -> Result<(), Fail> {
+    let mut leases = leases(rt.alloc(), &["i1"])?;
+    let updated = renewed(rt.alloc(), &mut leases);
+    drop(leases);
+    assert!(rt; updated == Ok(Some(10_005)));
+    Ok(())
+}
+
+/// The stamp and the duration of a held instance.
+fn stamp(leases: &Leases, key: &Key) -> Option<(u64, u32)> {
+    match leases.get(key) {
+        Some(held) => Some((held.instance().dirty, held.instance().secs)),
+        None => None,
+    }
+}
+
+/// The same of i1, when it is DOWN with that stamp.
+fn amended(alloc: Global, leases: &mut Leases, dirty: u64) -> Result<Option<(u64, u32)>, Fault> {
+    let first = own(alloc, "i1")?;
+    if !leases.amend(&first, Status::Down, Status::Down, Stamp::new(dirty)) {
+        return Ok(None);
+    }
+    Ok(stamp(leases, &first))
+}
+
+#[test]
+fn a_greater_stamp_is_taken(rt: HostRuntime) -> Result<(), Fail> {
+    let mut leases = leases(rt.alloc(), &["i1"])?;
+    let less = amended(rt.alloc(), &mut leases, 6);
+    let greater = amended(rt.alloc(), &mut leases, 8);
+    drop(leases);
+    assert!(rt; less == Ok(Some((7, 10))));
+    assert!(rt; greater == Ok(Some((8, 10))));
+    Ok(())
+}
+
+/// i1 with the stamp 3, for 30 s.
+fn newcomer(alloc: Global) -> Result<Instance, Fault> {
+    let key = own(alloc, "i1")?;
+    let rest = Rest::of_host(alloc, "h")?;
+    Ok(Instance {
+        key,
+        status: Status::Up,
+        overridden: Status::Unknown,
+        dirty: 3,
+        secs: 30,
+        interval: 30,
+        rest,
+    })
+}
+
+/// The stamp and the duration of i1, when it begins anew.
+fn rejoined(alloc: Global, leases: &mut Leases) -> Result<Option<(u64, u32)>, Fault> {
+    let now = at(4)?;
+    let newcomer = newcomer(alloc)?;
+    let lease = Lease::fresh(now, newcomer.secs);
+    let found = leases.rejoin(&newcomer, Status::OutOfService, Status::Down, lease);
+    let told = stamp(leases, &newcomer.key);
+    drop(newcomer);
+    Ok(if found { told } else { None })
+}
+
+#[test]
+fn a_held_lease_begins_anew(rt: HostRuntime) -> Result<(), Fail> {
+    let mut leases = leases(rt.alloc(), &["i1"])?;
+    let told = rejoined(rt.alloc(), &mut leases);
+    drop(leases);
+    assert!(rt; told == Ok(Some((7, 30))));
+    Ok(())
+}
+
+/// The ids of the leases that have expired at a moment, each before a comma.
+fn expired(alloc: Global, leases: &Leases, ms: u64) -> Result<String, Fault> {
+    let keys = leases.expired_keys(alloc, at(ms)?, 0)?;
+    let mut told = String::new(alloc);
+    for key in &keys {
+        told.push_str(key.id.as_str())?;
+        told.push_str(",")?;
+    }
+    Ok(told)
+}
+
+#[test]
+fn expired_keys_come_in_order(rt: HostRuntime) -> Result<(), Fail> {
+    let leases = leases(rt.alloc(), &["i3", "i1", "i2"])?;
+    let told = expired(rt.alloc(), &leases, 10_001);
+    drop(leases);
+    assert_eq!(rt; told?.as_str(), "i1,i2,i3,");
+    Ok(())
+}
+
+#[test]
+fn none_has_expired_at_its_deadline(rt: HostRuntime) -> Result<(), Fail> {
+    let leases = leases(rt.alloc(), &["i1"])?;
+    let told = expired(rt.alloc(), &leases, 10_000);
+    drop(leases);
+    assert_eq!(rt; told?.as_str(), "");
+    Ok(())
+}
+
+/// The ids, statuses and last updates of a listing.
+fn told(alloc: Global, listing: &[Listed]) -> Result<String, AllocError> {
+    let mut told = String::new(alloc);
+    for listed in listing {
+        let id = listed.instance.key.id.as_str();
+        let status = listed.instance.status.name();
+        let updated = listed.times.updated;
+        write!(told, "{id} {status} {updated} ")?;
+    }
+    Ok(told)
+}
+
+/// Whether that is told of everything that is held.
+fn lists(alloc: Global, leases: &Leases, text: &str) -> Result<bool, Fault> {
+    let listing = leases.listed(alloc, None)?;
+    Ok(told(alloc, &listing)?.as_str() == text)
+}
+
+/// Whether that is told of what is held of that application.
+fn lists_of(alloc: Global, leases: &Leases, app: &str, text: &str) -> Result<bool, Fault> {
+    let app = App::read(alloc, app)?;
+    let listing = leases.listed(alloc, Some(&app))?;
+    Ok(told(alloc, &listing)?.as_str() == text)
+}
+
+/// Renews i3 at 5, and puts it DOWN.
+fn put_down(alloc: Global, leases: &mut Leases) -> Result<bool, Fault> {
+    let now = at(5)?;
+    let third = own(alloc, "i3")?;
+    Ok(leases.renew_as(&third, now, Status::Down, Status::Down, None))
+}
+
+#[test]
+fn everything_is_listed_in_key_order(rt: HostRuntime) -> Result<(), Fail> {
+    let mut leases = leases(rt.alloc(), &["i3", "i1", "i10", "i2"])?;
+    let text = "i1 UP 0 i10 UP 0 i2 UP 0 i3 DOWN 10005 ";
+    let down = put_down(rt.alloc(), &mut leases);
+    let all = lists(rt.alloc(), &leases, text);
+    let of_app = lists_of(rt.alloc(), &leases, "a", text);
+    drop(leases);
+    assert!(rt; down == Ok(true));
+    assert!(rt; all == Ok(true));
+    assert!(rt; of_app == Ok(true));
+    Ok(())
+}
+
+/// Whether each application lists its own.
+fn each_lists(alloc: Global, leases: &Leases, cases: &[(&str, &str)]) -> Result<bool, Fault> {
+    for (app, text) in cases {
+        if !lists_of(alloc, leases, app, text)? {
+            return Ok(false);
+        }
+    }
+    Ok(true)
+}
+
+#[test]
+fn an_application_lists_its_own(rt: HostRuntime) -> Result<(), Fail> {
+    let other = key(rt.alloc(), "AA", "i0")?;
+    let mut leases = leases(rt.alloc(), &["i2", "i1"])?;
+    let was_put = put(rt.alloc(), &mut leases, other, "i0");
+    let cases = [("A", "i1 UP 0 i2 UP 0 "), ("aa", "i0 UP 0 "), ("B", "")];
+    let own = each_lists(rt.alloc(), &leases, &cases);
+    let all = lists(rt.alloc(), &leases, "i1 UP 0 i2 UP 0 i0 UP 0 ");
+    drop(leases);
+    assert!(rt; was_put.is_ok());
+    assert!(rt; own == Ok(true));
+    assert!(rt; all == Ok(true));
+    Ok(())
+}

@@ -1,0 +1,12 @@
+//! Peers: what the clients of a server did is told to other servers, in batches.
+#![tactic(auto)]
+
+mod commands;
+mod delivery;
+mod peer;
+mod turn;
+
+pub use delivery::InProcess;
+pub use eu_json::ItemAnswer;
+pub use peer::{Lost, Peer};
+pub use turn::{Turn, replicate_turn};

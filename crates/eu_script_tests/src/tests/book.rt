@@ -1,0 +1,517 @@
+//! Accounts worked out by hand. What commands are answered is told in words at once.
+ghost use Rattle.std.specs.Prelude.{◌≤◌, ◌^◌};
+
+use eu_base::{App, Codes, Config, Fault, Id, Instance, Key, Moment, Rest, Stamp, Status, Task};
+use eu_book::{Book, Logged, MOST_ENTRIES, Receipt};
+use eu_clock::{Chooser, FirstChooser, ListChooser};
+use eu_model::{Command, Entry, Query, Queue, Reply, State, Tally, View};
+use std::alloc::Global;
+
+/// What a book is told.
+#[derive(Clone, Copy)]
+enum Step {
+    /// A client that is UP registers this id with the stamp 5, for 10 seconds.
+    Register(&'static str),
+    /// A peer renews i1 with this stamp.
+    Renew(u64),
+    /// A minute ends.
+    Roll,
+    /// A pass evicts.
+    Evict,
+    /// What waits for the first peer is drained.
+    Drain,
+    /// A batch of one task has landed at the first peer, and was answered so.
+    Land(u16),
+    /// A batch for the first peer is lost.
+    Lose,
+}
+
+fn at(ms: u64) -> Moment
+    requires { ms ≤ 2 ^ 62 }
+{
+    Moment::new(ms).unwrap()
+}
+
+pub fn key(alloc: Global, id: &str) -> Result<Key, Fault> {
+    let app = App::read(alloc, "A")?;
+    let id = Id::read(alloc, id)?;
+    Ok(Key { app, id })
+}
+
+/// A client that is UP registers with the stamp 5, for 10 seconds.
+fn registration(alloc: Global, id: &str) -> Result<Command, Fault> {
+    let key = key(alloc, id)?;
+    let rest = Rest::of_host(alloc, "h")?;
+    Ok(Command::Register {
+        instance: Instance {
+            key,
+            status: Status::Up,
+            overridden: Status::Unknown,
+            dirty: 5,
+            secs: 10,
+            interval: 30,
+            rest,
+        },
+        replicated: false,
+    })
+}
+
+/// A peer's renewal of i1 with this stamp.
+fn renewal(alloc: Global, dirty: u64) -> Result<Command, Fault> {
+    let key = key(alloc, "i1")?;
+    Ok(Command::Renew {
+        key,
+        dirty: Stamp::new(dirty),
+        overridden: None,
+        replicated: true,
+    })
+}
+
+/// A batch of one task has landed, and was answered so.
+fn landing(alloc: Global, code: u16) -> Result<Command, Fault> {
+    let codes = Codes::new(Vec::from_slice(alloc, [code].as_slice())?);
+    Ok(Command::Landed { peer: 0, codes })
+}
+
+fn command(alloc: Global, step: Step) -> Result<Command, Fault> {
+    match step {
+        Step::Register(id) => registration(alloc, id),
+        Step::Renew(dirty) => renewal(alloc, dirty),
+        Step::Roll => Ok(Command::Roll),
+        Step::Evict => Ok(Command::Evict),
+        Step::Drain => Ok(Command::Drain { peer: 0 }),
+        Step::Land(code) => landing(alloc, code),
+        Step::Lose => Ok(Command::Lost { peer: 0 }),
+    }
+}
+
+/// The action of the one task.
+fn action(tasks: &[Task]) -> &'static str {
+    match tasks {
+        [task] => task.action.name(),
+        _ => "tasks",
+    }
+}
+
+fn word(reply: &Reply) -> &'static str {
+    match reply {
+        Reply::Registered { fresh: true } => "new",
+        Reply::Done => "done",
+        Reply::Conflict(_) => "conflict",
+        Reply::Batch(tasks) => action(tasks.as_slice()),
+        Reply::Settled => "settled",
+        _ => "other",
+    }
+}
+
+/// The number of the entry and the reply in a word, or the number of the fault.
+fn told(answer: &Result<Receipt, Fault>) -> (u64, &'static str) {
+    match answer {
+        Ok(receipt) => (receipt.number, word(&receipt.reply)),
+        Err(fault) => (u64::from(fault.number()), "refused"),
+    }
+}
+
+/// The same, where a pass tells the book a command.
+fn applied<C: Chooser>(
+    alloc: Global,
+    book: &mut Book,
+    pass: u64,
+    command: Command,
+    now: Moment,
+    chooser: &mut C,
+) -> (u64, &'static str) {
+    let answer = book.apply(alloc, pass, command, now, chooser);
+    let told = told(&answer);
+    drop(answer);
+    told
+}
+
+/// The same of a step.
+fn tell<C: Chooser>(
+    alloc: Global,
+    book: &mut Book,
+    pass: u64,
+    step: Step,
+    now: Moment,
+    chooser: &mut C,
+) -> (u64, &'static str) {
+    match command(alloc, step) {
+        Ok(command) => applied(alloc, book, pass, command, now, chooser),
+        Err(fault) => (u64::from(fault.number()), "refused"),
+    }
+}
+
+/// The same at moment 0, for pass 0.
+fn first(alloc: Global, book: &mut Book, step: Step) -> (u64, &'static str) {
+    tell(alloc, book, 0, step, at(0), &mut FirstChooser)
+}
+
+/// Without self-preservation, half of the leases may go in a pass.
+fn opened(alloc: Global) -> Result<Book, Fault> {
+    let config = Config::new(false, 50, 30, 60_000)?;
+    Ok(Book::open(alloc, config, 0, 0)?)
+}
+
+fn counts_of(view: &View) -> (u64, u64) {
+    match view {
+        View::Counts(counts) => (counts.held, counts.last),
+        _ => (0, 0),
+    }
+}
+
+/// How many are held, and the renewals of the last minute.
+fn counts(alloc: Global, book: &Book) -> Result<(u64, u64), Fault> {
+    let view = book.read(alloc, &Query::Counts, at(0))?;
+    let counts = counts_of(&view);
+    drop(view);
+    Ok(counts)
+}
+
+fn is_entry(entry: &Entry, pass: u64, number: u64, ms: u64, reply: &str) -> bool {
+    entry.pass == pass
+        && entry.number == number
+        && entry.moment.ms() == ms
+        && word(&entry.reply) == reply
+}
+
+/// Whether the entries are a registration and a renewal that found another stamp.
+fn are_entries(entries: &[Entry]) -> bool {
+    match entries {
+        [one, two] => {
+            matches!(one.command, Command::Register { .. })
+                && is_entry(one, 3, 0, 7, "new")
+                && is_entry(two, 4, 1, 8, "conflict")
+        }
+        _ => false,
+    }
+}
+
+/// Whether the book is told a registration and a renewal by two passes, and keeps them as its entries.
+fn keeps_entries(alloc: Global, book: &mut Book) -> bool {
+    let comes = tell(
+        alloc,
+        book,
+        3,
+        Step::Register("i1"),
+        at(7),
+        &mut FirstChooser,
+    );
+    let renews = tell(alloc, book, 4, Step::Renew(4), at(8), &mut FirstChooser);
+    comes == (0, "new")
+        && renews == (1, "conflict")
+        && are_entries(book.journal().entries.as_slice())
+}
+
+/// Whether a new book keeps them.
+fn opens_and_keeps_entries(alloc: Global) -> Result<bool, Fault> {
+    let mut book = opened(alloc)?;
+    let keeps = keeps_entries(alloc, &mut book);
+    drop(book);
+    Ok(keeps)
+}
+
+#[test]
+fn each_command_is_an_entry(rt: HostRuntime) {
+    assert!(rt; opens_and_keeps_entries(rt.alloc()) == Ok(true));
+}
+
+/// Tells the book that i1 to i4 register at 0, that i1 is renewed, that the minute ends, and that a pass evicts 90 seconds later.
+fn play(alloc: Global, book: &mut Book, chooser: &mut ListChooser) {
+    for id in ["i1", "i2", "i3", "i4"] {
+        tell(alloc, book, 0, Step::Register(id), at(0), chooser);
+    }
+    tell(alloc, book, 0, Step::Renew(5), at(0), chooser);
+    tell(alloc, book, 0, Step::Roll, at(0), chooser);
+    tell(alloc, book, 1, Step::Evict, at(90_000), chooser);
+}
+
+/// The book that was told so, of which the pass took two leases.
+fn played(alloc: Global) -> Result<Book, Fault> {
+    let words = Vec::from_slice(alloc, [3u64, 0].as_slice())?;
+    let mut chooser = ListChooser::new(words);
+    let mut book = opened(alloc)?;
+    play(alloc, &mut book, &mut chooser);
+    Ok(book)
+}
+
+/// Whether what was done is this in all, with so many leases held and so many renewals in the last minute.
+fn sums_up(alloc: Global, sums: Tally, wanted: (u64, u64)) -> Result<bool, Fault> {
+    let book = played(alloc)?;
+    let totals = book.totals();
+    let counts = counts(alloc, &book);
+    drop(book);
+    Ok(totals == sums && counts == Ok(wanted))
+}
+
+#[test]
+fn what_was_done_is_summed_up(rt: HostRuntime) {
+    let sums = Tally {
+        steps: 7,
+        counted: 1,
+        added: 4,
+        removed: 2,
+    };
+    assert!(rt; sums_up(rt.alloc(), sums, (2, 1)) == Ok(true));
+}
+
+/// Whether the last entry is a pass of these two victims.
+fn took(entries: &[Entry], first: &str, second: &str) -> bool {
+    let Some(last) = entries.last() else {
+        return false;
+    };
+    match &last.reply {
+        Reply::Evicted(victims) => match victims.as_slice() {
+            [one, two] => one.id.as_str() == first && two.id.as_str() == second,
+            _ => false,
+        },
+        _ => false,
+    }
+}
+
+/// Whether the last entry is so in the book, and in the journal that it leaves.
+fn takes(alloc: Global, first: &str, second: &str) -> Result<bool, Fault> {
+    let book = played(alloc)?;
+    let held = took(book.journal().entries.as_slice(), first, second);
+    let journal = book.into_journal();
+    let left = took(journal.entries.as_slice(), first, second);
+    drop(journal);
+    Ok(held && left)
+}
+
+#[test]
+fn victims_are_drawn(rt: HostRuntime) {
+    assert!(rt; takes(rt.alloc(), "i4", "i2") == Ok(true));
+}
+
+/// Whether two leases are listed, of these ids, the second registered at 0.
+fn is_list(view: &View, first: &str, second: &str) -> bool {
+    let View::All(all) = view else {
+        return false;
+    };
+    match all.as_slice() {
+        [one, two] => {
+            one.instance.key.id.as_str() == first
+                && two.instance.key.id.as_str() == second
+                && two.times.registered == 0
+        }
+        _ => false,
+    }
+}
+
+/// Whether the book lists them.
+fn lists(alloc: Global, book: &Book, first: &str, second: &str) -> Result<bool, Fault> {
+    let view = book.read(alloc, &Query::All, at(90_000))?;
+    let lists = is_list(&view, first, second);
+    drop(view);
+    Ok(lists)
+}
+
+/// Whether the book that was played lists them, and holds so many.
+fn holds(alloc: Global, first: &str, second: &str, held: u64) -> Result<bool, Fault> {
+    let book = played(alloc)?;
+    let lists = lists(alloc, &book, first, second);
+    let counts = book.registry().counts();
+    drop(book);
+    Ok(lists? && counts.held == held)
+}
+
+#[test]
+fn what_is_held_is_read(rt: HostRuntime) {
+    assert!(rt; holds(rt.alloc(), "i1", "i3", 2) == Ok(true));
+}
+
+/// Whether two leases are held, no row, and a minute with one renewal has ended before a pass at 90,000.
+fn is_left(state: &State) -> bool {
+    state.leases.as_slice().len() == 2
+        && state.rows.as_slice().is_empty()
+        && state.last == 1
+        && state.since == 0
+        && state.expected == 0
+        && state.previous.map(|moment| moment.ms()) == Some(90_000)
+}
+
+fn is_new(state: &State) -> bool {
+    state.leases.as_slice().is_empty() && state.previous.is_none()
+}
+
+/// Whether the registry is shown so.
+fn shows_what_is_left(alloc: Global, book: &Book) -> Result<bool, Fault> {
+    let state = book.state(alloc)?;
+    let is_left = is_left(&state);
+    drop(state);
+    Ok(is_left)
+}
+
+/// Whether the book that was played shows that, and what it began with.
+fn shows_data(alloc: Global) -> Result<bool, Fault> {
+    let book = played(alloc)?;
+    let left = shows_what_is_left(alloc, &book);
+    let began = is_new(&book.journal().base);
+    drop(book);
+    Ok(left? && began)
+}
+
+#[test]
+fn the_registry_is_shown_as_data(rt: HostRuntime) {
+    assert!(rt; shows_data(rt.alloc()) == Ok(true));
+}
+
+/// Ends so many minutes.
+fn roll(alloc: Global, book: &mut Book, times: usize) {
+    for _ in 0..times {
+        first(alloc, book, Step::Roll);
+    }
+}
+
+/// Whether a registration after so many minutes is answered so, with so many steps made and nothing counted.
+fn fills(alloc: Global, times: usize, answer: (u64, &str), made: u64) -> Result<bool, Fault> {
+    let mut book = opened(alloc)?;
+    roll(alloc, &mut book, times);
+    let told = first(alloc, &mut book, Step::Register("i1"));
+    let totals = book.totals();
+    let counts = counts(alloc, &book);
+    drop(book);
+    Ok(told == answer && totals.steps == made && counts == Ok((0, 0)))
+}
+
+#[test]
+fn a_full_journal_refuses(rt: HostRuntime) {
+    assert!(rt; fills(rt.alloc(), MOST_ENTRIES, (6, "refused"), 65_536) == Ok(true));
+}
+
+/// With one peer.
+fn opened_with_peer(alloc: Global) -> Result<Book, Fault> {
+    let config = Config::new(true, 85, 30, 60_000)?;
+    Ok(Book::open(alloc, config, 0, 1)?)
+}
+
+/// The number, the moment, and the reply in a word, of what a log keeps; whether that is what the caller is told, and is of a drain.
+fn kept(receipt: &Receipt, logged: &Logged) -> (u64, u64, &'static str, bool) {
+    let word_told = word(&receipt.reply);
+    let word_kept = word(&logged.reply);
+    let same = receipt.number == logged.number && word_told == word_kept;
+    let drains = matches!(logged.command, Command::Drain { peer: 0 });
+    (logged.number, logged.moment.ms(), word_kept, same && drains)
+}
+
+/// The same of an answer, or the number of the fault.
+fn logged(answer: &Result<(Receipt, Logged), Fault>) -> (u64, u64, &'static str, bool) {
+    match answer {
+        Ok((receipt, logged)) => kept(receipt, logged),
+        Err(fault) => (u64::from(fault.number()), 0, "refused", false),
+    }
+}
+
+/// The same of a drain at a moment.
+fn drained_logged(alloc: Global, book: &mut Book, now: Moment) -> (u64, u64, &'static str, bool) {
+    let drain = Command::Drain { peer: 0 };
+    let answer = book.apply_logged(alloc, 5, drain, now, &mut FirstChooser);
+    let logged = logged(&answer);
+    drop(answer);
+    logged
+}
+
+/// Whether three drains, of which a registration precedes the second, are logged and answered so.
+fn logs_drains(alloc: Global, book: &mut Book) -> bool {
+    let none = drained_logged(alloc, book, at(1));
+    let comes = first(alloc, book, Step::Register("i1"));
+    let one = drained_logged(alloc, book, at(2));
+    let again = drained_logged(alloc, book, at(3));
+    none == (9, 0, "refused", false)
+        && comes == (0, "new")
+        && one == (1, 2, "Register", true)
+        && again == (8, 0, "refused", false)
+        && book.totals().steps == 2
+}
+
+/// Whether a new book does so.
+fn opens_and_logs_drains(alloc: Global) -> Result<bool, Fault> {
+    let mut book = opened_with_peer(alloc)?;
+    let logs = logs_drains(alloc, &mut book);
+    drop(book);
+    Ok(logs)
+}
+
+#[test]
+fn a_log_keeps_what_is_told(rt: HostRuntime) {
+    assert!(rt; opens_and_logs_drains(rt.alloc()) == Ok(true));
+}
+
+fn lengths(queues: &[Queue]) -> (usize, usize) {
+    match queues {
+        [queue] => (
+            queue.waiting.as_slice().len(),
+            queue.flight.as_slice().len(),
+        ),
+        _ => (0, 0),
+    }
+}
+
+/// How many tasks wait for the only peer, and how many are in flight to it.
+fn queued(alloc: Global, book: &Book) -> Result<(usize, usize), Fault> {
+    let state = book.state(alloc)?;
+    let lengths = lengths(state.queues.as_slice());
+    drop(state);
+    Ok(lengths)
+}
+
+/// A step with its answer, and how many tasks wait for the only peer and are in flight to it afterwards.
+type Told = (Step, (u64, &'static str), (usize, usize));
+
+/// Whether each step is answered so, and so many tasks wait and are in flight after it.
+fn answers(alloc: Global, book: &mut Book, steps: &[Told]) -> bool {
+    let mut holds = true;
+    for (step, answer, tasks) in steps {
+        let told = first(alloc, book, *step);
+        holds = holds && told == *answer && queued(alloc, book) == Ok(*tasks);
+    }
+    holds
+}
+
+/// Whether a new book with one peer answers so, and has made so many steps then.
+fn opens_and_answers(alloc: Global, steps: &[Told], made: u64) -> Result<bool, Fault> {
+    let mut book = opened_with_peer(alloc)?;
+    let answers = answers(alloc, &mut book, steps);
+    let totals = book.totals();
+    drop(book);
+    Ok(answers && totals.steps == made)
+}
+
+const LANDED: [Told; 4] = [
+    (Step::Register("i1"), (0, "new"), (1, 0)),
+    (Step::Renew(4), (1, "conflict"), (1, 0)),
+    (Step::Drain, (2, "Register"), (0, 1)),
+    (Step::Land(200), (3, "settled"), (0, 0)),
+];
+
+#[test]
+fn peers_are_told_what_clients_do(rt: HostRuntime) {
+    assert!(rt; opens_and_answers(rt.alloc(), LANDED.as_slice(), 4) == Ok(true));
+}
+
+const LOST: [Told; 4] = [
+    (Step::Register("i1"), (0, "new"), (1, 0)),
+    (Step::Drain, (1, "Register"), (0, 1)),
+    (Step::Drain, (8, "refused"), (0, 1)),
+    (Step::Lose, (2, "settled"), (1, 0)),
+];
+
+#[test]
+fn lost_batches_wait_again(rt: HostRuntime) {
+    assert!(rt; opens_and_answers(rt.alloc(), LOST.as_slice(), 3) == Ok(true));
+}
+
+/// What a drain is answered where there is no peer, and how many steps were made then.
+fn drained_alone(alloc: Global) -> Result<((u64, &'static str), u64), Fault> {
+    let mut book = opened(alloc)?;
+    let told = first(alloc, &mut book, Step::Drain);
+    let steps = book.totals().steps;
+    drop(book);
+    Ok((told, steps))
+}
+
+#[test]
+fn there_is_no_such_peer(rt: HostRuntime) {
+    assert!(rt; drained_alone(rt.alloc()) == Ok(((15, "refused"), 0)));
+}

@@ -1,0 +1,187 @@
+//! Where connections come from.
+
+ghost use Rattle.std.specs.Prelude.{◌≡◌};
+
+use crate::pace::Pace;
+use eu_gate::{Entrance, Periods};
+use eu_workers::Source;
+use std::io;
+use std::io::{ErrorKind, Read};
+use std::net::{Shutdown, TcpListener, TcpStream};
+use std::sync::{Mutex, Wait};
+use std::time::{Clock, Duration, Instant};
+
+/// The milliseconds that a read of a connection may take.
+pub const READ_TIMEOUT_MS: u64 = 10_000;
+
+/// The milliseconds that a write of a connection may take.
+pub const WRITE_TIMEOUT_MS: u64 = 10_000;
+
+/// The milliseconds for which a connection is still read after its last response.
+pub const LINGER_MS: u64 = 1_000;
+
+/// The most bytes of a connection that are read and dropped after its last response.
+pub const LINGER_BYTES: usize = 65_536;
+
+/// The bytes that are dropped at once.
+const PIECE: usize = 4_096;
+
+/// For how long a connection is waited for, in milliseconds, above 0.
+#[derive(Clone, Copy, Debug, PartialEq, Eq)]
+pub struct Timeouts {
+    pub read: u64,
+    pub write: u64,
+    pub linger: u64,
+}
+
+impl Timeouts {
+    /// Those of a server.
+    pub fn of_server() -> Timeouts
+        ensures { (result.read ≡ 10000) × (result.write ≡ 10000) × (result.linger ≡ 1000) }
+    {
+        Timeouts {
+            read: READ_TIMEOUT_MS,
+            write: WRITE_TIMEOUT_MS,
+            linger: LINGER_MS,
+        }
+    }
+}
+
+/// What the workers of a server have in common beside the book: the listener, what is left to accept, and the pace of the timers.
+#[derive(Drop)]
+pub struct Hall<'a, R: Wait + Clock> {
+    rt: &'a R,
+    listener: &'a TcpListener,
+    timeouts: Timeouts,
+    entrance: Mutex<Entrance>,
+    pub pace: Pace<'a, R>,
+}
+
+impl<'a, R: Wait + Clock> Hall<'a, R> {
+    /// That of a server that begins now. An error is the clock's.
+    pub fn new(
+        rt: &'a R,
+        listener: &'a TcpListener,
+        entrance: Entrance,
+        periods: Periods,
+        timeouts: Timeouts,
+    ) -> io::Result<Hall<'a, R>> {
+        Ok(Hall {
+            rt,
+            listener,
+            timeouts,
+            entrance: Mutex::new(entrance),
+            pace: Pace::new(rt, periods)?,
+        })
+    }
+
+    /// Whether accepting a connection has failed.
+    pub fn has_failed(&self) -> bool {
+        self.entrance.lock(self.rt).has_failed()
+    }
+
+    /// Waits for the next connection while no other worker does, if a further one is wanted.
+    fn admit(&self) -> Option<(TcpStream, TcpStream)> {
+        let mut entrance = self.entrance.lock(self.rt);
+        if !entrance.is_open() {
+            return None;
+        }
+        match accept(self.rt, self.listener, self.timeouts) {
+            Ok(both) => {
+                entrance.admit();
+                Some(both)
+            }
+            Err(_) => {
+                entrance.fail();
+                None
+            }
+        }
+    }
+
+    /// Counts a worker out; the last one ends the timers.
+    fn leave(&self) {
+        let is_last = self.entrance.lock(self.rt).leave();
+        if is_last {
+            self.pace.end();
+        }
+    }
+}
+
+/// Whether an `accept` that failed by such an error is made again: a connection was aborted before, or a signal came.
+fn is_passing(kind: ErrorKind) -> bool {
+    kind == ErrorKind::ConnectionAborted || kind == ErrorKind::Interrupted
+}
+
+/// Has a connection send each response at once and wait no longer than that.
+fn prepare(stream: &TcpStream, timeouts: Timeouts) -> io::Result<()> {
+    stream.set_nodelay(true)?;
+    stream.set_read_timeout(Some(Duration::from_millis(timeouts.read)))?;
+    stream.set_write_timeout(Some(Duration::from_millis(timeouts.write)))
+}
+
+/// Waits for the next connection, and gives its two sides. One that can't be prepared has gone, and is passed over.
+fn accept<R: Wait>(
+    rt: &R,
+    listener: &TcpListener,
+    timeouts: Timeouts,
+) -> io::Result<(TcpStream, TcpStream)> {
+    for _ in rt.forever() {
+        match listener.accept() {
+            Ok((stream, _)) if prepare(&stream, timeouts).is_ok() => {
+                let writer = stream.try_clone()?;
+                return Ok((stream, writer));
+            }
+            Err(error) if !is_passing(error.kind()) => return Err(error),
+            _ => {}
+        }
+    }
+    unreachable!()
+}
+
+/// Reads what still comes and drops it, until the client closes, a read fails, the time is up, or enough has come.
+fn drain<R: Clock>(rt: &R, stream: &mut TcpStream, time: Duration) -> io::Result<()> {
+    let began = Instant::now(rt)?;
+    let mut buffer = [0u8; PIECE];
+    let mut room = LINGER_BYTES;
+    while room > 0 {
+        let left = time.saturating_sub(began.elapsed(rt)?);
+        stream.set_read_timeout(Some(left))?;
+        let count = stream.read(&mut buffer[..room.min(PIECE)])?;
+        if count == 0 {
+            break;
+        }
+        room -= count;
+    }
+    Ok(())
+}
+
+/// Where one worker of a server gets its connections from.
+#[derive(Drop)]
+pub struct Door<'a, R: Wait + Clock> {
+    pub hall: &'a Hall<'a, R>,
+}
+
+/// Connections are accepted one at a time, by whoever is free, until as many came as are wanted, or accepting one has failed. A
+/// connection ends in stages (RFC 9112, section 9.6): what was written is ended, what still comes is dropped for a while, and then
+/// it is closed. So a client that sends more than is read gets its last response all the same.
+impl<R: Wait + Clock> Source for Door<'_, R> {
+    type Reader = TcpStream;
+
+    type Writer = TcpStream;
+
+    fn next(&mut self) -> Option<(TcpStream, TcpStream)> {
+        let next = self.hall.admit();
+        if next.is_none() {
+            self.hall.leave();
+        }
+        next
+    }
+
+    fn end(&mut self, reader: TcpStream, writer: TcpStream) {
+        let mut reader = reader;
+        if writer.shutdown(Shutdown::Write).is_ok() {
+            let time = Duration::from_millis(self.hall.timeouts.linger);
+            let _ = drain(self.hall.rt, &mut reader, time);
+        }
+    }
+}

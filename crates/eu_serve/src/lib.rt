@@ -1,0 +1,14 @@
+//! A server: connections that are accepted, workers that serve them, and timers, over one shared book.
+#![tactic(auto)]
+
+mod door;
+mod nobody;
+mod pace;
+mod serve;
+
+pub use door::{LINGER_BYTES, LINGER_MS, READ_TIMEOUT_MS, WRITE_TIMEOUT_MS};
+pub use eu_gate::{BUCKET_MS, THRESHOLD_MS};
+pub use serve::{MOST_WORKERS, serve_on};
+
+#[cfg(test)]
+mod tests;

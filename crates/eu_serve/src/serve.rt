@@ -1,0 +1,232 @@
+//! A server.
+ghost use Rattle.std.specs.Prelude.{◌≡◌, ◌≤◌, ◌<◌, IfErr, OnOk};
+ghost use Rattle.eu_settle.specs.Settled.{IsMismatch, IsSettled};
+ghost use Rattle.eu_settle.specs.declared.settling.Mismatch.{Mismatch};
+
+use crate::door::{Door, Hall, Timeouts};
+use crate::nobody::Nobody;
+use eu_base::{Config, Fault};
+use eu_clock::{Chooser, SystemClock};
+use eu_gate::{Entrance, Periods};
+use eu_routes::Routes;
+use eu_settle::{Closed, settle};
+use eu_shared::{Blanks, Label, Pass, Shared, close};
+use eu_workers::{Job, Site, Work, Worker, run_all};
+use std::alloc::Global;
+use std::io::Write;
+use std::marker::Brand;
+use std::net::TcpListener;
+use std::sync::Wait;
+use std::thread::Threads;
+use std::time::Clock;
+
+/// The most workers of a server.
+pub const MOST_WORKERS: u32 = 16;
+
+/// The workers that are timers.
+const TIMERS: usize = 3;
+
+/// What a server is to do.
+#[derive(Clone, Copy)]
+pub(crate) struct Plan {
+    pub config: Config,
+    pub expected: u32,
+    pub workers: u32,
+    pub sessions: u32,
+    pub periods: Periods,
+    pub timeouts: Timeouts,
+}
+
+/// A worker of a server, over a book that `K` names.
+type Hand<'a, K, R, H> = Worker<K, Door<'a, R>, SystemClock<'a, R>, H, Nobody>;
+
+/// A job without a limit.
+fn job<'a, K: Label, R: Wait + Clock, H: Chooser>(
+    rt: &'a R,
+    pass: Pass<K>,
+    work: Work<Door<'a, R>, H, Nobody>,
+) -> Hand<'a, K, R, H> {
+    Worker::Ready(Job {
+        pass,
+        clock: SystemClock::new(rt),
+        limit: u64::MAX,
+        work,
+    })
+}
+
+/// The workers of sessions, and then the evictor, the bucket's and the threshold's worker, each with a pass.
+fn hire<'a, K: Label, R: Wait + Clock, H: Chooser + Drop>(
+    rt: &'a R,
+    alloc: Global,
+    shared: &Shared<K>,
+    hall: &'a Hall<'a, R>,
+    count: u32,
+    chooser: H,
+) -> Result<Vec<Hand<'a, K, R, H>>, Fault> {
+    let mut workers = Vec::with_capacity(alloc, count as usize + TIMERS)?;
+    for _worker in 0..count {
+        let work = Work::Sessions {
+            source: Door { hall },
+        };
+        workers.push(job(rt, shared.pass(rt, alloc)?, work))?;
+    }
+    workers.push(job(rt, shared.pass(rt, alloc)?, Work::Evictor { chooser }))?;
+    workers.push(job(rt, shared.pass(rt, alloc)?, Work::Bucket))?;
+    workers.push(job(rt, shared.pass(rt, alloc)?, Work::Threshold))?;
+    Ok(workers)
+}
+
+/// Takes the passes back, and tells how many connections the first workers, so many, served in all.
+fn gather<K: Label, R: Wait + Clock, H: Chooser + Drop>(
+    workers: Vec<Hand<'_, K, R, H>>,
+    count: u32,
+    passes: &mut Vec<Pass<K>>,
+) -> Result<u64, Fault> {
+    let mut served = 0u64;
+    let mut left = count;
+    for worker in workers {
+        let Worker::Done(pass, ended) = worker else {
+            continue;
+        };
+        if left > 0 {
+            left -= 1;
+            served = served.saturating_add(ended.turns);
+        }
+        passes.push(pass)?;
+    }
+    Ok(served)
+}
+
+/// Has all workers work until the sessions have ended. Gives their passes, and tells how many connections were served.
+fn work_all<'a, K: Label + Send + Sync, R: Threads + Wait + Clock + Sync, H: Chooser + Send + Drop>(
+    rt: &'a R,
+    alloc: Global,
+    shared: &'a Shared<K>,
+    hall: &'a Hall<'a, R>,
+    count: u32,
+    chooser: H,
+) -> Result<(Vec<Pass<K>>, u64), Fault> {
+    let routes = Routes::new(alloc)?;
+    let mut workers = hire(rt, alloc, shared, hall, count, chooser)?;
+    let mut passes = Vec::with_capacity(alloc, workers.len())?;
+    let site = Site {
+        rt,
+        alloc,
+        shared,
+        routes: &routes,
+        gate: &hall.pace,
+    };
+    run_all(&site, workers.as_mut_slice());
+    let served = gather(workers, count, &mut passes)?;
+    Ok((passes, served))
+}
+
+/// Whether each worker logged its part of the book: else it is `Mismatch`.
+fn judge(closed: &Closed) -> Result<(), Fault>
+    ensures ok { OnOk result (IsSettled closed.now.first closed.now.logs.items closed.now.entries.items) }
+    ensures mismatch { IfErr result (λ f. (f ≡ Fault.Mismatch) × ((m : Mismatch) × IsMismatch closed.now.first closed.now.logs.items closed.now.entries.items m.pass m.place)) }
+{
+    match settle(closed) {
+        Ok(()) => Ok(()),
+        Err(_) => Err(Fault::Mismatch),
+    }
+}
+
+/// Closes the book, and judges whether each worker logged its part of it.
+fn settle_book<K: Label>(
+    shared: Shared<K>,
+    alloc: Global,
+    passes: Vec<Pass<K>>,
+) -> Result<(), Fault> {
+    let closed: Closed = match close(shared, alloc, passes) {
+        Ok(closed) => closed,
+        Err(unclosed) => return Err(unclosed.fault),
+    };
+    judge(&closed)
+}
+
+/// Opens a book, serves it, closes it and settles it. Tells how many connections were served.
+fn serve_book<K: Label + Send + Sync, R: Threads + Wait + Clock + Sync, H: Chooser + Send + Drop>(
+    rt: &R,
+    alloc: Global,
+    listener: &TcpListener,
+    plan: &Plan,
+    chooser: H,
+    blanks: Blanks,
+) -> Result<u64, Fault>
+    requires names { (blanks.steps.name ≡ K.steps) × (blanks.counted.name ≡ K.counted) × (blanks.added.name ≡ K.added) × (blanks.removed.name ≡ K.removed) }
+    requires parts { (blanks.steps.parts ≡ K.parts) × (blanks.counted.parts ≡ K.parts) × (blanks.added.parts ≡ K.parts) × (blanks.removed.parts ≡ K.parts) × (K.parts ≡ 1025) }
+{
+    let shared: Shared<K> = Shared::open(alloc, plan.config, plan.expected, 0, blanks)?;
+    let entrance = Entrance::new(plan.sessions, plan.workers);
+    let Ok(hall) = Hall::new(rt, listener, entrance, plan.periods, plan.timeouts) else {
+        return Err(Fault::Read);
+    };
+    let (passes, served) = work_all(rt, alloc, &shared, &hall, plan.workers, chooser)?;
+    settle_book(shared, alloc, passes)?;
+    if hall.has_failed() {
+        return Err(Fault::Read);
+    }
+    Ok(served)
+}
+
+/// Serves by a plan, as `serve_on` does.
+pub(crate) fn serve<R: Threads + Wait + Clock + Sync, H: Chooser + Send + Drop, W: Write>(
+    rt: &R,
+    alloc: Global,
+    listener: &TcpListener,
+    plan: &Plan,
+    chooser: H,
+    writer: &mut W,
+) -> Result<(), Fault> {
+    let served = serve_book::<Brand, R, H>(rt, alloc, listener, plan, chooser, Blanks::new())?;
+    if writeln!(writer, "served {served}").is_err() || writer.flush().is_err() {
+        return Err(Fault::Write);
+    }
+    Ok(())
+}
+
+/// Serves so many connections of a listener, by so many workers, and then writes `served N`, N being how many there were.
+///
+/// A book is opened with the settings and the number expected, without peers. Each accepted connection is one session of
+/// HTTP/1.1 (`eu_session::serve_session`), at the machine's time, of a worker that is free; while none is, connections wait in the
+/// system's queue. Beside the workers the evictor takes a turn each `evict_ms` of the settings (0 counting as 1), by the chooser's
+/// words, the bucket ends a minute each `BUCKET_MS`, and the threshold is updated each `THRESHOLD_MS`. Once the sessions have
+/// ended, so have these. Then the book is closed, and settled with what each worker logged.
+///
+/// A read of a connection ends its session after `READ_TIMEOUT_MS`, a write after `WRITE_TIMEOUT_MS`. After its last response what
+/// still comes is dropped, up to `LINGER_BYTES` and for at most `LINGER_MS`, and the connection is closed (RFC 9112, section 9.6).
+///
+/// # Errors
+///
+/// - `Read` where a connection can't be accepted, for another reason than that it was aborted before. No further session
+///   begins then; those that began are finished, and the book is closed and settled, before it is told. Also where the machine's
+///   clock can't be read at the start.
+/// - `OutOfMemory` where there is no memory to open the book, for the workers, or to close it.
+/// - `PassMissing` and `Mismatch` where the book can't be closed or settled.
+/// - `Write` where `served N` can't be written or flushed.
+///
+/// In the first three cases nothing is written.
+pub fn serve_on<R: Threads + Wait + Clock + Sync, H: Chooser + Send + Drop, W: Write>(
+    rt: &R,
+    alloc: Global,
+    listener: &TcpListener,
+    config: Config,
+    expected: u32,
+    workers: u32,
+    sessions: u32,
+    chooser: H,
+    writer: &mut W,
+) -> Result<(), Fault>
+    requires { (1 ≤ workers) × (workers ≤ 16) }
+{
+    let plan = Plan {
+        config,
+        expected,
+        workers,
+        sessions,
+        periods: Periods::of_server(config.evict_ms),
+        timeouts: Timeouts::of_server(),
+    };
+    serve(rt, alloc, listener, &plan, chooser, writer)
+}

@@ -1,0 +1,303 @@
+//! Servers of a few sessions, with clients in the same process.
+
+use crate::door::Timeouts;
+use crate::pace::Pace;
+use crate::serve::{Plan, serve, serve_on};
+use eu_base::{Config, Fault};
+use eu_clock::FirstChooser;
+use eu_gate::{BUCKET, EVICTOR, Gate, Go, Periods, Point, THRESHOLD};
+use std::alloc::{AllocError, Global};
+use std::io::{Read, Write};
+use std::net::{Net, SocketAddr, TcpListener, TcpStream};
+use std::sync::Wait;
+use std::test::Fail;
+use std::thread::Threads;
+use std::time::{Clock, Duration, Instant};
+use std::{io, thread};
+
+/// A registration of A/i1.
+const REGISTRATION: &str =
+    "POST /eureka/apps/a HTTP/1.1\r\nHost: x\r\nConnection: close\r\nContent-Length: 150\r\n\r\n{\"instance\":{\"instanceId\":\"i1\",\"hostName\":\"h\",\"app\":\"a\",\"ipAddr\":\"10.0.0.1\",\"status\":\"UP\",\"lastDirtyTimestamp\":\"5\",\"dataCenterInfo\":{\"name\":\"MyOwn\"}}}";
+
+const REGISTERED: &str = "HTTP/1.1 204 No Content\r\nConnection: close\r\n\r\n";
+
+/// A renewal of a lease that isn't there.
+const RENEWAL: &str = "PUT /eureka/apps/A/zz HTTP/1.1\r\nHost: x\r\nConnection: close\r\n\r\n";
+
+const NOT_FOUND: &str = "HTTP/1.1 404 Not Found\r\nContent-Length: 0\r\nConnection: close\r\n\r\n";
+
+/// A server of two workers, which gives up a silent client after so many milliseconds, and whose timers are never idle.
+fn plan(sessions: u32, read: u64) -> Result<Plan, Fault> {
+    Ok(Plan {
+        config: Config::new(true, 85, 30, 60_000)?,
+        expected: 1,
+        workers: 2,
+        sessions,
+        periods: Periods {
+            evictor: 1,
+            bucket: 1,
+            threshold: 1,
+        },
+        timeouts: Timeouts {
+            read,
+            write: 1_000,
+            linger: 100,
+        },
+    })
+}
+
+/// What a server writes that serves by a plan.
+fn written<R: Threads + Wait + Clock + Sync>(
+    rt: &R,
+    alloc: Global,
+    listener: &TcpListener,
+    plan: &Plan,
+) -> Result<Vec<u8>, Fault> {
+    let mut out = Vec::new(alloc);
+    serve(rt, alloc, listener, plan, FirstChooser, &mut out)?;
+    Ok(out)
+}
+
+/// What a client reads of its connection that sends a request.
+fn answered_on(alloc: Global, stream: TcpStream, request: &str) -> io::Result<Vec<u8>> {
+    let mut stream = stream;
+    stream.set_read_timeout(Some(Duration::from_secs(20)))?;
+    stream.write_all(request.as_bytes())?;
+    let mut answer = Vec::new(alloc);
+    stream.read_to_end(&mut answer)?;
+    Ok(answer)
+}
+
+/// Whether a client reads that answer of its connection, where it sends a request.
+fn is_answered_on(alloc: Global, stream: TcpStream, request: &str, answer: &str) -> bool {
+    match answered_on(alloc, stream, request) {
+        Ok(read) => read.as_slice() == answer.as_bytes(),
+        Err(_) => false,
+    }
+}
+
+/// Whether a client that sends a request reads that answer.
+fn is_answered<R: Net<Stream = TcpStream>>(
+    rt: &R,
+    alloc: Global,
+    address: SocketAddr,
+    request: &str,
+    answer: &str,
+) -> bool {
+    match TcpStream::connect(rt, address) {
+        Ok(stream) => is_answered_on(alloc, stream, request, answer),
+        Err(_) => false,
+    }
+}
+
+/// A listener of a free port.
+fn listen<R: Net<Listener = TcpListener, Stream = TcpStream>>(
+    rt: &R,
+) -> io::Result<(TcpListener, SocketAddr)> {
+    let listener = TcpListener::bind(rt, "127.0.0.1:0")?;
+    let address = listener.local_addr()?;
+    Ok((listener, address))
+}
+
+/// What a server of two sessions writes, and whether two clients at once read what they are to.
+fn serve_two<R: Threads + Wait + Clock + Sync + Net<Listener = TcpListener, Stream = TcpStream>>(
+    rt: &R,
+    alloc: Global,
+    listener: &TcpListener,
+    address: SocketAddr,
+    plan: &Plan,
+) -> (Result<Vec<u8>, Fault>, (bool, bool)) {
+    thread::join(
+        rt,
+        || written(rt, alloc, listener, plan),
+        || {
+            thread::join(
+                rt,
+                || is_answered(rt, alloc, address, REGISTRATION, REGISTERED),
+                || is_answered(rt, alloc, address, RENEWAL, NOT_FOUND),
+            )
+        },
+    )
+}
+
+#[test]
+fn two_clients_are_served(rt: HostRuntime) -> Result<(), Fail> {
+    let (listener, address) = listen(&rt)?;
+    let plan = plan(2, 10_000)?;
+    let (out, answered) = serve_two(&rt, rt.alloc(), &listener, address, &plan);
+    assert!(rt; answered == (true, true));
+    assert!(rt; out?.as_slice() == b"served 2\n".as_slice());
+    Ok(())
+}
+
+/// Whether a client is answered while two others are connected that say nothing.
+fn is_answered_among_silent<R: Net<Stream = TcpStream>>(
+    rt: &R,
+    alloc: Global,
+    address: SocketAddr,
+) -> io::Result<bool> {
+    let _first = TcpStream::connect(rt, address)?;
+    let _second = TcpStream::connect(rt, address)?;
+    Ok(is_answered(rt, alloc, address, REGISTRATION, REGISTERED))
+}
+
+fn serve_three<R: Threads + Wait + Clock + Sync + Net<Listener = TcpListener, Stream = TcpStream>>(
+    rt: &R,
+    alloc: Global,
+    listener: &TcpListener,
+    address: SocketAddr,
+    plan: &Plan,
+) -> (Result<Vec<u8>, Fault>, io::Result<bool>) {
+    thread::join(
+        rt,
+        || written(rt, alloc, listener, plan),
+        || is_answered_among_silent(rt, alloc, address),
+    )
+}
+
+#[test]
+fn silent_clients_are_given_up(rt: HostRuntime) -> Result<(), Fail> {
+    let (listener, address) = listen(&rt)?;
+    let plan = plan(3, 100)?;
+    let (out, answered) = serve_three(&rt, rt.alloc(), &listener, address, &plan);
+    assert!(rt; answered?);
+    assert!(rt; out?.as_slice() == b"served 3\n".as_slice());
+    Ok(())
+}
+
+#[test]
+fn no_session_is_served_at_once(rt: HostRuntime) -> Result<(), Fail> {
+    let (listener, _) = listen(&rt)?;
+    let out = written(&rt, rt.alloc(), &listener, &plan(0, 10_000)?)?;
+    assert!(rt; out.as_slice() == b"served 0\n".as_slice());
+    Ok(())
+}
+
+/// A request for the status page, and the page of a server at which nothing is held that expects seven clients, each to renew every
+/// 20 s, of which half may go.
+const LOOK: &str = "GET /eureka/status HTTP/1.1\r\nHost: x\r\nConnection: close\r\n\r\n";
+
+const PAGE: &str =
+    "HTTP/1.1 200 OK\r\nContent-Type: text/plain; charset=utf-8\r\nContent-Length: 79\r\nConnection: close\r\n\r\nheld 0\nexpected 7\nthreshold 10\nlast 0\npreservation off\npermitted yes\nstatuses \n";
+
+/// What a server of one session writes that has those settings.
+fn written_by_settings<R: Threads + Wait + Clock + Sync>(
+    rt: &R,
+    alloc: Global,
+    listener: &TcpListener,
+) -> Result<Vec<u8>, Fault> {
+    let config = Config::new(false, 50, 20, 1_000)?;
+    let mut out = Vec::new(alloc);
+    serve_on(rt, alloc, listener, config, 7, 1, 1, FirstChooser, &mut out)?;
+    Ok(out)
+}
+
+/// The same, and whether a client reads the page.
+fn serve_page<R: Threads + Wait + Clock + Sync + Net<Listener = TcpListener, Stream = TcpStream>>(
+    rt: &R,
+    alloc: Global,
+    listener: &TcpListener,
+    address: SocketAddr,
+) -> (Result<Vec<u8>, Fault>, bool) {
+    thread::join(
+        rt,
+        || written_by_settings(rt, alloc, listener),
+        || is_answered(rt, alloc, address, LOOK, PAGE),
+    )
+}
+
+#[test]
+fn a_server_has_the_settings_that_it_is_given(rt: HostRuntime) -> Result<(), Fail> {
+    let (listener, address) = listen(&rt)?;
+    let (out, answered) = serve_page(&rt, rt.alloc(), &listener, address);
+    assert!(rt; answered);
+    assert!(rt; out?.as_slice() == b"served 1\n".as_slice());
+    Ok(())
+}
+
+/// What a server by a plan writes, and whether a client that is connected reads that answer to its request.
+fn serve_one<R: Threads + Wait + Clock + Sync>(
+    rt: &R,
+    alloc: Global,
+    listener: &TcpListener,
+    stream: TcpStream,
+    plan: &Plan,
+    request: &str,
+) -> (Result<Vec<u8>, Fault>, bool) {
+    thread::join(
+        rt,
+        || written(rt, alloc, listener, plan),
+        || is_answered_on(alloc, stream, request, REGISTERED),
+    )
+}
+
+#[test]
+fn a_failed_accept_ends_the_server(rt: HostRuntime) -> Result<(), Fail> {
+    let (listener, address) = listen(&rt)?;
+    let stream = TcpStream::connect(&rt, address)?;
+    listener.set_nonblocking(true)?;
+    let plan = plan(2, 10_000)?;
+    let (out, answered) = serve_one(&rt, rt.alloc(), &listener, stream, &plan, REGISTRATION);
+    assert!(rt; answered);
+    assert!(rt; out == Err(Fault::Read));
+    Ok(())
+}
+
+/// A registration with 30,000 bytes more behind it.
+fn registration_and_more(alloc: Global) -> Result<String, AllocError> {
+    let mut text = String::new(alloc);
+    text.push_str(REGISTRATION)?;
+    for _ in 0..3_000 {
+        text.push_str("0123456789")?;
+    }
+    Ok(text)
+}
+
+#[test]
+fn a_client_that_sends_more_has_its_answer(rt: HostRuntime) -> Result<(), Fail> {
+    let (listener, address) = listen(&rt)?;
+    let stream = TcpStream::connect(&rt, address)?;
+    let request = registration_and_more(rt.alloc())?;
+    let plan = plan(1, 10_000)?;
+    let (out, answered) = serve_one(&rt, rt.alloc(), &listener, stream, &plan, &request);
+    assert!(rt; answered);
+    assert!(rt; out?.as_slice() == b"served 1\n".as_slice());
+    Ok(())
+}
+
+#[test]
+fn timers_are_paced_until_the_sessions_end(rt: HostRuntime) -> Result<(), Fail> {
+    let periods = Periods {
+        evictor: 0,
+        bucket: 20,
+        threshold: 900_000,
+    };
+    let began = Instant::now(&rt)?;
+    let pace = Pace::new(&rt, periods)?;
+    assert!(rt;
+        pace.pass(BUCKET, Point::Turn) == Go::On && pace.pass(BUCKET, Point::Turn) == Go::On
+    );
+    assert!(rt; began.elapsed(&rt)? >= Duration::from_millis(40));
+    assert!(rt; pace.pass(EVICTOR, Point::Turn) == Go::On && pace.pass(1, Point::Turn) == Go::On);
+    pace.end();
+    assert!(rt;
+        pace.pass(THRESHOLD, Point::Turn) == Go::Stop && pace.pass(1, Point::Turn) == Go::On
+    );
+    Ok(())
+}
+
+#[test]
+fn a_turn_that_was_missed_is_not_caught_up(rt: HostRuntime) -> Result<(), Fail> {
+    let periods = Periods {
+        evictor: 900_000,
+        bucket: 40,
+        threshold: 900_000,
+    };
+    let pace = Pace::new(&rt, periods)?;
+    thread::sleep(&rt, Duration::from_millis(130));
+    assert!(rt; pace.pass(BUCKET, Point::Turn) == Go::On);
+    let began = Instant::now(&rt)?;
+    assert!(rt; pace.pass(BUCKET, Point::Turn) == Go::On);
+    assert!(rt; began.elapsed(&rt)? >= Duration::from_millis(35));
+    Ok(())
+}

@@ -1,0 +1,329 @@
+//! Accounts of two passes of a book that no lock holds, worked out by hand.
+ghost use Rattle.std.specs.Prelude.{◌≡◌, ◌≤◌, ◌^◌};
+
+use crate::tests::asks::{both, key, only, registration, renewal};
+use crate::tests::passes::{Refusal, refusal_of};
+use crate::tests::reads::{Seen, in_short};
+use eu_base::{Config, Fault, Moment};
+use eu_book::Receipt;
+use eu_clock::FirstChooser;
+use eu_model::{Command, Query, Reply, Tally};
+use eu_settle::Closed;
+use eu_shared::{Blanks, Held, Label, MOST_PASSES, Pass};
+use std::alloc::{AllocError, Global};
+use std::marker::Brand;
+use std::process::Abort;
+use std::test::Fail;
+
+fn at(ms: u64) -> Moment
+    requires { ms ≤ 2 ^ 62 }
+{
+    Moment::new(ms).unwrap()
+}
+
+/// One for a lease that came or was renewed.
+fn accepted(answer: Result<Receipt, Fault>) -> u32
+    ensures { result ≤ 1 }
+{
+    match answer {
+        Ok(receipt) => word(&receipt.reply),
+        Err(_) => 0,
+    }
+}
+
+fn word(reply: &Reply) -> u32
+    ensures { result ≤ 1 }
+{
+    match reply {
+        Reply::Registered { fresh: true } | Reply::Done => 1,
+        _ => 0,
+    }
+}
+
+/// Asks the book, where there is a command; 1 where it was accepted.
+fn ask<K: Label>(
+    alloc: Global,
+    held: &mut Held<K>,
+    pass: &mut Pass<K>,
+    command: Result<Command, Fault>,
+    ms: u64,
+) -> u32
+    requires { ms ≤ 2 ^ 62 }
+    ensures { result ≤ 1 }
+{
+    match command {
+        Ok(command) => accepted(held.ask(alloc, pass, command, at(ms), &mut FirstChooser)),
+        Err(_) => 0,
+    }
+}
+
+/// The last update of a lease that a pass finds; 0 where it finds none.
+fn updated<K: Label>(
+    alloc: Global,
+    held: &Held<K>,
+    pass: &mut Pass<K>,
+    id: &str,
+) -> Result<u64, Fault> {
+    let query = Query::One(key(alloc, id)?);
+    let view = held.read(alloc, pass, &query, at(6));
+    drop(query);
+    let seen = in_short(&view?);
+    Ok(match seen {
+        Seen::Lease(updated) => updated,
+        _ => 0,
+    })
+}
+
+/// A book with these settings that expects so many clients, with so many peers.
+fn open_with<K: Label>(
+    alloc: Global,
+    config: Config,
+    expected: u32,
+    peers: u32,
+    blanks: Blanks,
+) -> Result<Held<K>, AllocError>
+    requires peers { peers ≤ 8 }
+    requires names { (blanks.steps.name ≡ K.steps) × (blanks.counted.name ≡ K.counted) × (blanks.added.name ≡ K.added) × (blanks.removed.name ≡ K.removed) }
+    requires parts { (blanks.steps.parts ≡ K.parts) × (blanks.counted.parts ≡ K.parts) × (blanks.added.parts ≡ K.parts) × (blanks.removed.parts ≡ K.parts) × (K.parts ≡ 1025) }
+{
+    Held::open(alloc, config, expected, peers, blanks)
+}
+
+/// A book that expects nobody, without peers.
+fn open<K: Label>(alloc: Global, blanks: Blanks) -> Result<Held<K>, Fault>
+    requires names { (blanks.steps.name ≡ K.steps) × (blanks.counted.name ≡ K.counted) × (blanks.added.name ≡ K.added) × (blanks.removed.name ≡ K.removed) }
+    requires parts { (blanks.steps.parts ≡ K.parts) × (blanks.counted.parts ≡ K.parts) × (blanks.added.parts ≡ K.parts) × (blanks.removed.parts ≡ K.parts) × (K.parts ≡ 1025) }
+{
+    match Config::new(true, 85, 30, 60_000) {
+        Ok(config) => Ok(open_with(alloc, config, 0, 0, blanks)?),
+        Err(fault) => Err(fault),
+    }
+}
+
+/// Pass 0 registers i1 and i2 and renews i1 three times, pass 1 renews i2 twice, at the moments 0 to 6; tells how many are accepted.
+fn ask_all<K: Label>(
+    alloc: Global,
+    held: &mut Held<K>,
+    zero: &mut Pass<K>,
+    one: &mut Pass<K>,
+) -> u32 {
+    let came = ask(alloc, held, zero, registration(alloc, "i1"), 0)
+        + ask(alloc, held, zero, registration(alloc, "i2"), 1);
+    let first = ask(alloc, held, zero, renewal(alloc, "i1"), 2)
+        + ask(alloc, held, zero, renewal(alloc, "i1"), 3)
+        + ask(alloc, held, zero, renewal(alloc, "i1"), 4);
+    let second = ask(alloc, held, one, renewal(alloc, "i2"), 5)
+        + ask(alloc, held, one, renewal(alloc, "i2"), 6);
+    came + first + second
+}
+
+/// A book with two passes.
+#[derive(Drop)]
+struct Opened<K: Label> {
+    held: Held<K>,
+    zero: Pass<K>,
+    one: Pass<K>,
+}
+
+fn open_for_two<K: Label>(alloc: Global, blanks: Blanks) -> Result<Opened<K>, Fault>
+    requires names { (blanks.steps.name ≡ K.steps) × (blanks.counted.name ≡ K.counted) × (blanks.added.name ≡ K.added) × (blanks.removed.name ≡ K.removed) }
+    requires parts { (blanks.steps.parts ≡ K.parts) × (blanks.counted.parts ≡ K.parts) × (blanks.added.parts ≡ K.parts) × (blanks.removed.parts ≡ K.parts) × (K.parts ≡ 1025) }
+{
+    let mut held = open::<K>(alloc, blanks)?;
+    let zero = held.pass(alloc)?;
+    let one = held.pass(alloc)?;
+    Ok(Opened { held, zero, one })
+}
+
+/// Closes a book.
+fn close<K: Label>(alloc: Global, held: Held<K>, passes: Vec<Pass<K>>) -> Result<Closed, Fault> {
+    match held.close(alloc, passes) {
+        Ok(closed) => Ok(closed),
+        Err(unclosed) => {
+            let fault = unclosed.fault;
+            drop(unclosed);
+            Err(fault)
+        }
+    }
+}
+
+/// Closes a book with both passes.
+fn close_both<K: Label>(
+    alloc: Global,
+    held: Held<K>,
+    zero: Pass<K>,
+    one: Pass<K>,
+) -> Result<Closed, Fault> {
+    match both(alloc, one, zero) {
+        Ok(passes) => close(alloc, held, passes),
+        Err(fault) => {
+            drop(held);
+            Err(fault)
+        }
+    }
+}
+
+/// What is found after the asks: how many were accepted, what each pass reads of the other's lease, and the book closed.
+#[derive(Drop)]
+struct Findings {
+    accepted: u32,
+    first: Result<u64, Fault>,
+    second: Result<u64, Fault>,
+    closed: Closed,
+}
+
+fn find<K: Label>(alloc: Global, blanks: Blanks) -> Result<Findings, Fault>
+    requires names { (blanks.steps.name ≡ K.steps) × (blanks.counted.name ≡ K.counted) × (blanks.added.name ≡ K.added) × (blanks.removed.name ≡ K.removed) }
+    requires parts { (blanks.steps.parts ≡ K.parts) × (blanks.counted.parts ≡ K.parts) × (blanks.added.parts ≡ K.parts) × (blanks.removed.parts ≡ K.parts) × (K.parts ≡ 1025) }
+{
+    let Opened {
+        mut held,
+        mut zero,
+        mut one,
+    } = open_for_two::<K>(alloc, blanks)?;
+    let accepted = ask_all(alloc, &mut held, &mut zero, &mut one);
+    let first = updated(alloc, &held, &mut one, "i1");
+    let second = updated(alloc, &held, &mut zero, "i2");
+    let closed = close_both(alloc, held, zero, one)?;
+    Ok(Findings {
+        accepted,
+        first,
+        second,
+        closed,
+    })
+}
+
+fn of_two_passes(alloc: Global) -> Result<Findings, Fault> {
+    find::<Brand>(alloc, Blanks::new())
+}
+
+/// Whether nothing is held.
+fn is_opening(closed: &Closed) -> bool {
+    closed.base.leases.as_slice().is_empty() && closed.base.since == 0
+}
+
+/// Whether the logs are those of the passes 0 and 1, with five items and two.
+fn are_logs(closed: &Closed) -> bool {
+    match closed.logs.as_slice() {
+        [zero, one] => {
+            zero.pass == 0 && zero.log.len() == 5 && one.pass == 1 && one.log.len() == 2
+        }
+        _ => false,
+    }
+}
+
+fn are_accounted_for(rt: &impl Abort, found: &Findings) {
+    assert!(rt; found.accepted == 7);
+    assert!(rt; found.first == Ok(90_004));
+    assert!(rt; found.second == Ok(90_006));
+    let sums = Tally {
+        steps: 7,
+        counted: 5,
+        added: 2,
+        removed: 0,
+    };
+    assert!(rt; found.closed.totals == sums);
+    assert!(rt; found.closed.first == 0);
+    assert!(rt; found.closed.entries.len() == 7);
+    assert!(rt; found.closed.end.leases.as_slice().len() == 2);
+    assert!(rt; is_opening(&found.closed));
+    assert!(rt; are_logs(&found.closed));
+}
+
+#[test]
+fn two_passes_are_accounted_for(rt: HostRuntime) -> Result<(), Fail> {
+    let found = of_two_passes(rt.alloc())?;
+    are_accounted_for(&rt, &found);
+    Ok(())
+}
+
+/// Closes the book without pass 1.
+fn close_without_one<K: Label>(alloc: Global, blanks: Blanks) -> Result<Refusal, Fault>
+    requires names { (blanks.steps.name ≡ K.steps) × (blanks.counted.name ≡ K.counted) × (blanks.added.name ≡ K.added) × (blanks.removed.name ≡ K.removed) }
+    requires parts { (blanks.steps.parts ≡ K.parts) × (blanks.counted.parts ≡ K.parts) × (blanks.added.parts ≡ K.parts) × (blanks.removed.parts ≡ K.parts) × (K.parts ≡ 1025) }
+{
+    let Opened {
+        mut held,
+        mut zero,
+        mut one,
+    } = open_for_two::<K>(alloc, blanks)?;
+    ask_all(alloc, &mut held, &mut zero, &mut one);
+    let passes = only(alloc, zero)?;
+    match held.close(alloc, passes) {
+        Ok(closed) => {
+            drop(closed);
+            Err(Fault::Exhausted)
+        }
+        Err(unclosed) => {
+            let refusal = refusal_of(&unclosed);
+            drop(unclosed);
+            Ok(refusal)
+        }
+    }
+}
+
+fn of_one_pass(alloc: Global) -> Result<Refusal, Fault> {
+    close_without_one::<Brand>(alloc, Blanks::new())
+}
+
+#[test]
+fn a_missing_pass_is_missed(rt: HostRuntime) -> Result<(), Fail> {
+    let refusal = of_one_pass(rt.alloc())?;
+    let sums = Tally {
+        steps: 5,
+        counted: 3,
+        added: 2,
+        removed: 0,
+    };
+    let totals = Tally {
+        steps: 7,
+        counted: 5,
+        added: 2,
+        removed: 0,
+    };
+    assert!(rt; refusal.fault == Fault::PassMissing);
+    assert!(rt; refusal.sums == sums);
+    assert!(rt; refusal.totals == totals);
+    assert!(rt; refusal.made == 2);
+    assert!(rt; refusal.passes == 1);
+    Ok(())
+}
+
+/// The number of a new pass.
+fn made<K: Label>(alloc: Global, held: &mut Held<K>) -> Result<u64, Fault> {
+    let pass = held.pass(alloc)?;
+    let number = pass.number();
+    drop(pass);
+    Ok(number)
+}
+
+/// The number of the last of 1,024 new passes.
+fn last_of_all<K: Label>(alloc: Global, held: &mut Held<K>) -> Result<u64, Fault> {
+    let mut last = 0;
+    for _ in 0..MOST_PASSES {
+        last = made(alloc, held)?;
+    }
+    Ok(last)
+}
+
+/// The number of the last of 1,024 passes, and the fault that the next one is refused by.
+fn make_all<K: Label>(alloc: Global, blanks: Blanks) -> Result<(u64, Option<Fault>), Fault>
+    requires names { (blanks.steps.name ≡ K.steps) × (blanks.counted.name ≡ K.counted) × (blanks.added.name ≡ K.added) × (blanks.removed.name ≡ K.removed) }
+    requires parts { (blanks.steps.parts ≡ K.parts) × (blanks.counted.parts ≡ K.parts) × (blanks.added.parts ≡ K.parts) × (blanks.removed.parts ≡ K.parts) × (K.parts ≡ 1025) }
+{
+    let mut held = open::<K>(alloc, blanks)?;
+    let last = last_of_all(alloc, &mut held);
+    let fault = made(alloc, &mut held).err();
+    drop(held);
+    Ok((last?, fault))
+}
+
+fn last_pass(alloc: Global) -> Result<(u64, Option<Fault>), Fault> {
+    make_all::<Brand>(alloc, Blanks::new())
+}
+
+#[test]
+fn passes_are_1024(rt: HostRuntime) -> Result<(), Fail> {
+    assert!(rt; last_pass(rt.alloc()) == Ok((1_023, Some(Fault::TooManyPasses))));
+    Ok(())
+}

@@ -1,0 +1,3 @@
+pub mod TimerLemmas
+pub mod Crossing
+pub mod AllLemmas

@@ -1,0 +1,203 @@
+//! All workers of a server, each in a thread of its own.
+ghost use Rattle.std.specs.Prelude.{◌≡◌, ℕ, ◌<◌, length, slice_index_or};
+ghost use Rattle.eu_workers.specs.All.{HasRun, IsDoneBy, IsEnded, IsNumbered};
+
+use crate::ended::Ended;
+use crate::replicator::run_replicator;
+use crate::sessions::{Source, run_sessions};
+use crate::site::Site;
+use crate::timers::{run_bucket, run_evictor, run_threshold};
+use eu_clock::{Chooser, Clock};
+use eu_gate::{BUCKET, EVICTOR, FIRST_REPLICATOR, Gate, THRESHOLD};
+use eu_peer::Peer;
+use eu_shared::{Label, Pass};
+use std::mem;
+use std::sync::Wait;
+use std::thread::{Threads, for_each_mut};
+
+/// What a worker is to do, turn after turn.
+#[derive(Drop)]
+pub enum Work<S, H, P> {
+    /// Serve the sessions of these connections (`run_sessions`).
+    Sessions {
+        /// Where they come from.
+        source: S,
+    },
+    /// Evict (`run_evictor`).
+    Evictor {
+        /// What draws the victims.
+        chooser: H,
+    },
+    /// Let a minute end (`run_bucket`).
+    Bucket,
+    /// Set the threshold (`run_threshold`).
+    Threshold,
+    /// Send what waits for a peer (`run_replicator`). No two jobs may have one peer's number.
+    Replicator {
+        /// The peer's number, from 0.
+        number: u32,
+        /// The way to it.
+        peer: P,
+    },
+}
+
+/// A worker's job.
+#[derive(Drop)]
+pub struct Job<K: Label, S, C, H, P> {
+    /// By what it asks.
+    pub pass: Pass<K>,
+    /// Its clock.
+    pub clock: C,
+    /// The most turns that it has.
+    pub limit: u64,
+    /// What it does in each.
+    pub work: Work<S, H, P>,
+}
+
+/// A worker.
+#[derive(Drop)]
+pub enum Worker<K: Label, S, C, H, P> {
+    /// It has a job, and didn't begin.
+    Ready(Job<K, S, C, H, P>),
+    /// It has a job and a number among the session workers, and didn't begin.
+    Numbered(u32, Job<K, S, C, H, P>),
+    /// It works.
+    Working,
+    /// It ended, and gave its pass back.
+    Done(Pass<K>, Ended),
+}
+
+/// The number by which a worker passes the gate: session workers are counted.
+fn number_of<S, H, P>(work: &Work<S, H, P>, sessions: &mut u32) -> u32 {
+    match work {
+        Work::Sessions { .. } => {
+            *sessions = sessions.saturating_add(1);
+            *sessions
+        }
+        Work::Evictor { .. } => EVICTOR,
+        Work::Bucket => BUCKET,
+        Work::Threshold => THRESHOLD,
+        Work::Replicator { number, .. } => FIRST_REPLICATOR.saturating_add(*number),
+    }
+}
+
+/// Numbers a worker that is ready.
+fn number<K: Label, S: Drop, C: Drop, H: Drop, P: Drop>(
+    worker: &mut Worker<K, S, C, H, P>,
+    sessions: &mut u32,
+)
+    ensures { IsNumbered worker.old worker.new }
+{
+    match mem::replace(worker, Worker::Working) {
+        Worker::Ready(job) => {
+            let who = number_of(&job.work, sessions);
+            *worker = Worker::Numbered(who, job);
+        }
+        other => *worker = other,
+    }
+}
+
+/// Numbers all workers that are ready, session workers from 1 in their order.
+fn number_all<K: Label, S: Drop, C: Drop, H: Drop, P: Drop>(workers: &mut [Worker<K, S, C, H, P>])
+    ensures len { length workers.new ≡ length workers.old }
+    ensures each { (i : ℕ) (d : _) → i < length workers.old → IsNumbered (slice_index_or workers.old i d) (slice_index_or workers.new i d) }
+{
+    let mut sessions = 0;
+    for i in 0..workers.len() {
+        number(&mut workers[i], &mut sessions);
+    }
+}
+
+/// Does a job to its end.
+fn work_off<
+    K: Label,
+    R: Wait,
+    G: Gate,
+    S: Source + Drop,
+    C: Clock + Drop,
+    H: Chooser + Drop,
+    P: Peer + Drop,
+>(site: &Site<'_, K, R, G>, who: u32, job: Job<K, S, C, H, P>) -> (Pass<K>, Ended)
+    ensures { IsDoneBy job result.0 result.1 }
+{
+    let Job {
+        pass,
+        mut clock,
+        limit,
+        work,
+    } = job;
+    match work {
+        Work::Sessions { mut source } => {
+            run_sessions(site, who, pass, &mut source, &mut clock, limit)
+        }
+        Work::Evictor { mut chooser } => {
+            run_evictor(site, pass, &mut clock, &mut chooser, limit)
+        }
+        Work::Bucket => run_bucket(site, pass, &mut clock, limit),
+        Work::Threshold => run_threshold(site, pass, &mut clock, limit),
+        Work::Replicator { number, mut peer } => {
+            run_replicator(site, number, pass, &mut peer, &mut clock, limit)
+        }
+    }
+}
+
+/// Has a worker do its job, if it has one and its number.
+fn run_worker<
+    K: Label,
+    R: Wait,
+    G: Gate,
+    S: Source + Drop,
+    C: Clock + Drop,
+    H: Chooser + Drop,
+    P: Peer + Drop,
+>(site: &Site<'_, K, R, G>, worker: &mut Worker<K, S, C, H, P>)
+    ensures { HasRun worker.old worker.new }
+{
+    match mem::replace(worker, Worker::Working) {
+        Worker::Numbered(who, job) => {
+            let (pass, ended) = work_off(site, who, job);
+            *worker = Worker::Done(pass, ended);
+        }
+        other => *worker = other,
+    }
+}
+
+/// Has each worker that has its number do its job, in a thread of its own where one can be made.
+fn run_each<
+    K: Label + Send + Sync,
+    R: Threads + Wait + Sync,
+    G: Gate + Sync,
+    S: Source + Send + Drop,
+    C: Clock + Send + Drop,
+    H: Chooser + Send + Drop,
+    P: Peer + Send + Drop,
+>(site: &Site<'_, K, R, G>, workers: &mut [Worker<K, S, C, H, P>])
+    ensures { (i : ℕ) (d : _) → i < length workers.old → HasRun (slice_index_or workers.old i d) (slice_index_or workers.new i d) }
+{
+    let threads = workers.len().max(1);
+    for_each_mut(
+        site.rt,
+        workers,
+        threads,
+        &|_place, worker| run_worker(site, worker),
+    );
+}
+
+/// Has each worker that is ready do its job, in a thread of its own, and returns when all have ended. Where no thread can be made the
+/// jobs are done one after another, in their order. Takes no memory.
+///
+/// Session workers are numbered from 1, in their order. Workers that are at work, or done, stay as they are.
+pub fn run_all<
+    K: Label + Send + Sync,
+    R: Threads + Wait + Sync,
+    G: Gate + Sync,
+    S: Source + Send + Drop,
+    C: Clock + Send + Drop,
+    H: Chooser + Send + Drop,
+    P: Peer + Send + Drop,
+>(site: &Site<'_, K, R, G>, workers: &mut [Worker<K, S, C, H, P>])
+    ensures { (i : ℕ) (d : _) → i < length workers.old → IsEnded (slice_index_or workers.old i d) (slice_index_or workers.new i d) }
+{
+    number_all(workers);
+    run_each(site, workers);
+}

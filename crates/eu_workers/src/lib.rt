@@ -1,0 +1,18 @@
+//! Threads that work for a server: sessions, timers and replicators, each with a pass of its own.
+#![tactic(auto)]
+
+mod all;
+mod ended;
+mod gated;
+mod replicator;
+mod sessions;
+mod site;
+mod timers;
+
+pub use all::{Job, Work, Worker, run_all};
+pub use ended::Ended;
+pub use eu_gate::{Gate, Go, Point};
+pub use replicator::run_replicator;
+pub use sessions::{Source, run_sessions};
+pub use site::Site;
+pub use timers::{run_bucket, run_evictor, run_threshold};

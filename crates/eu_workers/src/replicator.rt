@@ -1,0 +1,47 @@
+//! Workers that tell a peer what waits for it.
+ghost use Rattle.eu_workers.specs.Ended.{IsWithin};
+
+use crate::ended::Ended;
+use crate::site::Site;
+use eu_clock::Clock;
+use eu_gate::{FIRST_REPLICATOR, Gate, Go, Point};
+use eu_peer::{Peer, replicate_turn};
+use eu_shared::{Label, Pass, Seat};
+use std::sync::Wait;
+
+/// The replicator of the peer of that number (`ReplicationTaskProcessor` in Eureka): sends what waits for it, turn after turn, until the
+/// gate stops it or it had so many turns, and gives its pass back.
+///
+/// A turn passes the gate and is one `eu_peer::replicate_turn`. One that ends by a fault is counted as refused, and the next one
+/// follows. No two replicators of one peer may work at once.
+pub fn run_replicator<K: Label, R: Wait, G: Gate, P: Peer, C: Clock>(
+    site: &Site<'_, K, R, G>,
+    number: u32,
+    pass: Pass<K>,
+    peer: &mut P,
+    clock: &mut C,
+    limit: u64,
+) -> (Pass<K>, Ended)
+    ensures { IsWithin limit result.1 }
+{
+    let mut seat = Seat {
+        pass,
+        shared: site.shared,
+        rt: site.rt,
+    };
+    let who = FIRST_REPLICATOR.saturating_add(number);
+    let mut ended = Ended::default();
+    for _turn in 0..limit {
+        if site.gate.pass(who, Point::Turn) == Go::Stop {
+            break;
+        }
+        let turn = replicate_turn(site.alloc, &mut seat, number, peer, clock);
+        ended.count(turn.is_err());
+    }
+    let Seat {
+        pass,
+        shared: _,
+        rt: _,
+    } = seat;
+    (pass, ended)
+}

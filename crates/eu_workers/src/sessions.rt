@@ -1,0 +1,83 @@
+//! Workers that serve sessions.
+ghost use Rattle.std.specs.Prelude.{◌≡◌};
+ghost use Rattle.eu_workers.specs.Ended.{IsWithin};
+
+use crate::ended::Ended;
+use crate::gated::{GatedSink, GatedSource};
+use crate::site::Site;
+use eu_clock::Clock;
+use eu_gate::{Gate, Go, Point};
+use eu_session::{SessionFault, serve_session};
+use eu_shared::{Label, Pass, Seat};
+use std::io::{Read, Write};
+use std::sync::Wait;
+
+/// Where connections come from.
+pub trait Source {
+    /// What a connection's bytes are read from.
+    type Reader: Read + Send;
+
+    /// What its responses are written to.
+    type Writer: Write + Send;
+
+    /// The next connection, or none where no more will come. It may take as long as it wants.
+    fn next(&mut self) -> Option<(Self::Reader, Self::Writer)>;
+
+    /// Ends a connection, after its session.
+    fn end(&mut self, reader: Self::Reader, writer: Self::Writer);
+}
+
+/// Serves the session of one connection.
+fn serve<K: Label, R: Wait, G: Gate, C: Clock, I: Read, O: Write>(
+    site: &Site<'_, K, R, G>,
+    who: u32,
+    seat: &mut Seat<'_, K, R>,
+    clock: &mut C,
+    reader: &mut I,
+    writer: &mut O,
+) -> Result<u32, SessionFault> {
+    let mut source = GatedSource::new(reader, site.gate, who);
+    let mut sink = GatedSink::new(writer, site.gate, who);
+    serve_session(site.alloc, site.routes, seat, clock, &mut source, &mut sink)
+}
+
+/// Serves the sessions of one connection after the other, with the worker's number, until there is none, the gate stops it or it had so
+/// many turns, and gives its pass back.
+///
+/// A turn passes the gate, takes the next connection, serves its session (`eu_session::serve_session`) and ends the connection. Each
+/// read of the connection passes the gate first, and fails where that says `Stop`; and each response passes it before it is flushed.
+/// A session that ended by a fault is counted as refused, and the next one follows.
+pub fn run_sessions<K: Label, R: Wait, G: Gate, S: Source, C: Clock>(
+    site: &Site<'_, K, R, G>,
+    who: u32,
+    pass: Pass<K>,
+    source: &mut S,
+    clock: &mut C,
+    limit: u64,
+) -> (Pass<K>, Ended)
+    ensures { IsWithin limit result.1 }
+{
+    let mut seat = Seat {
+        pass,
+        shared: site.shared,
+        rt: site.rt,
+    };
+    let mut ended = Ended::default();
+    for _turn in 0..limit {
+        if site.gate.pass(who, Point::Turn) == Go::Stop {
+            break;
+        }
+        let Some((mut reader, mut writer)) = source.next() else {
+            break;
+        };
+        let served = serve(site, who, &mut seat, clock, &mut reader, &mut writer);
+        ended.count(served.is_err());
+        source.end(reader, writer);
+    }
+    let Seat {
+        pass,
+        shared: _,
+        rt: _,
+    } = seat;
+    (pass, ended)
+}

@@ -1,0 +1,22 @@
+//! Where workers work.
+
+use eu_gate::Gate;
+use eu_routes::Routes;
+use eu_shared::{Label, Shared};
+use std::alloc::Global;
+use std::sync::Wait;
+
+/// What the workers of a server have in common.
+#[derive(Drop)]
+pub struct Site<'a, K: Label, R: Wait, G: Gate> {
+    /// The leave to wait.
+    pub rt: &'a R,
+    /// Where memory comes from.
+    pub alloc: Global,
+    /// The book that they ask.
+    pub shared: &'a Shared<K>,
+    /// The routes of requests.
+    pub routes: &'a Routes,
+    /// What they pass before they go on.
+    pub gate: &'a G,
+}

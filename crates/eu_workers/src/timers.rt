@@ -1,0 +1,124 @@
+//! Workers that ask for the same command, turn after turn.
+ghost use Rattle.std.specs.Prelude.{◌≡◌};
+ghost use Rattle.eu_model.specs.declared.commands.Command.TheVariants as command;
+ghost use Rattle.eu_workers.specs.Timers.{command_of, number_of, AsksOnly};
+
+use crate::ended::Ended;
+use crate::site::Site;
+use eu_clock::{Chooser, Clock, FirstChooser};
+use eu_gate::{BUCKET, EVICTOR, Gate, Go, Point, THRESHOLD};
+use eu_model::Command;
+use eu_shared::{Label, Pass};
+use std::sync::Wait;
+
+/// Which command a worker asks for.
+#[derive(Clone, Copy)]
+enum Timer {
+    Evictor,
+    Bucket,
+    Threshold,
+}
+
+impl Timer {
+    /// The number of its worker.
+    fn number(self) -> u32
+        ensures { result ≡ number_of self }
+    {
+        match self {
+            Timer::Evictor => EVICTOR,
+            Timer::Bucket => BUCKET,
+            Timer::Threshold => THRESHOLD,
+        }
+    }
+
+    /// What its worker asks for.
+    fn command(self) -> Command
+        ensures { result ≡ command_of self }
+    {
+        match self {
+            Timer::Evictor => Command::Evict,
+            Timer::Bucket => Command::Roll,
+            Timer::Threshold => Command::Update,
+        }
+    }
+}
+
+/// Asks for a timer's command at most so many times, until the gate stops it.
+fn run<K: Label, R: Wait, G: Gate, C: Clock, H: Chooser>(
+    site: &Site<'_, K, R, G>,
+    timer: Timer,
+    pass: Pass<K>,
+    clock: &mut C,
+    chooser: &mut H,
+    limit: u64,
+) -> (Pass<K>, Ended)
+    ensures { AsksOnly (command_of timer) limit pass result.0 result.1 }
+{
+    let mut pass = pass;
+    let mut ended = Ended::default();
+    for _turn in 0..limit {
+        if site.gate.pass(timer.number(), Point::Turn) == Go::Stop {
+            break;
+        }
+        let moment = clock.now();
+        let asked = pass.ask(
+            site.rt,
+            site.shared,
+            site.alloc,
+            timer.command(),
+            moment,
+            chooser,
+        );
+        ended.count(asked.is_err());
+    }
+    (pass, ended)
+}
+
+/// The evictor (`AbstractInstanceRegistry.EvictionTask` in Eureka): asks for `Evict`, turn after turn, until the gate stops it or it
+/// had so many turns, and gives its pass back.
+///
+/// A turn passes the gate, reads the clock and asks once. What it was answered is in the log of the pass; a turn whose ask was refused
+/// is counted as such, and the next one follows.
+pub fn run_evictor<K: Label, R: Wait, G: Gate, C: Clock, H: Chooser>(
+    site: &Site<'_, K, R, G>,
+    pass: Pass<K>,
+    clock: &mut C,
+    chooser: &mut H,
+    limit: u64,
+) -> (Pass<K>, Ended)
+    ensures { AsksOnly command.Evict limit pass result.0 result.1 }
+{
+    run(site, Timer::Evictor, pass, clock, chooser, limit)
+}
+
+/// The bucket's worker (`MeasuredRate` in Eureka): as the evictor, with `Roll` for its command. It draws no words.
+pub fn run_bucket<K: Label, R: Wait, G: Gate, C: Clock>(
+    site: &Site<'_, K, R, G>,
+    pass: Pass<K>,
+    clock: &mut C,
+    limit: u64,
+) -> (Pass<K>, Ended)
+    ensures { AsksOnly command.Roll limit pass result.0 result.1 }
+{
+    run(site, Timer::Bucket, pass, clock, &mut FirstChooser, limit)
+}
+
+/// The threshold's worker (`PeerAwareInstanceRegistryImpl.scheduleRenewalThresholdUpdateTask` in Eureka): as the evictor, with
+/// `Update` for its command. It draws no words.
+pub fn run_threshold<K: Label, R: Wait, G: Gate, C: Clock>(
+    site: &Site<'_, K, R, G>,
+    pass: Pass<K>,
+    clock: &mut C,
+    limit: u64,
+) -> (Pass<K>, Ended)
+    ensures { AsksOnly command.Update limit pass result.0 result.1 }
+{
+    run(
+        site,
+        Timer::Threshold,
+        pass,
+        clock,
+        &mut FirstChooser,
+        limit,
+    )
+}

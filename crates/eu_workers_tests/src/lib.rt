@@ -1,0 +1,5 @@
+//! Tests of peers and workers.
+#![tactic(auto)]
+
+#[cfg(test)]
+mod tests;

@@ -1,0 +1,146 @@
+//! A replicator of one turn, over a book of another server.
+ghost use Rattle.std.specs.Prelude.{◌≡◌};
+
+use crate::tests::turns::registration;
+use eu_base::{Config, Fault, Moment};
+use eu_book::Book;
+use eu_clock::{FirstChooser, ListClock};
+use eu_model::{Query, View};
+use eu_peer::InProcess;
+use eu_routes::Routes;
+use eu_shared::{Blanks, Label, Pass, Shared};
+use eu_workers::{Ended, Gate, Go, Point, Site, run_replicator};
+use std::alloc::Global;
+use std::marker::Brand;
+use std::sync::Wait;
+use std::test::Fail;
+
+/// A gate that is open.
+#[derive(Drop)]
+pub struct Open;
+
+impl Gate for Open {
+    fn pass(&self, _who: u32, _point: Point) -> Go {
+        Go::On
+    }
+}
+
+/// Whether a client registers A/i1 at the moment 0.
+fn registers<K: Label, R: Wait>(
+    rt: &R,
+    shared: &Shared<K>,
+    alloc: Global,
+    pass: &mut Pass<K>,
+) -> bool {
+    let Some(moment) = Moment::new(0) else {
+        return false;
+    };
+    match registration(alloc, "i1") {
+        Ok(command) => pass
+            .ask(rt, shared, alloc, command, moment, &mut FirstChooser)
+            .is_ok(),
+        Err(_) => false,
+    }
+}
+
+/// The leases that a view of counts tells.
+fn leases(view: &View) -> u64 {
+    match view {
+        View::Counts(counts) => counts.held,
+        _ => 0,
+    }
+}
+
+/// How many leases a book holds.
+fn held(alloc: Global, book: &Book) -> u64 {
+    let Some(moment) = Moment::new(0) else {
+        return 0;
+    };
+    match book.read(alloc, &Query::Counts, moment) {
+        Ok(view) => leases(&view),
+        Err(_) => 0,
+    }
+}
+
+/// A server at which nothing is held.
+fn server(alloc: Global, config: Config) -> Result<InProcess<Book, ListClock>, Fault> {
+    let desk = Book::open(alloc, config, 0, 0)?;
+    Ok(InProcess {
+        desk,
+        clock: ListClock::new(Vec::new(alloc)),
+    })
+}
+
+/// What a replicator with one turn does after a registration.
+fn replicate<K: Label, R: Wait>(
+    site: &Site<'_, K, R, Open>,
+    peer: &mut InProcess<Book, ListClock>,
+) -> Result<Ended, Fault> {
+    let mut pass = site.shared.pass(site.rt, site.alloc)?;
+    if !registers(site.rt, site.shared, site.alloc, &mut pass) {
+        return Err(Fault::OutOfMemory);
+    }
+    let mut clock = ListClock::new(Vec::new(site.alloc));
+    let (pass, ended) = run_replicator(site, 0, pass, peer, &mut clock, 1);
+    drop(pass);
+    Ok(ended)
+}
+
+/// The same, and how many leases the other server holds then.
+fn reach<K: Label, R: Wait>(
+    site: &Site<'_, K, R, Open>,
+    config: Config,
+) -> Result<(Ended, u64), Fault> {
+    let mut peer = server(site.alloc, config)?;
+    let ended = replicate(site, &mut peer);
+    let held = held(site.alloc, &peer.desk);
+    drop(peer);
+    Ok((ended?, held))
+}
+
+/// The same for a book that is shared.
+fn send_from<K: Label, R: Wait>(
+    rt: &R,
+    alloc: Global,
+    shared: &Shared<K>,
+    config: Config,
+) -> Result<(Ended, u64), Fault> {
+    let routes = Routes::new(alloc)?;
+    let site = Site {
+        rt,
+        alloc,
+        shared,
+        routes: &routes,
+        gate: &Open,
+    };
+    reach(&site, config)
+}
+
+/// What a replicator with one turn did after a registration, and how many leases the other server holds then.
+fn send<K: Label, R: Wait>(
+    rt: &R,
+    alloc: Global,
+    blanks: Blanks,
+    config: Config,
+) -> Result<(Ended, u64), Fault>
+    requires names { (blanks.steps.name ≡ K.steps) × (blanks.counted.name ≡ K.counted) × (blanks.added.name ≡ K.added) × (blanks.removed.name ≡ K.removed) }
+    requires parts { (blanks.steps.parts ≡ K.parts) × (blanks.counted.parts ≡ K.parts) × (blanks.added.parts ≡ K.parts) × (blanks.removed.parts ≡ K.parts) × (K.parts ≡ 1025) }
+{
+    let shared: Shared<K> = Shared::open(alloc, config, 0, 1, blanks)?;
+    send_from(rt, alloc, &shared, config)
+}
+
+fn sent<R: Wait>(rt: &R, alloc: Global) -> Result<(Ended, u64), Fault> {
+    send::<Brand, R>(rt, alloc, Blanks::new(), Config::new(true, 85, 30, 60_000)?)
+}
+
+#[test]
+fn a_replicator_sends_what_waits(rt: HostRuntime) -> Result<(), Fail> {
+    let (ended, held) = sent(&rt, rt.alloc())?;
+    let one = Ended {
+        turns: 1,
+        refused: 0,
+    };
+    assert!(rt; ended == one && held == 1);
+    Ok(())
+}

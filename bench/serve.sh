@@ -1,7 +1,7 @@
 #!/usr/bin/env bash
 # Times heartbeats over connections of 100 each, with 4 workers: the server, a server that answers without looking (the loopback's own
 # speed), and, where BASELINE names its program, a plain Rust server with the same options. Then a soak: more clients than workers,
-# connections that are cut anywhere, and garbage (EACH connections of each client, 100 if it isn't set). Prints heartbeats a second, the median and
+# connections that are cut anywhere, and garbage (EACH connections of each client, 2,500 if it isn't set), until the journal is full and beyond. Prints heartbeats a second, the median and
 # the 99th percentile in microseconds, and what memory the server had.
 set -euo pipefail
 top=$(cd "$(dirname "${BASH_SOURCE[0]}")/.." && pwd)
@@ -48,15 +48,18 @@ for run in 1 2 3; do
     echo "echo: $(beats echo)"
 done
 
-clients=16 each=${EACH:-100}
+# Enough to fill the journal.
+clients=16 each=${EACH:-2500}
 total=$((clients * each + 3))
 port=$((port + 1))
 "$program" serve --port "$port" --sessions "$total" --workers 4 --evict-ms 100 > "$work/served" 2> "$work/told" &
 started=$!
 await
 (while ps -o rss= -p "$started"; do sleep 0.5; done) > "$work/memory" &
-"$work/load" soak "$port" "$clients" "$each" "${SEED:-1}"
+"$work/load" soak "$port" "$clients" "$each" "${SEED:-1}" | tee "$work/soaked"
 wait "$started"
 started=
 cat "$work/told" "$work/served"
+grep -qx "served $total" "$work/served"
+grep -q " [1-9][0-9]* refused by a full journal" "$work/soaked"
 awk '{ kib[NR] = $1 } END { for (part = 1; part <= 8; part++) printf "%s%d", (part > 1 ? " " : "memory in MiB after each eighth of the time: "), kib[int((NR * part + 7) / 8)] / 1024; print "" }' "$work/memory"

@@ -24,16 +24,15 @@ script() {
     }'
 }
 
-# processor time of twenty runs, in seconds
+# processor time of five runs, in seconds
 timed() {
     local TIMEFORMAT='%U %S'
-    { time for _ in {1..20}; do "$@" < "$work/script" > "$work/out"; done 2> /dev/null; } 2>&1 | awk '{ print $1 + $2 }'
+    { time for _ in {1..5}; do "$@" < "$work/script" > "$work/out"; done 2> /dev/null; } 2>&1 | awk '{ print $1 + $2 }'
 }
 
-# a script has at most 65,536 commands answered
 for kind in renew register cancel; do
     for leases in 50 50000; do
-        lines=$((65536 - leases))
+        lines=200000
         if [ "$kind" = cancel ]; then lines=$((lines / 2)); fi
         script "$leases" "$lines" "$kind" > "$work/script"
         for run in 1 2 3; do
@@ -41,7 +40,7 @@ for kind in renew register cancel; do
             cp "$work/out" "$work/proved"
             plain=$(timed "$work/plain")
             cmp "$work/out" "$work/proved"
-            echo "$kind over $leases leases, $lines lines, 20 runs: $proved s, plain $plain s"
+            echo "$kind over $leases leases, $lines lines, 5 runs: $proved s, plain $plain s"
         done
     done
 done

@@ -1,8 +1,9 @@
 #!/usr/bin/env bash
 # Times heartbeats over connections of 100 each, with 4 workers: the server, a server that answers without looking (the loopback's own
-# speed), and, where BASELINE names its program, a plain Rust server with the same options. Then a soak: more clients than workers,
-# connections that are cut anywhere, and garbage (EACH connections of each client, 2,500 if it isn't set), until the journal is full and beyond. Prints heartbeats a second, the median and
-# the 99th percentile in microseconds, and what memory the server had.
+# speed), and, where BASELINE names its program, a plain Rust server with the same options. Then a million heartbeats of 1, 1,000 and 60,000
+# leases, in which the journal begins anew every 65,536 steps. Then a soak: more clients than workers, connections that are cut anywhere, and
+# garbage (EACH connections of each client, 2,500 if it isn't set). Prints heartbeats a second, the median, the 99th and the 99.9th percentile
+# and the longest time in microseconds, and what memory the server had.
 set -euo pipefail
 top=$(cd "$(dirname "${BASH_SOURCE[0]}")/.." && pwd)
 program=$top/crates/eureka/out/eureka
@@ -12,7 +13,6 @@ stop() { if [ -n "$started" ]; then kill "$started" 2> /dev/null || true; wait "
 trap 'stop; rm -rf "$work"' EXIT
 "$top/eureka" --help > "$work/help"
 rustc --edition 2021 -O -o "$work/load" "$top/bench/serve_load.rs"
-# A server answers at most 65,536 commands, so keep 100 times these two below that.
 connections=${CONNECTIONS:-4}
 sessions=${SESSIONS:-50}
 port=18761
@@ -27,39 +27,65 @@ await() {
     exit 1
 }
 
-# One run of a server that stands: heartbeats a second, median, 99th percentile. The connection of `await` is a session too.
-beats() {
-    local total=$((connections * sessions + 2))
+# A server with so many sessions.
+serve() {
+    local server=$1
+    shift
     port=$((port + 1))
-    case $1 in
+    case $server in
         echo) "$work/load" echo "$port" 4 & ;;
-        *) "$1" serve --port "$port" --sessions "$total" --workers 4 > "$work/served" 2> "$work/told" & ;;
+        *) "$server" serve --port "$port" --sessions "$1" --workers 4 "${@:2}" > "$work/served" 2> "$work/told" & ;;
     esac
     started=$!
     await
-    "$work/load" beats "$port" "$connections" "$sessions"
-    if [ "$1" != echo ]; then wait "$started"; started=; grep -qx "served $total" "$work/served"; fi
+}
+
+# The server ends by itself, with so many sessions served.
+ended() {
+    wait "$started"
+    started=
+    grep -qx "served $1" "$work/served"
+}
+
+# One run of a server that stands, over so many leases. The connection of `await` is a session too.
+beats() {
+    local server=$1 sessions=$2 leases=$3
+    local total=$((connections * sessions + 1 + (leases + 99) / 100))
+    serve "$server" "$total"
+    "$work/load" beats "$port" "$connections" "$sessions" "$leases"
+    if [ "$server" != echo ]; then ended "$total"; fi
     stop
 }
 
+# What memory the server has, while it runs, and in the end after each eighth of that time.
+watch() {
+    (while ps -o rss= -p "$started"; do sleep 0.5; done) > "$work/memory" &
+}
+memory() {
+    awk '{ kib[NR] = $1 } END { for (part = 1; part <= 8; part++) printf "%s%d", (part > 1 ? " " : "memory in MiB after each eighth of the time: "), kib[int((NR * part + 7) / 8)] / 1024; print "" }' "$work/memory"
+}
+
 for run in 1 2 3; do
-    echo "eureka: $(beats "$program")"
-    if [ -n "${BASELINE:-}" ]; then echo "plain: $(beats "$BASELINE")"; fi
-    echo "echo: $(beats echo)"
+    echo "eureka: $(beats "$program" "$sessions" 1)"
+    if [ -n "${BASELINE:-}" ]; then echo "plain: $(beats "$BASELINE" "$sessions" 1)"; fi
+    echo "echo: $(beats echo "$sessions" 1)"
 done
 
-# Enough to fill the journal.
+for leases in 1 1000 60000; do
+    total=$((4 * 2500 + 1 + (leases + 99) / 100))
+    serve "$program" "$total"
+    watch
+    echo "a million of $leases: $("$work/load" beats "$port" 4 2500 "$leases")"
+    ended "$total"
+    memory
+done
+
 clients=16 each=${EACH:-2500}
 total=$((clients * each + 3))
-port=$((port + 1))
-"$program" serve --port "$port" --sessions "$total" --workers 4 --evict-ms 100 > "$work/served" 2> "$work/told" &
-started=$!
-await
-(while ps -o rss= -p "$started"; do sleep 0.5; done) > "$work/memory" &
+serve "$program" "$total" --evict-ms 100
+watch
 "$work/load" soak "$port" "$clients" "$each" "${SEED:-1}" | tee "$work/soaked"
-wait "$started"
-started=
+ended "$total"
 cat "$work/told" "$work/served"
-grep -qx "served $total" "$work/served"
-grep -q " [1-9][0-9]* refused by a full journal" "$work/soaked"
-awk '{ kib[NR] = $1 } END { for (part = 1; part <= 8; part++) printf "%s%d", (part > 1 ? " " : "memory in MiB after each eighth of the time: "), kib[int((NR * part + 7) / 8)] / 1024; print "" }' "$work/memory"
+grep -q " and 0 refused" "$work/soaked"
+memory

@@ -2,13 +2,13 @@
 //!
 //! `serve_load echo PORT WORKERS`: answers each head that it is sent with the same bytes, 100 to a connection, without looking.
 //!
-//! `serve_load beats PORT CONNECTIONS SESSIONS`: registers an instance, and then each of so many threads makes so many connections with
-//! 100 heartbeats each, one after the other. Prints the heartbeats a second, and the median and the 99th percentile of the time of one
-//! in microseconds.
+//! `serve_load beats PORT CONNECTIONS SESSIONS LEASES`: registers so many instances, 100 to a connection, and then each of so many threads
+//! makes so many connections with 100 heartbeats each, one after the other, of drawn instances. Prints the heartbeats a second, and the
+//! median, the 99th and the 99.9th percentile and the longest of the times of one, in microseconds.
 //!
 //! `serve_load soak PORT CONNECTIONS SESSIONS SEED`: each of so many threads makes so many connections: whole requests, requests that
 //! are cut anywhere, and garbage, at random. Prints how many connections were made, how many heartbeats were sent whole, and how many
-//! of them were done or refused since the journal is full; then whether a look at the lease is answered still.
+//! of them were done or refused; then whether a look at the lease is answered still.
 
 use std::env;
 use std::io::{self, Read, Write};
@@ -18,24 +18,43 @@ use std::time::{Duration, Instant};
 
 const REQUESTS: usize = 100;
 
-const BODY: &str = r#"{"instance":{"instanceId":"i1","hostName":"h","app":"a","ipAddr":"10.0.0.1","status":"UP","lastDirtyTimestamp":"5","dataCenterInfo":{"name":"MyOwn"}}}"#;
-
 const BEAT: &str =
     "PUT /eureka/apps/A/i1?lastDirtyTimestamp=5 HTTP/1.1\r\nHost: eureka.example.org:8761\r\nUser-Agent: Java-EurekaClient/v1.10\r\nAccept: application/json\r\n\r\n";
 
 const ANSWER: &str = "HTTP/1.1 200 OK\r\nContent-Length: 0\r\n\r\n";
 
-const FULL: &str = "{\"fault\":6}";
+const REFUSED: &str = "HTTP/1.1 503 ";
 
 const LOOK: &str = "GET /eureka/apps/A/i1 HTTP/1.1\r\nHost: x\r\nConnection: close\r\n\r\n";
 
 const LAST_ANSWER: &str = "HTTP/1.1 200 OK\r\nContent-Length: 0\r\nConnection: close\r\n\r\n";
 
-fn registration() -> String {
-    format!(
-        "POST /eureka/apps/a HTTP/1.1\r\nHost: x\r\nConnection: close\r\nContent-Length: {}\r\n\r\n{BODY}",
-        BODY.len()
-    )
+/// Registers i1, i2 and so on; the last one of a connection closes it.
+fn registration(lease: usize, last: bool) -> String {
+    let body = format!(
+        r#"{{"instance":{{"instanceId":"i{lease}","hostName":"h{lease}.example.org","app":"a","ipAddr":"10.0.0.1","status":"UP","lastDirtyTimestamp":"5","dataCenterInfo":{{"name":"MyOwn"}}}}}}"#
+    );
+    let close = if last { "Connection: close\r\n" } else { "" };
+    format!("POST /eureka/apps/a HTTP/1.1\r\nHost: x\r\n{close}Content-Length: {}\r\n\r\n{body}", body.len())
+}
+
+/// Renews the lease of an instance.
+fn renewal(lease: usize) -> String {
+    BEAT.replacen("A/i1", &format!("A/i{lease}"), 1)
+}
+
+/// Registers so many instances, 100 to a connection.
+fn register(port: u16, leases: usize) -> io::Result<()> {
+    for first in (1..=leases).step_by(REQUESTS) {
+        let last = leases.min(first + REQUESTS - 1);
+        let mut stream = connect(port)?;
+        let mut buffer = Vec::new();
+        for lease in first..=last {
+            stream.write_all(registration(lease, lease == last).as_bytes())?;
+            read_head(&mut stream, &mut buffer)?;
+        }
+    }
+    Ok(())
 }
 
 fn connect(port: u16) -> io::Result<TcpStream> {
@@ -51,7 +70,7 @@ fn read_head(stream: &mut TcpStream, buffer: &mut Vec<u8>) -> io::Result<()> {
     let mut piece = [0; 1024];
     loop {
         if let Some(end) = buffer.windows(4).position(|four| four == b"\r\n\r\n") {
-            if !buffer.starts_with(b"HTTP/1.1 200") {
+            if !buffer.starts_with(b"HTTP/1.1 20") {
                 return Err(io::Error::other(String::from_utf8_lossy(buffer).into_owned()));
             }
             buffer.drain(..end + 4);
@@ -72,28 +91,30 @@ fn ask_once(port: u16, request: &str) -> io::Result<Vec<u8>> {
     Ok(answer)
 }
 
-/// A connection with heartbeats; the nanoseconds of each.
-fn beat(port: u16, times: &mut Vec<u64>) -> io::Result<()> {
+/// A connection with heartbeats of drawn instances; the nanoseconds of each.
+fn beat(port: u16, leases: usize, random: &mut Random, times: &mut Vec<u64>) -> io::Result<()> {
     let mut stream = connect(port)?;
     let mut buffer = Vec::new();
     for _ in 0..REQUESTS {
+        let request = renewal(random.below(leases as u64) as usize + 1);
         let start = Instant::now();
-        stream.write_all(BEAT.as_bytes())?;
+        stream.write_all(request.as_bytes())?;
         read_head(&mut stream, &mut buffer)?;
         times.push(start.elapsed().as_nanos() as u64);
     }
     Ok(())
 }
 
-fn beats(port: u16, connections: usize, sessions: usize) -> io::Result<()> {
-    ask_once(port, &registration())?;
+fn beats(port: u16, connections: usize, sessions: usize, leases: usize) -> io::Result<()> {
+    register(port, leases)?;
     let start = Instant::now();
     let threads: Vec<_> = (0..connections)
-        .map(|_| {
+        .map(|number| {
             thread::spawn(move || -> io::Result<Vec<u64>> {
+                let mut random = Random(number as u64 + 1);
                 let mut times = Vec::with_capacity(sessions * REQUESTS);
                 for _ in 0..sessions {
-                    beat(port, &mut times)?;
+                    beat(port, leases, &mut random, &mut times)?;
                 }
                 Ok(times)
             })
@@ -106,7 +127,9 @@ fn beats(port: u16, connections: usize, sessions: usize) -> io::Result<()> {
     let seconds = start.elapsed().as_secs_f64();
     times.sort_unstable();
     let at = |share: f64| times[(times.len() as f64 * share) as usize] as f64 / 1000.0;
-    println!("{:.0} {:.0} {:.0}", times.len() as f64 / seconds, at(0.5), at(0.99));
+    let longest = times.last().copied().unwrap_or(0) as f64 / 1000.0;
+    let rate = times.len() as f64 / seconds;
+    println!("{rate:.0} {:.0} {:.0} {:.0} {longest:.0}", at(0.5), at(0.99), at(0.999));
     Ok(())
 }
 
@@ -138,7 +161,7 @@ fn disturb(port: u16, random: &mut Random) -> io::Result<[u64; 3]> {
     match end {
         0 => text.extend_from_slice(&BEAT.as_bytes()[..random.below(BEAT.len() as u64) as usize]),
         1 => {
-            let body = registration();
+            let body = registration(1, true);
             text.extend_from_slice(&body.as_bytes()[..random.below(body.len() as u64) as usize]);
         }
         2 => (0..random.below(20_000)).for_each(|_| text.push(random.below(256) as u8)),
@@ -156,11 +179,11 @@ fn disturb(port: u16, random: &mut Random) -> io::Result<[u64; 3]> {
     stream.shutdown(std::net::Shutdown::Write)?;
     let mut answer = Vec::new();
     stream.read_to_end(&mut answer)?;
-    Ok([whole, count(&answer, ANSWER), count(&answer, FULL)])
+    Ok([whole, count(&answer, ANSWER), count(&answer, REFUSED)])
 }
 
 fn soak(port: u16, connections: usize, sessions: usize, seed: u64) -> io::Result<()> {
-    ask_once(port, &registration())?;
+    register(port, 1)?;
     let threads: Vec<_> = (0..connections)
         .map(|number| {
             thread::spawn(move || {
@@ -181,9 +204,9 @@ fn soak(port: u16, connections: usize, sessions: usize, seed: u64) -> io::Result
         let counts = thread.join().unwrap();
         (0..4).for_each(|at| sums[at] += counts[at]);
     }
-    let [whole, done, full, failed] = sums;
+    let [whole, done, refused, failed] = sums;
     let made = connections * sessions + 2;
-    println!("{made} connections, {failed} failed; of {whole} heartbeats {done} were done and {full} refused by a full journal");
+    println!("{made} connections, {failed} failed; of {whole} heartbeats {done} were done and {refused} refused");
     let look = ask_once(port, LOOK)?;
     println!("a look: {}", String::from_utf8_lossy(&look[..15.min(look.len())]));
     Ok(())
@@ -227,7 +250,7 @@ fn main() -> io::Result<()> {
     let (port, many, sessions) = (number(1) as u16, number(2) as usize, number(3) as usize);
     match words.first().map(String::as_str) {
         Some("echo") => echo(port, many),
-        Some("beats") => beats(port, many, sessions),
+        Some("beats") => beats(port, many, sessions, number(4).max(1) as usize),
         Some("soak") => soak(port, many, sessions, number(4)),
         _ => Err(io::Error::other("echo, beats or soak")),
     }

@@ -1,13 +1,16 @@
-//! `eu_bench`: the reading and the routing of requests, listings, and a shared book, over memory, to be timed.
+//! `eu_bench`: the reading and the routing of requests, listings, checkpoints, and a shared book, over memory, to be timed.
 //!
 //! - `eu_bench heartbeats N` reads the requests of standard input N times, and prints how many of them have a route.
 //! - `eu_bench pieces K` reads them once, at most K bytes at a time, and prints how many there are and how many bytes their
 //!   bodies have, or the number of the first fault.
 //! - `eu_bench listing N` registers N instances, and prints how long the JSON of all is.
+//! - `eu_bench leases N` has a book hold N leases, and `eu_bench checkpoints N` has it begin its journal anew 20 times then; each prints how
+//!   many leases the bases had in all that were dropped.
 //! - `eu_bench asks N` has N threads (1, 2 or 4) ask 20 shared books, one after the other, and prints how many steps were accepted.
 #![tactic(auto)]
 
 mod asks;
+mod checkpoints;
 mod heartbeats;
 mod listing;
 mod pieces;
@@ -16,6 +19,7 @@ mod tests;
 
 use anyhow::{Context, bail};
 use asks::count_accepted;
+use checkpoints::count_based;
 use eu_base::Fault;
 use heartbeats::count_routed;
 use listing::listing_text;
@@ -27,7 +31,11 @@ use std::thread::Threads;
 use std::{env, io};
 
 /// The words that the program takes.
-const USAGE: &str = "eu_bench heartbeats N | pieces K | listing N | asks 1|2|4, with K above 0";
+const USAGE: &str =
+    "eu_bench heartbeats N | pieces K | listing N | leases N | checkpoints N | asks 1|2|4, with K above 0";
+
+/// How often the journal begins anew.
+const CHECKPOINTS: u32 = 20;
 
 /// All bytes of standard input.
 fn input<R: Input + AllocGlobal>(rt: &R) -> io::Result<Vec<u8>> {
@@ -69,6 +77,11 @@ fn run<R: Input + Print + AllocGlobal + Threads + Wait + Sync>(
         "listing" => {
             let len = listing_text(rt.alloc(), number)?.len();
             println!(rt; "{len} bytes")?;
+        }
+        "leases" | "checkpoints" => {
+            let times = if task == "leases" { 0 } else { CHECKPOINTS };
+            let based = count_based(rt.alloc(), number, times)?;
+            println!(rt; "{based} leases in bases")?;
         }
         "asks" if matches!(number, 1 | 2 | 4) => {
             let steps = count_accepted(rt, rt.alloc(), number)?;

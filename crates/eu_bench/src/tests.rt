@@ -1,4 +1,5 @@
 use crate::asks::accepted;
+use crate::checkpoints::count_based;
 use crate::heartbeats::count_routed;
 use crate::listing::listing_text;
 use crate::pieces::{Pieces, Totals, count_requests};
@@ -50,4 +51,10 @@ fn threads_are_settled(rt: HostRuntime) {
     assert!(rt; accepted(&rt, rt.alloc(), 1, 1_000) == Ok(1_000));
     assert!(rt; accepted(&rt, rt.alloc(), 2, 2_000) == Ok(2_000));
     assert!(rt; accepted(&rt, rt.alloc(), 4, 4_000) == Ok(4_000));
+}
+
+#[test]
+fn bases_have_the_leases(rt: HostRuntime) {
+    assert!(rt; count_based(rt.alloc(), 3, 0) == Ok(0));
+    assert!(rt; count_based(rt.alloc(), 3, 2) == Ok(3));
 }

@@ -13,7 +13,7 @@ use Rattle.eu_outbox.proofs.Crossing.{Outbox-send}
 pub Logged-send : IsSend logged.the_row
 Logged-send = search (Command-send, Reply-send, sendable) depth 40 fits 20000
 
-Journal-send : IsSend journal.the_field.row
+pub Journal-send : IsSend journal.the_field.row
 Journal-send = search (State-send, Entry-send, sendable, heap.crosses) depth 40 fits 20000
 
 Peers-send : IsSend peers.the_field.row

@@ -1,3 +1,5 @@
+pub mod HistoryLemmas
+pub mod KeyedLemmas
 pub mod BookLemmas
 pub mod PeerLemmas
 pub mod Crossing

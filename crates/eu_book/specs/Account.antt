@@ -39,6 +39,10 @@ opened config expected peers = record {
 abbrev pub most_entries : ℕ
 most_entries = 65536
 
+-- so many steps are counted at most
+abbrev pub most_steps : ℕ
+most_steps = 2 ^ 62
+
 -- a server that was just opened
 pub record IsOpening (p : PlainServer) : Type 0 where
   pub config : Config
@@ -48,23 +52,39 @@ pub record IsOpening (p : PlainServer) : Type 0 where
   pub peers_fit : peers ≤ 8
   pub opened : p ≡ plain_server (server.opened config expected peers)
 
--- The entries are a run of the server from the base, an opening, to the state, and are numbered from the first on, up to the steps
--- that were made. What was done is what they did: as many leases are held as were added and not removed
+-- A book that has come this far since it was opened. The entries that its journal has dropped led from an opening to the base; those that it has lead from
+-- there to the state, and are numbered from the first on, up to the steps that were made. What was done is what all of them did: as many leases are held
+-- as were added and not removed
 pub record IsLawful (a : Account) : Type 0 where
-  pub opening : IsOpening a.base
+  pub start : PlainServer
+  pub dropped : List Entry
+  pub opening : IsOpening start
+  pub came : Runs start dropped a.base
+  pub came_numbered : IsNumbered 0 dropped
+  pub first : a.first ≡ length dropped
   pub run : Runs a.base a.entries a.state
   pub numbered : IsNumbered a.first a.entries
   pub to_steps : a.first + length a.entries ≡ a.totals.steps
-  pub totals : a.totals ≡ tally_of a.entries
+  pub totals : a.totals ≡ plus (tally_of dropped) (tally_of a.entries)
   pub leases : len a.state.registry.leases + a.totals.removed ≡ a.totals.added
 
 -- lawful, with every number below its bound
 pub record IsKept (a : Account) : Type 0 where
   pub lawful : IsLawful a
-  pub first : a.first ≡ 0
   pub fits : length a.entries ≤ most_entries
+  pub steps : a.totals.steps ≤ most_steps
   pub counted : a.totals.counted ≤ a.totals.steps
   pub added : a.totals.added ≤ a.totals.steps
+
+-- ---- a checkpoint
+
+-- the journal begins anew where the book is: it has no entry, and the next one's number is that of the steps before it
+abbrev pub cleared : Account → Account
+cleared a = record { base = a.state; first = a.totals.steps; entries = []; state = a.state; totals = a.totals }
+
+-- the account to which an entry is added: a journal that is full begins anew before
+abbrev pub ready : Account → Account
+ready a = if length a.entries == most_entries then cleared a else a
 
 -- ---- a command that is accepted
 
@@ -85,20 +105,20 @@ grown a e state = record {
   totals = plus a.totals (delta e.command e.reply);
 }
 
--- A command of a pass at a moment is answered with this reply, which makes a step of the server; there is room for its entry, which
--- is the next one and whose number is that of the steps before it. The chooser is asked as the machine's passes ask
+-- A command of a pass at a moment is answered with this reply, which makes a step of the server, and its entry is the next one, whose number is that of the
+-- steps before it; a journal that is full begins anew before. The chooser is asked as the machine's passes ask
 pub record Applies {S : Type 0} (asks : Asks S) (old : Account) (x : S) (pass : ℕ) (c : Command) (t : ℕ) (reply : Reply) (number : ℕ) (new : Account) (x' : S) : Type 0 where
-  pub fits : length old.entries < most_entries
+  pub counts : old.totals.steps < most_steps
   pub numbered : number ≡ old.totals.steps
   pub step : ServerAnswers old.state c t (Ok reply) new.state
   pub chooses : Chooses asks old.state.registry x c t reply x'
-  pub whole : new ≡ grown old (entry pass number c t reply) new.state
+  pub whole : new ≡ grown (ready old) (entry pass number c t reply) new.state
 
 -- ---- one that is refused
 
--- the first fault, if there is one: that the entries are as many as are kept at most, or the server's
+-- the first fault, if there is one: that the steps are as many as are counted at most, or the server's
 abbrev pub fault_of : Account → Server → Command → ℕ → Option Fault
-fault_of a s c t = if length a.entries == most_entries then Some Exhausted else server_fault s c t
+fault_of a s c t = if a.totals.steps == most_steps then Some Exhausted else server_fault s c t
 
 -- a command is refused by this fault, of each server of that plain form: by its first one, or for want of memory in place of any
 abbrev pub Refuses : Account → Command → ℕ → Fault → Type 0

@@ -14,7 +14,7 @@ use Rattle.eu_model.specs.State.{server_of_state}
 use Rattle.eu_model.specs.Server.{PlainServer}
 use Rattle.eu_model.specs.ServerAnswers.{ServerAnswers}
 use Rattle.eu_outbox.specs.Boxed.{Boxed}
-use Rattle.eu_book.specs.Account.{most_entries}
+use Rattle.eu_book.specs.Account.{most_steps}
 
 -- the queues of outboxes
 abbrev pub queues_of : List Boxed → List Queue
@@ -53,6 +53,6 @@ IsPlain s = s ≡ state_of (server_of_state s)
 abbrev pub MayRefuse : PlainServer → Command → ℕ → Fault → Type 0
 MayRefuse p c t f = (f ≡ OutOfMemory) ⊎ ServerAnswers p c t (Err f) p
 
--- the same, where so many entries are kept: by `Exhausted` where they are as many as a journal keeps, and only there
+-- the same, where so many steps were made: by `Exhausted` where they are as many as are counted at most, and only there
 abbrev pub IsRefused : ℕ → PlainServer → Command → ℕ → Fault → Type 0
-IsRefused kept p c t f = ((kept ≡ most_entries) × (f ≡ Exhausted)) ⊎ ((kept ≢ most_entries) × MayRefuse p c t f)
+IsRefused steps p c t f = ((steps ≡ most_steps) × (f ≡ Exhausted)) ⊎ ((steps ≢ most_steps) × MayRefuse p c t f)

@@ -1,15 +1,17 @@
 //! The book.
-ghost use Rattle.std.specs.Prelude.{◌≡◌, ◌≤◌, Some, IfOk, IfErr, OnErr};
+ghost use Rattle.std.specs.Prelude.{◌≡◌, ◌≤◌, Some, IfOk, IfErr, OnErr, OnOk};
 ghost use Rattle.eu_model.specs.Answers.{Shows};
 ghost use Rattle.eu_model.specs.State.{server_of_state};
 ghost use Rattle.eu_model.specs.View.{view};
-ghost use Rattle.eu_book.specs.Account.{opened, logged, Applies, Refuses, IsLawful};
+ghost use Rattle.eu_book.specs.Account.{cleared, opened, logged, Applies, Refuses, IsLawful};
 ghost use Rattle.eu_book.specs.Answered.{for_log};
+ghost use Rattle.eu_book.specs.Renewed.{IsJournal, IsRetired};
 ghost use Rattle.eu_book.specs.Peers.{served, state_of};
 
 use crate::entering::{answer, note};
 use crate::journal::{Journal, Logged};
 use crate::peers::Peers;
+use crate::renewal::{plain, renew, replace};
 use eu_base::{Config, Fault, Moment};
 use eu_clock::Chooser;
 use eu_core::Registry;
@@ -26,11 +28,24 @@ pub struct Receipt {
     pub number: u64,
 }
 
-/// What a command that was entered in the journal is given, and its reply once more for a log.
+/// What an accepted command is given, for who keeps a log of their own.
+#[derive(Debug, Drop)]
+pub struct LoggedReceipt {
+    /// What the command is given.
+    pub receipt: Receipt,
+    /// What a log keeps of it.
+    pub logged: Logged,
+    /// The journal as it was, where it was full and has begun anew: to be kept elsewhere, or let go where nobody waits for it.
+    pub retired: Option<Journal>,
+}
+
+/// What a command that was entered in the journal is given, its reply once more for a log, and the journal as it was where it has
+/// begun anew.
 #[derive(Drop)]
 pub(crate) struct Entered {
     pub(crate) receipt: Receipt,
     pub(crate) logged: Option<Reply>,
+    pub(crate) retired: Option<Journal>,
 }
 
 /// A registry with the outboxes of its peers, and the journal of what it was told. Contracts see its account.
@@ -101,9 +116,11 @@ impl Book {
     /// What a client did goes into the outbox of each peer, as its task; what a peer sent, an adoption and a timer's command put
     /// nothing there. `Drain`, `Landed` and `Lost` are the calls of that name on the outbox of the peer that they name.
     ///
-    /// Refused, in this order: `Exhausted` where the journal has 65,536 entries; `NoPeer` where the command names a peer and there
-    /// is none of that number; then as its call refuses. `OutOfMemory` may come in place of any. A refusal changes nothing, and
-    /// asks no word.
+    /// Where the journal has 65,536 entries, it begins anew before (`Book::checkpoint`).
+    ///
+    /// Refused, in this order: `Exhausted` where 2^62 commands were accepted; `NoPeer` where the command names a peer and there
+    /// is none of that number; then as its call refuses. `OutOfMemory` may come in place of any. A refusal changes nothing, the
+    /// journal neither, and asks no word.
     pub fn apply<C: Chooser>(
         &mut self,
         alloc: Global,
@@ -121,7 +138,8 @@ impl Book {
         Ok(entered.receipt)
     }
 
-    /// As `apply`; and what a log of one's own keeps of the command, for who has one. All of it is made before anything changes.
+    /// As `apply`; and what a log of one's own keeps of the command, for who has one, with the journal as it was, where it has begun
+    /// anew. All of it is made before anything changes.
     pub fn apply_logged<C: Chooser>(
         &mut self,
         alloc: Global,
@@ -129,9 +147,10 @@ impl Book {
         command: Command,
         moment: Moment,
         chooser: &mut C,
-    ) -> Result<(Receipt, Logged), Fault>
-        ensures applied { IfOk result (λ r. Applies C.asks self.old chooser.old pass command moment r.0.reply r.0.number self.new chooser.new) }
-        ensures logged { IfOk result (λ r. r.1 ≡ logged command moment r.0.reply r.0.number) }
+    ) -> Result<LoggedReceipt, Fault>
+        ensures applied { IfOk result (λ r. Applies C.asks self.old chooser.old pass command moment r.receipt.reply r.receipt.number self.new chooser.new) }
+        ensures logged { IfOk result (λ r. r.logged ≡ logged command moment r.receipt.reply r.receipt.number) }
+        ensures retired { IfOk result (λ r. IsRetired self.old r.retired) }
         ensures refused { IfErr result (λ f. Refuses self.old command moment f) }
         ensures err { OnErr result (self.new ≡ self.old) }
         ensures unasked { OnErr result (chooser.new ≡ chooser.old) }
@@ -161,13 +180,16 @@ impl Book {
     ) -> Result<Entered, Fault>
         ensures applied { IfOk result (λ e. Applies C.asks self.old chooser.old pass command moment e.receipt.reply e.receipt.number self.new chooser.new) }
         ensures logged { IfOk result (λ e. e.logged ≡ for_log logs e.receipt.reply) }
+        ensures retired { IfOk result (λ e. IsRetired self.old e.retired) }
         ensures refused { IfErr result (λ f. Refuses self.old command moment f) }
         ensures err { OnErr result (self.new ≡ self.old) }
         ensures unasked { OnErr result (chooser.new ≡ chooser.old) }
     {
+        let steps = self.totals.steps;
         match answer(
             alloc,
             &mut self.journal.entries,
+            steps,
             &mut self.registry,
             &mut self.peers,
             &command,
@@ -175,19 +197,31 @@ impl Book {
             chooser,
             logs,
         ) {
-            Ok(answered) => Ok(note(
-                &mut self.journal.entries,
+            Ok(accepted) => Ok(note(
+                &mut self.journal,
                 &mut self.totals,
                 pass,
                 command,
                 moment,
-                answered,
+                accepted,
             )),
             Err(fault) => {
                 drop(command);
                 Err(fault)
             }
         }
+    }
+
+    /// Begins the journal anew: the registry and what waits for its peers, as they are, become its base, and it has no entries. They
+    /// stay as they are, and so do the totals. Gives the journal as it was, to be kept elsewhere or let go. `AllocError` where no
+    /// memory is left, which changes nothing.
+    pub fn checkpoint(&mut self, alloc: Global) -> Result<Journal, AllocError>
+        ensures ok { OnOk result (self.new ≡ cleared self.old) }
+        ensures retired { IfOk result (λ j. IsJournal self.old j) }
+        ensures err { OnErr result (self.new ≡ self.old) }
+    {
+        let renewal = renew(alloc, &self.registry, &self.peers)?;
+        Ok(replace(&mut self.journal, self.totals.steps, renewal))
     }
 
     /// What a query sees at a moment; the book stays as it is. `AllocError` where no memory is left.
@@ -215,8 +249,8 @@ impl Book {
         &self.registry
     }
 
-    /// What the registry was told. Its entries are a run of the lease machine from the base to the registry and the outboxes as they
-    /// are, numbered from `first` on.
+    /// What the registry was told last, at most 65,536 commands. Its entries are a run of the lease machine from the base to the
+    /// registry and the outboxes as they are, numbered from `first` on.
     pub fn journal(&self) -> &Journal
         ensures base { (server_of_state result.now.base ≡ self.now.base) × (result.now.base ≡ state_of self.now.base) }
         ensures first { result.now.first ≡ self.now.first }
@@ -226,7 +260,7 @@ impl Book {
         &self.journal
     }
 
-    /// What the registry was told, where no more is wanted of the book. Takes no memory.
+    /// The same, where no more is wanted of the book. Takes no memory.
     pub fn into_journal(self) -> Journal
         ensures base { (server_of_state result.base ≡ self.base) × (result.base ≡ state_of self.base) }
         ensures first { result.first ≡ self.first }
@@ -241,7 +275,7 @@ impl Book {
         journal
     }
 
-    /// What all the entries did together.
+    /// What all accepted commands did together, those too that the journal has dropped.
     pub fn totals(&self) -> Tally
         ensures { result ≡ self.now.totals }
     {
@@ -257,33 +291,30 @@ impl Book {
     }
 }
 
-/// A registry and what waits for its peers, as plain data.
-fn plain(alloc: Global, registry: &Registry, peers: &Peers) -> Result<State, AllocError>
-    ensures { IfOk result (λ s. s ≡ state_of (served registry.now peers.now)) }
-{
-    let mut state = registry.plain(alloc)?;
-    state.queues = peers.queues(alloc)?;
-    Ok(state)
-}
-
-/// What a log keeps of a command that was entered.
-fn hand_out(entered: Entered, command: Command, moment: Moment) -> (Receipt, Logged)
+/// What is handed out of a command that was entered, with the command once more.
+fn hand_out(entered: Entered, command: Command, moment: Moment) -> LoggedReceipt
     requires { entered.logged ≡ Some entered.receipt.reply }
-    ensures receipt { result.0 ≡ entered.receipt }
-    ensures logged { result.1 ≡ logged command moment entered.receipt.reply entered.receipt.number }
+    ensures receipt { result.receipt ≡ entered.receipt }
+    ensures logged { result.logged ≡ logged command moment entered.receipt.reply entered.receipt.number }
+    ensures retired { result.retired ≡ entered.retired }
 {
-    let Entered { receipt, logged } = entered;
+    let Entered {
+        receipt,
+        logged,
+        retired,
+    } = entered;
     let number = receipt.number;
     match logged {
-        Some(reply) => (
+        Some(reply) => LoggedReceipt {
             receipt,
-            Logged {
+            logged: Logged {
                 command,
                 moment,
                 reply,
                 number,
             },
-        ),
+            retired,
+        },
         None => unreachable!(),
     }
 }

@@ -1,16 +1,19 @@
 //! How an accepted command is entered in the journal.
-ghost use Rattle.std.specs.Prelude.{◌≡◌, ◌≢◌, ◌+◌, ◌<◌, ◌^◌, ◌++◌, ◌∷◌, [], Ok, length, vec_len, IfOk, IfErr, OnOk, OnErr};
+ghost use Rattle.std.specs.Prelude.{◌≡◌, ◌≢◌, ◌+◌, ◌<◌, ◌^◌, ◌++◌, ◌∷◌, [], Ok, vec_len, IfOk, IfErr, MatchOption, OnOk, OnErr};
+ghost use Rattle.std.specs.Option.{option_map};
 ghost use Rattle.std.specs.Vec.{vec_capacity};
 ghost use Rattle.eu_core.specs.Stepped.{Chooses};
 ghost use Rattle.eu_model.specs.Delta.{added_by, counted_by, delta, plus, removed_by};
 ghost use Rattle.eu_model.specs.ServerAnswers.{ServerAnswers};
-ghost use Rattle.eu_book.specs.Account.{entry, most_entries};
+ghost use Rattle.eu_book.specs.Account.{entry, most_steps};
 ghost use Rattle.eu_book.specs.Answered.{answered};
 ghost use Rattle.eu_book.specs.Peers.{IsRefused, served};
+ghost use Rattle.eu_book.specs.Renewed.{anew, base_by, entries_by, first_by};
 
 use crate::book::{Entered, Receipt};
-use crate::journal::MOST_ENTRIES;
+use crate::journal::{Journal, MOST_STEPS};
 use crate::peers::Peers;
+use crate::renewal::{Renewal, begin_anew, make_room};
 use crate::replies::Answered;
 use crate::serving::serve;
 use eu_base::{Fault, Moment};
@@ -19,57 +22,73 @@ use eu_core::Registry;
 use eu_model::{Command, Entry, Reply, Tally};
 use std::alloc::Global;
 
-/// Answers a command, once there is room for its entry. `Exhausted` where the entries are as many as a journal keeps.
+/// What an accepted command is answered, and what its journal begins anew with before the entry, where it was full.
+#[derive(Drop)]
+pub(crate) struct Accepted {
+    pub(crate) answered: Answered<Reply>,
+    pub(crate) renewal: Option<Renewal>,
+}
+
+/// Answers a command, once there is room for its entry. `Exhausted` where the steps are as many as a book counts.
 pub(crate) fn answer<C: Chooser>(
     alloc: Global,
     entries: &mut Vec<Entry>,
+    steps: u64,
     registry: &mut Registry,
     peers: &mut Peers,
     command: &Command,
     moment: Moment,
     chooser: &mut C,
     logs: bool,
-) -> Result<Answered<Reply>, Fault>
+) -> Result<Accepted, Fault>
     ensures entries { entries.new.items ≡ entries.old.items }
-    ensures room { OnOk result (vec_len entries.new < vec_capacity entries.new) }
-    ensures fits { OnOk result (length entries.old.items ≢ most_entries) }
-    ensures same { IfOk result (λ a. a ≡ answered logs a.reply) }
-    ensures answers { IfOk result (λ a. ServerAnswers (served registry.old peers.old) command.now moment (Ok a.reply) (served registry.new peers.new)) }
-    ensures chooses { IfOk result (λ a. Chooses C.asks registry.old chooser.old command.now moment a.reply chooser.new) }
-    ensures refused { IfErr result (λ f. IsRefused (length entries.old.items) (served registry.old peers.old) command.now moment f) }
+    ensures base { IfOk result (λ a. option_map (λ (n : _). n.base) a.renewal ≡ anew entries.old.items (served registry.old peers.old)) }
+    ensures room { IfOk result (λ a. MatchOption a.renewal (vec_len entries.new < vec_capacity entries.new) (λ n. (n.entries.items ≡ []) × (vec_len n.entries < vec_capacity n.entries))) }
+    ensures counts { OnOk result (steps ≢ most_steps) }
+    ensures same { IfOk result (λ a. a.answered ≡ answered logs a.answered.reply) }
+    ensures answers { IfOk result (λ a. ServerAnswers (served registry.old peers.old) command.now moment (Ok a.answered.reply) (served registry.new peers.new)) }
+    ensures chooses { IfOk result (λ a. Chooses C.asks registry.old chooser.old command.now moment a.answered.reply chooser.new) }
+    ensures refused { IfErr result (λ f. IsRefused steps (served registry.old peers.old) command.now moment f) }
     ensures err { OnErr result (served registry.new peers.new ≡ served registry.old peers.old) }
     ensures unasked { OnErr result (chooser.new ≡ chooser.old) }
 {
-    if entries.len() == MOST_ENTRIES {
+    if steps == MOST_STEPS {
         return Err(Fault::Exhausted);
     }
-    entries.reserve(1)?;
-    serve(alloc, registry, peers, command, moment, chooser, logs)
+    let renewal = make_room(alloc, entries, registry, peers)?;
+    let answered = serve(alloc, registry, peers, command, moment, chooser, logs)?;
+    Ok(Accepted { answered, renewal })
 }
 
-/// Enters a command with its reply, adds what it did, and gives who asked the replies that are theirs.
+/// Enters a command with its reply in the journal, which begins anew before, where that was made ready; adds what it did, and gives who
+/// asked the replies that are theirs.
 pub(crate) fn note(
-    entries: &mut Vec<Entry>,
+    journal: &mut Journal,
     totals: &mut Tally,
     pass: u64,
     command: Command,
     moment: Moment,
-    answered: Answered<Reply>,
+    accepted: Accepted,
 ) -> Entered
-    requires room { vec_len entries.old < vec_capacity entries.old }
+    requires room { MatchOption accepted.renewal (vec_len journal.old.entries < vec_capacity journal.old.entries) (λ n. (n.entries.items ≡ []) × (vec_len n.entries < vec_capacity n.entries)) }
     requires steps { totals.old.steps + 1 < 2 ^ 64 }
-    requires counted { totals.old.counted + counted_by command answered.reply < 2 ^ 64 }
-    requires added { totals.old.added + added_by command answered.reply < 2 ^ 64 }
-    requires removed { totals.old.removed + removed_by command answered.reply < 2 ^ 64 }
-    ensures entries { entries.new.items ≡ entries.old.items ++ entry pass totals.old.steps command moment answered.reply ∷ [] }
-    ensures totals { totals.new ≡ plus totals.old (delta command answered.reply) }
+    requires counted { totals.old.counted + counted_by command accepted.answered.reply < 2 ^ 64 }
+    requires added { totals.old.added + added_by command accepted.answered.reply < 2 ^ 64 }
+    requires removed { totals.old.removed + removed_by command accepted.answered.reply < 2 ^ 64 }
+    ensures base { journal.new.base ≡ base_by (option_map (λ (n : _). n.base) accepted.renewal) journal.old.base }
+    ensures first { journal.new.first ≡ first_by (option_map (λ (n : _). n.base) accepted.renewal) totals.old.steps journal.old.first }
+    ensures entries { journal.new.entries.items ≡ entries_by (option_map (λ (n : _). n.base) accepted.renewal) journal.old.entries.items ++ entry pass totals.old.steps command moment accepted.answered.reply ∷ [] }
+    ensures totals { totals.new ≡ plus totals.old (delta command accepted.answered.reply) }
     ensures number { result.receipt.number ≡ totals.old.steps }
-    ensures told { result.receipt.reply ≡ answered.told }
-    ensures logged { result.logged ≡ answered.logged }
+    ensures told { result.receipt.reply ≡ accepted.answered.told }
+    ensures logged { result.logged ≡ accepted.answered.logged }
+    ensures retired { result.retired ≡ option_map (λ _. journal.old) accepted.renewal }
 {
+    let Accepted { answered, renewal } = accepted;
     let number = totals.steps;
+    let retired = begin_anew(journal, number, renewal);
     add(totals, Tally::of(&command, &answered.reply));
-    entries.push_reserved(Entry {
+    journal.entries.push_reserved(Entry {
         pass,
         number,
         command,
@@ -82,6 +101,7 @@ pub(crate) fn note(
             number,
         },
         logged: answered.logged,
+        retired,
     }
 }
 

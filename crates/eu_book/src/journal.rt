@@ -6,14 +6,17 @@ use eu_model::{Command, Entry, Reply, State};
 /// The most entries that a journal keeps.
 pub const MOST_ENTRIES: usize = 65_536;
 
-/// What was told to a registry: its entries are a run of the lease machine from the base.
+/// The most steps that a book counts.
+pub const MOST_STEPS: u64 = 1 << 62;
+
+/// The last that was told to a registry: its entries are a run of the lease machine from the base.
 #[derive(Debug, Drop)]
 pub struct Journal {
-    /// What the registry was before the first entry.
+    /// What the registry and its peers' queues were before the first entry: as they were opened, or at the last checkpoint.
     pub base: State,
-    /// The number of the first entry.
+    /// The number of the first entry: that of the commands that were accepted before the base.
     pub first: u64,
-    /// The commands that were accepted, with their replies, in their order.
+    /// The commands that were accepted since, with their replies, in their order.
     pub entries: Vec<Entry>,
 }
 

@@ -2,6 +2,8 @@
 mod base;
 mod choice;
 mod clock;
+mod deadlines;
+mod index;
 mod lease;
 mod meter;
 mod model;

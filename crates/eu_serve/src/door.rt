@@ -1,6 +1,7 @@
 //! Where connections come from.
 
 ghost use Rattle.std.specs.Prelude.{◌≡◌};
+ghost use Rattle.eu_serve.specs.Passing.{is_passing};
 
 use crate::pace::Pace;
 use eu_gate::{Entrance, Periods};
@@ -107,9 +108,19 @@ impl<'a, R: Wait + Clock> Hall<'a, R> {
     }
 }
 
-/// Whether an `accept` that failed by such an error is made again: a connection was aborted before, or a signal came.
-fn is_passing(kind: ErrorKind) -> bool {
-    kind == ErrorKind::ConnectionAborted || kind == ErrorKind::Interrupted
+/// Whether an `accept` that failed by such an error is made again: a connection was aborted before, its network failed, or a signal
+/// came (accept(2) of Linux, "Error handling"; what it names beside, std doesn't tell apart, and that ends the server).
+fn is_passing(kind: ErrorKind) -> bool
+    ensures { result ≡ is_passing kind }
+{
+    match kind {
+        ErrorKind::ConnectionAborted
+        | ErrorKind::NetworkDown
+        | ErrorKind::NetworkUnreachable
+        | ErrorKind::HostUnreachable
+        | ErrorKind::Interrupted => true,
+        _ => false,
+    }
 }
 
 /// Has a connection send each response at once and wait no longer than that.

@@ -1,5 +1,5 @@
 //! A server.
-ghost use Rattle.std.specs.Prelude.{◌≡◌, ◌≤◌, ◌<◌, IfErr, OnOk};
+ghost use Rattle.std.specs.Prelude.{◌≡◌, ◌≤◌, ◌<◌, Err, IfOk, IfErr, OnOk};
 ghost use Rattle.eu_settle.specs.Settled.{IsMismatch, IsSettled};
 ghost use Rattle.eu_settle.specs.declared.settling.Mismatch.{Mismatch};
 
@@ -10,7 +10,7 @@ use eu_clock::{Chooser, SystemClock};
 use eu_gate::{Entrance, Periods};
 use eu_routes::Routes;
 use eu_settle::{Closed, settle};
-use eu_shared::{Blanks, Label, Pass, Shared, close};
+use eu_shared::{Blanks, Label, Pass, Shared, Unclosed, close};
 use eu_workers::{Job, Site, Work, Worker, run_all};
 use std::alloc::Global;
 use std::io::Write;
@@ -121,28 +121,20 @@ fn work_all<'a, K: Label + Send + Sync, R: Threads + Wait + Clock + Sync, H: Cho
     Ok((passes, served))
 }
 
-/// Whether each worker logged its part of the book: else it is `Mismatch`.
-fn judge(closed: &Closed) -> Result<(), Fault>
-    ensures ok { OnOk result (IsSettled closed.now.first closed.now.logs.items closed.now.entries.items) }
-    ensures mismatch { IfErr result (λ f. (f ≡ Fault.Mismatch) × ((m : Mismatch) × IsMismatch closed.now.first closed.now.logs.items closed.now.entries.items m.pass m.place)) }
+/// Judges a book that was to be closed: the fault of the close where it wasn't, `Mismatch` where a worker didn't log its part of it.
+fn judge<K: Label>(closed: Result<Closed, Unclosed<K>>) -> Result<(), Fault>
+    ensures unclosed { IfErr closed (λ u. result ≡ Err u.fault) }
+    ensures settled { IfOk closed (λ c. OnOk result (IsSettled c.first c.logs.items c.entries.items)) }
+    ensures mismatch { IfOk closed (λ c. IfErr result (λ f. (f ≡ Fault.Mismatch) × ((m : Mismatch) × IsMismatch c.first c.logs.items c.entries.items m.pass m.place))) }
 {
-    match settle(closed) {
-        Ok(()) => Ok(()),
-        Err(_) => Err(Fault::Mismatch),
-    }
-}
-
-/// Closes the book, and judges whether each worker logged its part of it.
-fn settle_book<K: Label>(
-    shared: Shared<K>,
-    alloc: Global,
-    passes: Vec<Pass<K>>,
-) -> Result<(), Fault> {
-    let closed: Closed = match close(shared, alloc, passes) {
+    let closed = match closed {
         Ok(closed) => closed,
         Err(unclosed) => return Err(unclosed.fault),
     };
-    judge(&closed)
+    match settle(&closed) {
+        Ok(()) => Ok(()),
+        Err(_) => Err(Fault::Mismatch),
+    }
 }
 
 /// Opens a book, serves it, closes it and settles it. Tells how many connections were served.
@@ -163,7 +155,7 @@ fn serve_book<K: Label + Send + Sync, R: Threads + Wait + Clock + Sync, H: Choos
         return Err(Fault::Read);
     };
     let (passes, served) = work_all(rt, alloc, &shared, &hall, plan.workers, chooser)?;
-    settle_book(shared, alloc, passes)?;
+    judge(close(shared, alloc, passes))?;
     if hall.has_failed() {
         return Err(Fault::Read);
     }

@@ -10,6 +10,7 @@ use std::alloc::{AllocError, Global};
 use std::io::{Read, Write};
 use std::net::{Net, SocketAddr, TcpListener, TcpStream};
 use std::sync::Wait;
+use std::sync::atomic::{AtomicU64, Ordering};
 use std::test::Fail;
 use std::thread::Threads;
 use std::time::{Clock, Duration, Instant};
@@ -123,7 +124,9 @@ fn serve_two<R: Threads + Wait + Clock + Sync + Net<Listener = TcpListener, Stre
 #[test]
 fn two_clients_are_served(rt: HostRuntime) -> Result<(), Fail> {
     let (listener, address) = listen(&rt)?;
-    let plan = plan(2, 10_000)?;
+    let mut plan = plan(2, 10_000)?;
+    // Longer than a client waits: it sees the end of what is written before the server stops reading.
+    plan.timeouts.linger = 40_000;
     let (out, answered) = serve_two(&rt, rt.alloc(), &listener, address, &plan);
     assert!(rt; answered == (true, true));
     assert!(rt; out?.as_slice() == b"served 2\n".as_slice());
@@ -299,5 +302,186 @@ fn a_turn_that_was_missed_is_not_caught_up(rt: HostRuntime) -> Result<(), Fail> 
     let began = Instant::now(&rt)?;
     assert!(rt; pace.pass(BUCKET, Point::Turn) == Go::On);
     assert!(rt; began.elapsed(&rt)? >= Duration::from_millis(35));
+    Ok(())
+}
+
+/// A machine whose monotonic clock is set forward by so many milliseconds.
+#[derive(Drop)]
+struct Machine<'a, R: Wait + Clock> {
+    rt: &'a R,
+    ahead: AtomicU64,
+}
+
+impl<R: Wait + Clock> Wait for Machine<'_, R> {}
+
+impl<R: Wait + Clock> Clock for Machine<'_, R> {
+    fn monotonic(&self) -> io::Result<Duration> {
+        let ahead = Duration::from_millis(self.ahead.load(Ordering::SeqCst));
+        Ok(self.rt.monotonic()?.saturating_add(ahead))
+    }
+
+    fn since_1970(&self) -> io::Result<Duration> {
+        self.rt.since_1970()
+    }
+}
+
+/// A turn is due a period after the last one began, whatever time that took: where the period is over it isn't waited for (the test
+/// would not end in time), and where a while of it is left, that is waited for.
+#[test]
+fn a_turn_is_due_a_period_after_the_last_one_began(rt: HostRuntime) -> Result<(), Fail> {
+    let machine = Machine {
+        rt: &rt,
+        ahead: AtomicU64::new(0),
+    };
+    let pace = Pace::new(&machine, Periods::of_server(900_000))?;
+    for late in [900_000, 5_000_000, 900_000] {
+        machine.ahead.fetch_add(late, Ordering::SeqCst);
+        assert!(rt; pace.pass(EVICTOR, Point::Turn) == Go::On);
+    }
+    machine.ahead.fetch_add(899_900, Ordering::SeqCst);
+    let began = Instant::now(&rt)?;
+    assert!(rt; pace.pass(EVICTOR, Point::Turn) == Go::On);
+    assert!(rt; began.elapsed(&rt)? >= Duration::from_millis(50));
+    Ok(())
+}
+
+/// Sends requests until the server takes no more, and reads no answer.
+fn send_on(alloc: Global, stream: &mut TcpStream) -> io::Result<()> {
+    stream.set_write_timeout(Some(Duration::from_millis(300)))?;
+    let mut more = String::new(alloc);
+    for _ in 0..1_000 {
+        more.push_str(LOOK)?;
+    }
+    for _ in 0..2_000 {
+        stream.write_all(more.as_bytes())?;
+    }
+    Ok(())
+}
+
+/// Sends a byte each 20 ms behind a last request, for five seconds, or until the connection is closed.
+fn dribble<R: Clock>(rt: &R, stream: &mut TcpStream) -> io::Result<()> {
+    stream.write_all(RENEWAL.as_bytes())?;
+    for _ in 0..250 {
+        thread::sleep(rt, Duration::from_millis(20));
+        stream.write_all(b"x")?;
+    }
+    Ok(())
+}
+
+/// What a server by a plan writes, and whether what a client sends behind its last request was all taken.
+fn serve_behind<R: Threads + Wait + Clock + Sync, F: FnOnce() -> io::Result<()> + Send + Drop>(
+    rt: &R,
+    alloc: Global,
+    listener: &TcpListener,
+    plan: &Plan,
+    client: F,
+) -> (Result<Vec<u8>, Fault>, bool)
+    requires { F.IsAlwaysCallable client }
+{
+    thread::join(
+        rt,
+        || written(rt, alloc, listener, plan),
+        move || client().is_ok(),
+    )
+}
+
+#[test]
+fn a_client_that_sends_on_is_cut_off(rt: HostRuntime) -> Result<(), Fail> {
+    let (listener, address) = listen(&rt)?;
+    let mut stream = TcpStream::connect(&rt, address)?;
+    let alloc = rt.alloc();
+    let mut plan = plan(1, 10_000)?;
+    plan.timeouts.linger = 40_000;
+    let (out, all_taken) = serve_behind(&rt, alloc, &listener, &plan, move || {
+        send_on(alloc, &mut stream)
+    });
+    assert!(rt; !all_taken);
+    assert!(rt; out?.as_slice() == b"served 1\n".as_slice());
+    Ok(())
+}
+
+#[test]
+fn a_client_that_dribbles_on_is_cut_off(rt: HostRuntime) -> Result<(), Fail> {
+    let (listener, address) = listen(&rt)?;
+    let mut stream = TcpStream::connect(&rt, address)?;
+    let plan = plan(1, 10_000)?;
+    let machine = &rt;
+    let (out, all_taken) = serve_behind(&rt, rt.alloc(), &listener, &plan, move || {
+        dribble(machine, &mut stream)
+    });
+    assert!(rt; !all_taken);
+    assert!(rt; out?.as_slice() == b"served 1\n".as_slice());
+    Ok(())
+}
+
+/// A registration of A/i1 with a member of a million bytes.
+fn large_registration(alloc: Global) -> Result<String, AllocError> {
+    let mut text = String::new(alloc);
+    text.push_str(
+        "POST /eureka/apps/a HTTP/1.1\r\nHost: x\r\nConnection: close\r\nContent-Length: 1000157\r\n\r\n{\"instance\":{\"instanceId\":\"i1\",\"hostName\":\"h\",\"app\":\"a\",\"ipAddr\":\"10.0.0.1\",\"status\":\"UP\",\"lastDirtyTimestamp\":\"5\",\"dataCenterInfo\":{\"name\":\"MyOwn\"},\"x\":\"",
+    )?;
+    for _ in 0..100_000 {
+        text.push_str("0123456789")?;
+    }
+    text.push_str("\"}}")?;
+    Ok(text)
+}
+
+/// Asks a hundred times for all that is registered, and reads no answer: more than the system keeps of a connection, where what is
+/// registered is large.
+fn ask_and_not_read(alloc: Global, stream: &mut TcpStream) -> io::Result<()> {
+    let mut requests = String::new(alloc);
+    for _ in 0..100 {
+        requests.push_str("GET /eureka/apps/ HTTP/1.1\r\nHost: x\r\n\r\n")?;
+    }
+    stream.write_all(requests.as_bytes())
+}
+
+/// Whether a client is answered while another keeps its connection and doesn't read.
+fn is_answered_beside_one_who_does_not_read<R: Net<Stream = TcpStream>>(
+    rt: &R,
+    alloc: Global,
+    address: SocketAddr,
+) -> io::Result<bool> {
+    let large = large_registration(alloc)?;
+    let registered = is_answered(rt, alloc, address, &large, REGISTERED);
+    let mut stream = TcpStream::connect(rt, address)?;
+    ask_and_not_read(alloc, &mut stream)?;
+    let answered = is_answered(rt, alloc, address, RENEWAL, NOT_FOUND);
+    drop(stream);
+    Ok(registered && answered)
+}
+
+/// What a server of one worker writes, and whether a client is answered while another doesn't read.
+fn serve_beside_one_who_does_not_read<
+    R: Threads + Wait + Clock + Sync + Net<Listener = TcpListener, Stream = TcpStream>,
+>(
+    rt: &R,
+    alloc: Global,
+    listener: &TcpListener,
+    address: SocketAddr,
+    plan: &Plan,
+) -> (Result<Vec<u8>, Fault>, io::Result<bool>) {
+    thread::join(
+        rt,
+        || written(rt, alloc, listener, plan),
+        || is_answered_beside_one_who_does_not_read(rt, alloc, address),
+    )
+}
+
+#[test]
+fn a_client_that_does_not_read_is_given_up(rt: HostRuntime) -> Result<(), Fail> {
+    let (listener, address) = listen(&rt)?;
+    let mut plan = plan(3, 10_000)?;
+    plan.workers = 1;
+    let (out, answered) = serve_beside_one_who_does_not_read(
+        &rt,
+        rt.alloc(),
+        &listener,
+        address,
+        &plan,
+    );
+    assert!(rt; answered?);
+    assert!(rt; out?.as_slice() == b"served 3\n".as_slice());
     Ok(())
 }

@@ -4,8 +4,8 @@ use Rattle.std.specs.Prelude.{◌==◌, if◌then◌else◌}
 use Rattle.eu_base.specs.declared.faults.Fault.{Fault}
 use Rattle.eu_base.specs.declared.faults.Fault.TheVariants.{OutOfMemory, Exhausted}
 use Rattle.eu_book.specs.declared.book.Receipt.{Receipt}
-use Rattle.eu_book.specs.Account.{Account, Applies, Refuses, entry, most_entries}
-use Rattle.eu_book.proofs.BookLemmas.{differs}
+use Rattle.eu_book.specs.Account.{Account, Applies, Refuses, entry, most_steps}
+use Rattle.eu_book.proofs.BookLemmas.{differs, ready_same}
 use Rattle.eu_core.specs.Stepped.{Chooses}
 use Rattle.eu_lines.specs.declared.faults.LineError.{LineError}
 use Rattle.eu_model.specs.declared.commands.Command.{Command}
@@ -67,12 +67,12 @@ module _ {C : Type 0} (asks : C → ℕ → ℕ × C) (x : C) where
     accepted receipt applies text r h =
         let e = entry 0 receipt.number c t receipt.reply in
         let step = applies.step r.server (sym h.state) in
-        let room : length r.entries ≢ most_entries = λ full. omega (arith, applies.fits, ap length h.entries, full) in (
+        let counts : length r.entries ≢ most_steps = λ full. omega (arith, applies.counts, h.steps, full) in
+        let before = ap (λ y. y.steps) (ready_same a).0 in (
           and_then r e step.1.0 step.0 step.1.1,
-          inl (e, refl, refl, refl, applies.numbered ∙ h.steps, differs (length r.entries) most_entries room, (refl, refl, refl, refl, step.0, step.1.1), draws a.state.registry r.server.machine x' c t receipt.reply (registry_is a r h) applies.chooses, text),
+          inl (e, refl, refl, refl, applies.numbered ∙ h.steps, differs (length r.entries) most_steps counts, (refl, refl, refl, refl, step.0, step.1.1), draws a.state.registry r.server.machine x' c t receipt.reply (registry_is a r h) applies.chooses, text),
           record {
-            entries = ap (λ y. y.entries) applies.whole ∙ ap (λ es. es ++ e ∷ []) h.entries;
-            steps = omega (arith, ap (λ y. y.totals.steps) applies.whole, h.steps, length-append r.entries (e ∷ []));
+            steps = omega (arith, ap (λ y. y.totals.steps) applies.whole, before, h.steps, length-append r.entries (e ∷ []));
             state = sym step.1.2;
           },
         )
@@ -82,7 +82,7 @@ module _ {C : Type 0} (asks : C → ℕ → ℕ × C) (x : C) where
         → (r : Ran) → Holds a r → (next : Ran) × Does asks r x c t out next x' × Holds b next
     refused f refuses same unasked known text r h = elim (refuses r.server (sym h.state)) [
       | inl e ↦ absurd (known e)
-      | inr first ↦ (r, inr (f, subst (λ es. (if length es == most_entries then Some Exhausted else server_fault r.server c t) ≡ Some f) h.entries first, text, refl, unasked), subst (λ y. Holds y r) (sym same) h)
+      | inr first ↦ (r, inr (f, subst (λ n. (if n == most_steps then Some Exhausted else server_fault r.server c t) ≡ Some f) h.steps first, text, refl, unasked), subst (λ y. Holds y r) (sym same) h)
     ]
 
     does : (answer : Result Receipt Fault) → IfOk answer (λ receipt. Applies asks a x 0 c t receipt.reply receipt.number b x') → IfErr answer (λ f. Refuses a c t f)

@@ -7,9 +7,8 @@ use Rattle.eu_server.specs.Script.{Ran, Answers, Refuses, SaysClosed, SaysOpened
 use Rattle.eu_words.specs.Lines.{Said}
 use Rattle.eu_words.specs.Lines.Said.{Register, Renew, Cancel, SetStatus, UnsetStatus, Adopt, Roll, Update, Evict, Drain, Landed, Lost}
 
--- the account is that of this run: it has the entries and their number, and the plain form of the server
+-- the account is that of this run: it has the number of its entries, and the plain form of the server
 pub record Holds (a : Account) (r : Ran) : Type 0 where
-  pub entries : a.entries ≡ r.entries
   pub steps : a.totals.steps ≡ length r.entries
   pub state : a.state ≡ plain_server r.server
 

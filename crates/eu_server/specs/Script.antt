@@ -5,7 +5,7 @@ use Rattle.eu_base.specs.declared.faults.Fault.TheVariants.{Exhausted}
 use Rattle.eu_base.specs.declared.instances.Instance.{Instance}
 use Rattle.eu_base.specs.declared.settings.Config.{Config}
 use Rattle.eu_base.specs.declared.times.Stamp.{Stamp}
-use Rattle.eu_book.specs.Account.{most_entries}
+use Rattle.eu_book.specs.Account.{most_steps}
 use Rattle.eu_lines.specs.declared.faults.ScriptFault.{ScriptFault}
 use Rattle.eu_lines.specs.Script.{Outcome}
 use Rattle.eu_model.specs.declared.commands.Command.{Command}
@@ -46,9 +46,9 @@ GoesOn r e next =
 
 -- a run has so many entries at most
 abbrev pub is_full : Ran → Bool
-is_full r = length r.entries == most_entries
+is_full r = length r.entries == most_steps
 
--- why a command is refused in a run, if it is: there is no room for its entry, or the server refuses it
+-- why a command is refused in a run, if it is: the run has no further entry, or the server refuses it
 abbrev pub refusal_in : Ran → Command → ℕ → Option Fault
 refusal_in r c t = if is_full r then Some Exhausted else server_fault r.server c t
 

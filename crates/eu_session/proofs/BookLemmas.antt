@@ -1,7 +1,10 @@
 -- A book that sessions ask goes on by runs
 use Rattle.std.proofs.Common.{◌≡◌, ℕ, ◌+◌, Bool, List, [], ◌∷◌, ◌++◌, length, Option, None, Result, Ok, Err, refl, sym, ap, ◌∙◌, subst, inl, inr, append_assoc, append-nil, length-append, arith}
+use Rattle.std.specs.Prelude.{cond}
+use Rattle.std.proofs.lemmas.Bool.Decides.{eqb_tells}
 use Rattle.eu_base.specs.declared.faults.Fault.{Fault}
-use Rattle.eu_book.specs.Account.{Account, entry}
+use Rattle.eu_book.specs.Account.{Account, cleared, entry, grown, most_entries, ready}
+use Rattle.eu_book.proofs.HistoryLemmas.{run_on}
 use Rattle.eu_framing.specs.declared.request.Request.{Request}
 use Rattle.eu_http.specs.declared.exchange.Answer.{Answer}
 use Rattle.eu_http.specs.declared.exchange.Answer.TheVariants.{Did, Saw}
@@ -10,28 +13,37 @@ use Rattle.eu_http.specs.declared.exchange.Ask.TheVariants.{Do, See}
 use Rattle.eu_http.specs.declared.exchange.Outcome.{Outcome}
 use Rattle.eu_http.specs.declared.exchange.Outcome.TheVariants.{Refused, Forbidden, Answers}
 use Rattle.eu_model.specs.declared.commands.Entry.{Entry}
-use Rattle.eu_model.specs.Server.{Server, Run}
+use Rattle.eu_model.specs.Server.{PlainServer}
 use Rattle.eu_model.specs.ServerAnswers as model
 use Rattle.eu_session.specs.declared.faults.SessionFault.{SessionFault}
 use Rattle.eu_session.specs.declared.faults.SessionFault.TheVariants.{Read, Write, OutOfMemory}
-use Rattle.eu_session.specs.Book.{BookAsks, BookTurns, BookSession, GrewBy, entry_of, entries_of, AddsTurn, AddTurns}
+use Rattle.eu_session.specs.Book.{BookAsks, BookTurns, BookSession, GrewBy, RunsFrom, entry_of, entries_of, AddsTurn, AddTurns}
 use Rattle.eu_session.specs.Chain.{Chain, Pairs}
 use Rattle.eu_session.specs.Session.{Ends}
 use Rattle.eu_session.specs.Turn.{State, Turn, Step, ComesOf}
 
--- one run after another
-run_on : (s : Server) (es fs : List Entry) (mid new : Server) → Run s es mid → Run mid fs new → Run s (es ++ fs) new
-run_on s [] fs mid new e run = subst (λ m. Run m fs new) e run
-run_on s (e ∷ es) fs mid new (next, none, step, rest) run = (next, none, step, run_on next es fs mid new rest run)
-
 stays : (a b : Account) → b ≡ a → GrewBy a [] b
-stays a b e = subst (GrewBy a []) (sym e) (record { base = refl; first = refl; more = sym (append-nil a.entries); steps = omega (arith); run = λ s at. (s, refl, at) })
+stays a b e = subst (GrewBy a []) (sym e) (record { dropped = []; more = sym (append-nil a.entries); begins = λ _. (refl, refl); steps = omega (arith); run = λ s at. (s, refl, at) })
+
+-- neither list has an element, where both together have none
+none_before : {X : Type 0} (xs ys : List X) → xs ++ ys ≡ [] → xs ≡ []
+none_before [] ys e = refl
+none_before (x ∷ xs) ys e = absurd (omega (arith, ap length e))
+
+none_behind : {X : Type 0} (xs ys : List X) → xs ++ ys ≡ [] → ys ≡ []
+none_behind [] ys e = e
+none_behind (x ∷ xs) ys e = absurd (omega (arith, ap length e))
 
 goes_on : (a b c : Account) (es fs : List Entry) → GrewBy a es b → GrewBy b fs c → GrewBy a (es ++ fs) c
 goes_on a b c es fs one two = record {
-  base = two.base ∙ one.base;
-  first = two.first ∙ one.first;
-  more = two.more ∙ ap (λ ds. ds ++ fs) one.more ∙ append_assoc a.entries es fs;
+  dropped = one.dropped ++ two.dropped;
+  more =
+      append_assoc one.dropped two.dropped c.entries ∙ ap (λ ds. one.dropped ++ ds) two.more ∙ sym (append_assoc one.dropped b.entries fs)
+      ∙ ap (λ ds. ds ++ fs) one.more ∙ append_assoc a.entries es fs;
+  begins = λ none.
+      let last = two.begins (none_behind one.dropped two.dropped none) in
+      let before = one.begins (none_before one.dropped two.dropped none) in
+      (last.0 ∙ before.0, last.1 ∙ before.1);
   steps = omega (arith, two.steps, one.steps, length-append es fs);
   run = λ s at.
       let before = one.run s at in
@@ -39,20 +51,25 @@ goes_on a b c es fs one two = record {
       (after.0, run_on s es fs before.0 after.0 before.1 after.1, after.2);
 }
 
+-- by an entry, whether the journal begins anew before it or not
+grows : (a : Account) (e : Entry) (new : PlainServer) → RunsFrom a.state (e ∷ []) new → GrewBy a (e ∷ []) (grown (ready a) e new)
+grows a e new run =
+    elim (eqb_tells (length a.entries) most_entries) [
+      | inl full ↦
+          subst (λ q. GrewBy a (e ∷ []) (grown (cond q (cleared a) a) e new)) (sym full.0)
+          (record { dropped = a.entries; more = refl; begins = λ none. absurd (omega (arith, full.1, ap length none)); steps = refl; run = run })
+      | inr room ↦
+          subst (λ q. GrewBy a (e ∷ []) (grown (cond q (cleared a) a) e new)) (sym room.0)
+          (record { dropped = []; more = refl; begins = λ _. (refl, refl); steps = refl; run = run })
+    ]
+
 -- one ask
 asks : (a b : Account) (ask : Ask) (t : ℕ) (r : Result Answer Fault) → BookAsks a ask t r b → GrewBy a (entry_of a.totals.steps t ask r) b
 unfolding model.ServerAnswers model.IsServerAnswer
 asks a b (Do c) t (Ok (Did reply)) (number, x, x', applies) =
-    let whole = applies.whole in
-    let same = ap (λ n. entry 0 n c t reply ∷ []) applies.numbered in record {
-      base = ap (λ y. y.base) whole;
-      first = ap (λ y. y.first) whole;
-      more = ap (λ y. y.entries) whole ∙ ap (λ es. a.entries ++ es) same;
-      steps = ap (λ y. y.totals.steps) whole;
-      run = λ s at.
-          let step = applies.step s at in
-          (step.1.0, (step.1.0, step.0, step.1.1, refl), step.1.2);
-    }
+    let run : RunsFrom a.state (entry 0 number c t reply ∷ []) b.state = λ s at. (let step = applies.step s at in (step.1.0, (step.1.0, step.0, step.1.1, refl), step.1.2)) in
+    let grew = subst (GrewBy a (entry 0 number c t reply ∷ [])) (sym applies.whole) (grows a (entry 0 number c t reply) b.state run) in
+    subst (λ n. GrewBy a (entry 0 n c t reply ∷ []) b) applies.numbered grew
 asks a b (Do c) t (Ok (Saw v)) none = absurd none
 asks a b (Do c) t (Err f) refused = stays a b refused.1
 asks a b (See q) t (Ok (Did reply)) none = absurd none

@@ -61,11 +61,12 @@ AddTurns n (t ∷ ts) entries =
 abbrev pub RunsFrom : PlainServer → List Entry → PlainServer → Type 0
 RunsFrom p entries q = (s : Server) → plain_server s ≡ p → (s' : Server) × Run s entries s' × (plain_server s' ≡ q)
 
--- a journal goes on: it has these entries more, which are a run from what the registry and its peers' queues were to what they are
+-- A book goes on by these entries, which are a run from what the registry and its peers' queues were to what they are. Its journal has them behind those
+-- that it had, but for the first ones, which it may have dropped: it begins where it did, where it dropped none
 pub record GrewBy (a : Account) (entries : List Entry) (b : Account) : Type 0 where
-  pub base : b.base ≡ a.base
-  pub first : b.first ≡ a.first
-  pub more : b.entries ≡ a.entries ++ entries
+  pub dropped : List Entry
+  pub more : dropped ++ b.entries ≡ a.entries ++ entries
+  pub begins : dropped ≡ [] → (b.base ≡ a.base) × (b.first ≡ a.first)
   pub steps : b.totals.steps ≡ a.totals.steps + length entries
   pub run : RunsFrom a.state entries b.state
 

@@ -5,7 +5,7 @@ use Rattle.eu_book.specs.Peers.{state_of}
 use Rattle.eu_model.specs.State.{server_of_state}
 use Rattle.eu_settle.specs.declared.closed.Closed.{Closed}
 use Rattle.eu_shared.specs.Closing.{account_of}
-use Rattle.eu_shared.proofs.KeyedLemmas.{book_back}
+use Rattle.eu_book.proofs.KeyedLemmas.{book_back}
 
 pub closed_is : (c : Closed) (a : Account) → IsLawful a → server_of_state c.base ≡ a.base → c.first ≡ a.first → c.entries.items ≡ a.entries → c.end ≡ state_of a.state → c.totals ≡ a.totals
     → account_of c ≡ a

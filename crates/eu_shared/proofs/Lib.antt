@@ -1,4 +1,4 @@
-pub mod KeyedLemmas
+pub mod TrimLemmas
 pub mod SumLemmas
 pub mod ClosingLemmas
 pub mod AnswerLemmas

@@ -13,6 +13,7 @@ use Rattle.eu_model.specs.declared.views.View.{View}
 use Rattle.eu_model.specs.Answers.{Shows}
 use Rattle.eu_model.specs.Delta.{delta, nothing, plus}
 use Rattle.eu_model.specs.View as seen
+use Rattle.eu_settle.specs.Settled.{from_first}
 
 -- a pass: its number, what it was answered, what that did, and the greatest `first` that it has seen
 pub record Caller : Type 0 where
@@ -41,6 +42,10 @@ answered p l first = record { number = p.number; log = p.log ++ l ∷ []; tally 
 -- a pass that was shown a state, of a journal that begins at `first`
 abbrev pub shown : Caller → ℕ → Caller
 shown p first = record { number = p.number; log = p.log; tally = p.tally; seen = max p.seen first }
+
+-- a pass whose log has no more what lies before the greatest `first` that it has seen
+abbrev pub trimmed : Caller → Caller
+trimmed p = record { number = p.number; log = from_first p.seen p.log; tally = p.tally; seen = p.seen }
 
 -- what was done for all these passes
 abbrev pub done_for : List Caller → Tally

@@ -1,12 +1,12 @@
 //! The book behind the lock, with its part of the ledgers.
 ghost use Rattle.std.specs.Prelude.{◌≡◌, ◌↔◌, ◌+◌, ◌<◌, ◌≤◌, ◌^◌, Err, vec_len, IfOk, IfErr, OnOk, OnErr};
-ghost use Rattle.eu_book.specs.Account.{logged, Applies, IsLawful, Refuses};
+ghost use Rattle.eu_book.specs.Account.{cleared, logged, Applies, IsLawful, Refuses};
 ghost use Rattle.eu_model.specs.Answers.{Shows};
 ghost use Rattle.eu_model.specs.Delta.{plus};
 ghost use Rattle.eu_model.specs.View.{view};
 ghost use Rattle.eu_shared.specs.Passes.{answered, done_for, fresh, opening, shown};
 
-use crate::pass::Pass;
+use crate::pass::{Pass, is_stale_with, see};
 use crate::shares::{Blanks, Label, Shares, Totals};
 use crate::sums::sum_up;
 use eu_base::{Config, Fault, Moment};
@@ -118,6 +118,8 @@ impl<K: Label> Held<K> {
             log: Vec::new(alloc),
             tally: Tally::nothing(),
             seen: 0,
+            is_stale: false,
+            retired: None,
             shares: self.rest.split_off(1),
         })
     }
@@ -160,18 +162,24 @@ impl<K: Label> Held<K> {
             drop(command);
             return Err(Fault::OutOfMemory);
         }
-        let (receipt, logged) = self
+        let told = self
             .book
             .apply_logged(alloc, pass.number, command, moment, chooser)?;
-        let done = Tally::of(&logged.command, &logged.reply);
+        let done = Tally::of(&told.logged.command, &told.logged.reply);
         self.totals.audit(&mut pass.shares);
         self.totals.add(&mut pass.shares, done);
         self.totals.audit(&mut pass.shares);
         let _totals = self.book.totals();
         pass.tally = sum(pass.tally, done);
-        pass.seen = pass.seen.max(self.book.journal().first);
-        pass.log.push_reserved(logged);
-        Ok(receipt)
+        see(
+            &mut pass.seen,
+            &mut pass.is_stale,
+            self.book.journal().first,
+        );
+        pass.is_stale = is_stale_with(pass.is_stale, pass.seen, told.logged.number);
+        pass.log.push_reserved(told.logged);
+        pass.retired = told.retired;
+        Ok(told.receipt)
     }
 
     /// What a query sees at a moment (`Book::read`). The pass has then seen where the journal begins, and nothing else changes.
@@ -188,8 +196,31 @@ impl<K: Label> Held<K> {
         ensures err { OnErr result (pass.new ≡ pass.old) }
     {
         let view = self.book.read(alloc, query, moment)?;
-        pass.seen = pass.seen.max(self.book.journal().first);
+        see(
+            &mut pass.seen,
+            &mut pass.is_stale,
+            self.book.journal().first,
+        );
         Ok(view)
+    }
+
+    /// Begins the journal anew (`Book::checkpoint`), for a pass, which has seen then where it begins. Registry, queues, totals, and
+    /// the pass's log and tallies stay. `AllocError` where no memory is left, which changes neither the book nor the pass.
+    pub fn checkpoint(&mut self, alloc: Global, pass: &mut Pass<K>) -> Result<(), AllocError>
+        ensures book { OnOk result (self.new ≡ record { book = cleared self.old.book; made = self.old.made }) }
+        ensures pass { OnOk result (pass.new ≡ shown pass.old self.old.book.totals.steps) }
+        ensures fresh { OnOk result (pass.old.tally.steps ≤ self.old.book.totals.steps) }
+        ensures err { OnErr result ((self.new ≡ self.old) × (pass.new ≡ pass.old)) }
+    {
+        let retired = self.book.checkpoint(alloc)?;
+        self.totals.audit(&mut pass.shares);
+        see(
+            &mut pass.seen,
+            &mut pass.is_stale,
+            self.book.journal().first,
+        );
+        pass.retired = Some(retired);
+        Ok(())
     }
 }
 

@@ -1,9 +1,11 @@
 //! Passes: by each, one caller asks the shared book.
-ghost use Rattle.std.specs.Prelude.{◌≡◌};
+ghost use Rattle.std.specs.Prelude.{◌≡◌, ◌≤◌, false, max};
+ghost use Rattle.eu_settle.specs.Settled.{from_first};
 ghost use Rattle.eu_shared.specs.Closing.{log_of, logged_by};
+ghost use Rattle.eu_shared.specs.Passes.{trimmed};
 
 use crate::shares::{Label, Shares};
-use eu_book::Logged;
+use eu_book::{Journal, Logged};
 use eu_model::Tally;
 use eu_settle::PassLog;
 use std::alloc::AllocError;
@@ -18,12 +20,18 @@ pub struct Pass<K: Label> {
     pub(crate) number: u64,
     pub(crate) log: Vec<Logged>,
     pub(crate) tally: Tally,
+    /// The greatest number with which it has seen the journal begin.
     pub(crate) seen: u64,
+    /// Whether its log may have what is numbered below that.
+    pub(crate) is_stale: bool,
+    /// The journal as it was before its last call, where that had it begin anew: let go once the lock is free.
+    pub(crate) retired: Option<Journal>,
     pub(crate) shares: Shares<K>,
 }
 
 impl<K: Label> Model for Pass<K> {
-    ghost use Rattle.std.specs.Prelude.{◌≡◌};
+    ghost use Rattle.std.specs.Prelude.{◌≡◌, false};
+    ghost use Rattle.eu_settle.specs.Settled.{from_first};
     ghost use Rattle.eu_shared.specs.Passes.{Caller};
     ghost use Rattle.eu_shared.specs.PassCode.{coded_caller};
 
@@ -33,7 +41,7 @@ impl<K: Label> Model for Pass<K> {
 
     ghost view = { λ p. record { number = p.number; log = p.log.items; tally = p.tally; seen = p.seen } };
 
-    ghost invariant = { λ p. p.shares ≡ record { parts = 1; tally = p.tally } };
+    ghost invariant = { λ p. (p.shares ≡ record { parts = 1; tally = p.tally }) × (p.is_stale ≡ false → from_first p.seen p.log.items ≡ p.log.items) };
 }
 
 impl<K: Label> Pass<K> {
@@ -44,7 +52,7 @@ impl<K: Label> Pass<K> {
         self.number
     }
 
-    /// What it was answered, one after the other. Takes no memory.
+    /// What it was answered, one after the other, but for what was trimmed. Takes no memory.
     pub fn log(&self) -> &[Logged]
         ensures { result.now ≡ self.now.log }
     {
@@ -56,6 +64,22 @@ impl<K: Label> Pass<K> {
         ensures { result ≡ self.now.tally }
     {
         self.tally
+    }
+
+    /// Drops from its log what lies before the journal, as far as it knows: what is numbered below the greatest number with which it
+    /// has seen the journal begin, at its asks, reads and checkpoints that weren't refused. Its tallies stay. Takes no memory.
+    pub fn trim(&mut self)
+        ensures { self.new ≡ trimmed self.old }
+    {
+        trim_log(&mut self.log, self.seen, self.is_stale);
+        self.is_stale = false;
+    }
+
+    /// Lets go of a journal that has begun anew: that takes its time, and nobody waits for it where the lock is free.
+    pub(crate) fn let_go(&mut self)
+        ensures { self.new ≡ self.old }
+    {
+        self.retired = None;
     }
 
     /// Makes room in its log for what it is answered next. `AllocError` where no memory is left.
@@ -74,8 +98,37 @@ impl<K: Label> Pass<K> {
             log,
             tally: _,
             seen: _,
+            is_stale: _,
+            retired: _,
             shares: _,
         } = self;
         PassLog { pass: number, log }
+    }
+}
+
+/// Keeps that the journal was seen to begin with `first`, where that is the greatest number so far: then a log may have what is
+/// numbered below it.
+pub(crate) fn see(seen: &mut u64, is_stale: &mut bool, first: u64)
+    ensures seen { seen.new ≡ max seen.old first }
+    ensures stale { is_stale.new ≡ false → (is_stale.old ≡ false) × (seen.new ≡ seen.old) }
+{
+    *is_stale = *is_stale || *seen < first;
+    *seen = (*seen).max(first);
+}
+
+/// Whether a log may have what is numbered below `seen`, once it has an entry of that number more.
+pub(crate) fn is_stale_with(is_stale: bool, seen: u64, number: u64) -> bool
+    ensures { result ≡ false → (is_stale ≡ false) × (seen ≤ number) }
+{
+    is_stale || number < seen
+}
+
+/// Drops from a log what is numbered below `first`, where it may have such.
+fn trim_log(log: &mut Vec<Logged>, first: u64, is_stale: bool)
+    requires { is_stale ≡ false → from_first first log.old.items ≡ log.old.items }
+    ensures { log.new.items ≡ from_first first log.old.items }
+{
+    if is_stale {
+        log.retain(|logged| first <= logged.number);
     }
 }

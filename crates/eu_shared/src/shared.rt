@@ -2,7 +2,7 @@
 //!
 //! Each call takes the lock once, makes the one call of its name on what lies behind it (`Held`), and releases it. What is
 //! behind a lock is known by its type alone: so a clause says of an answer that some lawful book gives it, and not which.
-ghost use Rattle.std.specs.Prelude.{◌≡◌, ◌∷◌, ◌++◌, ◌≤◌, [], map, vec_len, IfOk, IfErr, OnErr, IsPermutation};
+ghost use Rattle.std.specs.Prelude.{◌≡◌, ◌∷◌, ◌++◌, ◌≤◌, [], map, vec_len, IfOk, IfErr, OnErr, OnOk, IsPermutation};
 ghost use Rattle.std.specs.List.Sorted.{IsNonDecreasingBy};
 ghost use Rattle.std.specs.Sync.Mutex.{mutex_guard_value};
 ghost use Rattle.eu_book.specs.Account.{logged, IsLawful};
@@ -26,8 +26,9 @@ use std::sync::{Mutex, MutexGuard, Wait};
 
 /// A book that threads share, behind one lock.
 ///
-/// Whenever the lock is free, the book is lawful: its entries are a run of the lease machine from the base to its state, its totals
-/// are what they did, and as many leases are held as were added and not removed.
+/// Whenever the lock is free, the book is lawful: its entries are a run of the lease machine from the base to its state, the base is
+/// where those led that were dropped before, its totals are what all of them did, and as many leases are held as were added and not
+/// removed.
 #[derive(Drop)]
 pub struct Shared<K: Label> {
     held: Mutex<Held<K>>,
@@ -100,7 +101,9 @@ impl<K: Label> Pass<K> {
             drop(command);
             return Err(Fault::OutOfMemory);
         }
-        shared.lock(rt).ask(alloc, self, command, moment, chooser)
+        let answer = shared.lock(rt).ask(alloc, self, command, moment, chooser);
+        self.let_go();
+        answer
     }
 
     /// What a query sees of the shared book, at a moment (`Held::read`). `AllocError` where no memory is left, which leaves the pass
@@ -118,6 +121,24 @@ impl<K: Label> Pass<K> {
         ensures err { OnErr result (self.new ≡ self.old) }
     {
         shared.lock(rt).read(alloc, self, query, moment)
+    }
+
+    /// Begins the shared book's journal anew (`Held::checkpoint`): what it and its peers' queues are becomes its base, and it has no
+    /// entries. The pass has then seen where it begins, and its log and tallies stay. `AllocError` where no memory is left, which
+    /// changes nothing.
+    pub fn checkpoint<R: Wait>(
+        &mut self,
+        rt: &R,
+        shared: &Shared<K>,
+        alloc: Global,
+    ) -> Result<(), AllocError>
+        ensures pass { (self.new.number ≡ self.old.number) × (self.new.log ≡ self.old.log) × (self.new.tally ≡ self.old.tally) × (self.old.seen ≤ self.new.seen) }
+        ensures fresh { OnOk result (self.old.tally.steps ≤ self.new.seen) }
+        ensures err { OnErr result (self.new ≡ self.old) }
+    {
+        let done = shared.lock(rt).checkpoint(alloc, self);
+        self.let_go();
+        done
     }
 }
 

@@ -39,6 +39,8 @@ pub(crate) fn sum_up<K: Label>(
         log,
         tally,
         seen,
+        is_stale,
+        retired,
         mut shares,
     } = pass;
     shares.lend(all, 1, tally);
@@ -50,6 +52,8 @@ pub(crate) fn sum_up<K: Label>(
         log,
         tally,
         seen,
+        is_stale,
+        retired,
         shares,
     });
     sums

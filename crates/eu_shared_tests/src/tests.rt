@@ -1,6 +1,7 @@
 //! The tests, by what they are of.
 mod accounts;
 mod asks;
+mod checkpoints;
 mod held;
 mod openings;
 mod passes;

@@ -1,3 +1,5 @@
+pub mod FoundLemmas
+pub mod IndexLemmas
 pub mod SortedLemmas
 pub mod TableLemmas
 pub mod MapLemmas

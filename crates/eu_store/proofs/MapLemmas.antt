@@ -1,22 +1,28 @@
 -- What the table's clauses say of the finite map that its entries make.
-use Rattle.std.proofs.Common.{◌≡◌, ℕ, ◌≤◌, IfOk, if◌then◌else◌, Result, Ok, Err, OnOk, subst, ◌+◌, ◌⊎◌, inl, inr, IsSome, true≢false, Bool, true, false, cond, List, [], ◌∷◌, length, refl, ap, sym, ◌∙◌, Option, None, Some, is_some, arith}
-use Rattle.std.specs.Option.{option_map_or}
-use Rattle.std.specs.Map.{lookup, keys_of}
-use Rattle.std.specs.List.{IsDistinct, AllByRecursion}
-use Rattle.std.specs.FinMap.{FinMap, from_entries, get, insert, remove, len, get-from_entries, get-insert, get-remove, len-insert, len-empty, same_map}
-use Rattle.std.specs.FinMap.Entries.{find}
+use Rattle.std.proofs.Common.{◌≡◌, ℕ, ◌≤◌, IfOk, if◌then◌else◌, Result, Ok, Err, OnOk, subst, ◌+◌, ◌⊎◌, inl, inr, IsSome, true≢false, Bool, true, false, List, [], ◌∷◌, length, refl, ap, sym, ◌∙◌, Option, None, Some, is_some, arith}
+use Rattle.std.specs.Map.{keys_of}
+use Rattle.std.specs.List.{IsDistinct}
 use Rattle.std.specs.Ordering.{eq_by_cmp}
 use Rattle.std.specs.Cmp.{eq_by_cmp_equiv}
-use Rattle.std.proofs.lemmas.Map.Keys.{IsDistinct-head, IsDistinct-tail}
 use Rattle.std.proofs.Common.{IsPermutation, IsSorted}
 use Rattle.eu_base.specs.declared.names.Key.{Key}
 use Rattle.eu_model.specs.declared.views.Listed.{Listed}
 use Rattle.eu_model.specs.Kept.{kept_expired}
 use Rattle.eu_store.specs.Stored.{expired_keys}
-use Rattle.eu_store.proofs.SortedLemmas.{passing, gathered}
+use Rattle.eu_store.proofs.SortedLemmas.{gathered}
+use Rattle.eu_store.proofs.FoundLemmas.{found_apart, found_alike, key_there}
+use Rattle.eu_store.proofs.IndexLemmas.{length-deadlines}
+use Rattle.eu_deadlines.specs.Indexed.{AreBefore}
+use Rattle.std.proofs.Common.{◌-◌, ◌<◌, get_or, slice_get}
+use Rattle.std.proofs.lemmas.Map.Keys.{IsDistinct-IsPermutation}
+use Rattle.std.proofs.lemmas.List.Sorted.{list_any-IsPermutation}
+use borrow.Author.Tests.{ltb-true, ltb-false}
+use Rattle.std.proofs.Common.{ltb, zero, suc}
+use Rattle.std.proofs.lemmas.Bool.{cases_Bool}
+use Rattle.eu_store.specs.Stored.{deadline_of, deadlines}
 use Rattle.eu_store.proofs.TableLemmas.{map_of}
 use Rattle.eu_base.specs.Key.{key_cmp, key_eq}
-use Rattle.eu_base.proofs.KeyLemmas.{keys_total, keys_exact, key_eq-ties, key_eq-tie}
+use Rattle.eu_base.proofs.KeyLemmas.{keys_total, keys_exact, key_eq-tie}
 
 -- what is not there cannot be there
 pub none_is_not_some : {X : Type 0} (o : Option X) → o ≡ None → is_some o ≡ true → ⊥
@@ -43,11 +49,52 @@ pub one_at_most : (b : Bool) → (if b then 0 else 1) ≤ 1
 one_at_most true = omega arith
 one_at_most false = omega arith
 
--- the expired keys among entries, in their order
-abbrev pub expired_among : ℕ → ℕ → List (Key × Listed) → List Key
-expired_among moment extra es = passing (λ (l : Listed). kept_expired l moment extra) es
+ltb_of : (a b : ℕ) → a < b → ltb a b ≡ true
+ltb_of a b h = by (cases_Bool (ltb a b))
+  where
+    by : (ltb a b ≡ true) ⊎ (ltb a b ≡ false) → ltb a b ≡ true
+    by (inl e) = e
+    by (inr e) = absurd (omega (arith, ltb-false a b e))
 
--- gathered in any order and sorted, they are those of the map
-pub sorted_expired : (moment extra : ℕ) (es : List (Key × Listed)) (ks : List Key) → IsDistinct key_eq (keys_of es) → IsPermutation (expired_among moment extra es) ks → IsSorted key_cmp ks → ks ≡ expired_keys (map_of es) moment extra
-sorted_expired moment extra es ks apart moved up =
-    gathered (λ (l : Listed). kept_expired l moment extra) keys_total keys_exact (record { app = []; id = [] }) es ks (subst (λ (e : Key → Key → Bool). IsDistinct e (keys_of es)) key_eq-tie apart) moved up
+length-keys : (es : List (Key × Listed)) → length (keys_of es) ≡ length es
+length-keys [] = refl
+length-keys (e ∷ es) = omega (arith, length-keys es)
+
+deadline_there : (es : List (Key × Listed)) (p : ℕ) (k : Key) (v : Listed) → slice_get es p ≡ Some (k, v) → get_or (deadlines es) p 0 ≡ deadline_of v
+deadline_there [] p k v h = absurd (nothing h)
+  where
+    nothing : ◌≡◌ {A = Option (Key × Listed)} None (Some (k, v)) → ⊥
+    nothing e = cc
+deadline_there (e ∷ es) zero k v h = ap deadline_of (second h)
+  where
+    second : ◌≡◌ {A = Option (Key × Listed)} (Some e) (Some (k, v)) → e.1 ≡ v
+    second h = cc
+deadline_there (e ∷ es) (suc p) k v h = deadline_there es p k v h
+
+-- the key without a letter: what a list has beyond its end
+abbrev pub nobody : Key
+nobody = record { app = []; id = [] }
+
+-- the keys at the places of what has expired, each once and sorted, are those of the map
+pub sorted_expired : (moment extra : ℕ) (es : List (Key × Listed)) (found : List ℕ) (ks sorted : List Key) → IsDistinct key_eq (keys_of es) → length ks ≡ length found
+    → ((j : ℕ) → j < length found → (v : Listed) × (slice_get es (get_or found j 0) ≡ Some (get_or ks j nobody, v)))
+    → AreBefore (deadlines es) (moment - extra) found → IsPermutation ks sorted → IsSorted key_cmp sorted → sorted ≡ expired_keys (map_of es) moment extra
+sorted_expired moment extra es found ks sorted apart long told before moved up =
+    gathered late keys_total keys_exact nobody es sorted tied
+    (IsDistinct-IsPermutation (eq_by_cmp key_cmp) ((eq_by_cmp_equiv keys_total).symm) ks sorted moved
+    (found_apart keys_total late es found ks nobody tied long told sound before.once complete))
+    (λ q. sym (list_any-IsPermutation (eq_by_cmp key_cmp q) ks sorted moved) ∙ found_alike keys_total late es found ks nobody tied long told sound before.once complete q) up
+  where
+    late : Listed → Bool
+    late l = kept_expired l moment extra
+
+    tied : IsDistinct (eq_by_cmp key_cmp) (keys_of es)
+    tied = subst (λ (e : Key → Key → Bool). IsDistinct e (keys_of es)) key_eq-tie apart
+
+    sound : (j : ℕ) (k : Key) (v : Listed) → j < length found → slice_get es (get_or found j 0) ≡ Some (k, v) → late v ≡ true
+    sound j k v h at = ltb_of (deadline_of v + extra) moment (omega (arith, deadline_there es (get_or found j 0) k v at, (before.sound j h).1))
+
+    complete : (p : ℕ) (k : Key) (v : Listed) → slice_get es p ≡ Some (k, v) → late v ≡ true → (j : ℕ) × (j < length found) × (get_or found j 0 ≡ p)
+    complete p k v at due =
+        let d = deadline_there es p k v at in
+        before.complete p (omega (arith, (key_there es p k v nobody at).0, length-deadlines es, length-keys es)) (omega (arith, d, ltb-true (deadline_of v + extra) moment due))

@@ -1,13 +1,13 @@
 -- Entries whose keys pass a test, taken in any order and sorted by their keys, are those of the finite map in its order
-use Rattle.std.proofs.Common.{◌≡◌, ℕ, ◌+◌, ◌<◌, ◌≤◌, T, Bool, true, false, cond, ◌&&◌, List, [], ◌∷◌, map, filter, length, get_or, refl, ap, sym, subst, ◌∙◌, Option, None, Some, arith, IsPermutation, IsSorted}
+use Rattle.std.proofs.Common.{◌≡◌, ◌+◌, ◌<◌, T, Bool, true, false, cond, ◌&&◌, List, [], ◌∷◌, map, filter, length, refl, ap, sym, subst, ◌∙◌, None, Some, arith, IsPermutation, IsSorted}
 use Rattle.std.specs.declared.cmp.Ordering.{Ordering}
-use Rattle.std.specs.declared.cmp.Ordering.TheVariants.{Less, Equal, Greater}
+use Rattle.std.specs.declared.cmp.Ordering.TheVariants.{Less, Equal}
 use Rattle.std.specs.List.{IsDistinct, AllByRecursion}
 use Rattle.std.specs.List.Sorted.{IsStrictlySortedBy, IsSortedByKey}
 use Rattle.std.specs.Borrow.{Bor}
 use Rattle.std.specs.Map.{lookup, keys_of}
 use Rattle.std.specs.Map.Iter.{deref_pair}
-use Rattle.std.specs.FinMap.{from_entries, get, entries, entries_sorted, get-from_entries, get-entries}
+use Rattle.std.specs.FinMap.{from_entries, entries, entries_sorted, get-from_entries, get-entries}
 use Rattle.std.specs.FinMap.Entries.{find, is_sorted, below_all, same_entries, where_key, is_sorted-where_key, find-where_key}
 use Rattle.std.specs.Ordering.{eq_by_cmp, is_lt}
 use Rattle.std.specs.Cmp.{IsTotalOrder, eq_by_cmp_equiv}

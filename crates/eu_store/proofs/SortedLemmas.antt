@@ -1,18 +1,17 @@
 -- Keys that pass a test, taken in any order and sorted, are those of the finite map in its order.
-use Rattle.std.proofs.Common.{◌≡◌, ℕ, ◌+◌, ◌<◌, ◌≤◌, T, true≢false, Bool, true, false, cond, not, ◌||◌, ◌&&◌, List, [], ◌∷◌, ◌++◌, map, filter, length, get_or, refl, ap, sym, subst, ◌∙◌, Option, None, Some, is_some, arith, IsPermutation, IsSorted}
+use Rattle.std.proofs.Common.{◌≡◌, ◌+◌, T, true≢false, Bool, true, false, cond, ◌||◌, ◌&&◌, List, [], ◌∷◌, map, filter, refl, ap, sym, subst, ◌∙◌, None, Some, arith, IsSorted}
 use Rattle.std.specs.declared.cmp.Ordering.{Ordering}
 use Rattle.std.specs.declared.cmp.Ordering.TheVariants.{Less, Equal, Greater}
 use Rattle.std.specs.Option.{option_map_or}
 use Rattle.std.specs.List.{IsDistinct, AllByRecursion, list_any}
 use Rattle.std.specs.List.Sorted.{IsStrictlySortedBy}
-use Rattle.std.specs.FinMap.{FinMap, from_entries, get, entries, entries_sorted, get-from_entries, get-entries}
+use Rattle.std.specs.FinMap.{from_entries, entries, entries_sorted, get-from_entries, get-entries}
 use Rattle.std.specs.FinMap.Entries.{find, is_sorted, below_all, same_entries}
 use Rattle.std.specs.Ordering.{eq_by_cmp, is_eq, is_lt, ordering_reverse}
 use Rattle.std.specs.Cmp.{IsTotalOrder, eq_by_cmp_equiv}
-use Rattle.std.proofs.lemmas.Map.Keys.{IsDistinct-IsPermutation, IsDistinct-cons, IsDistinct-head, IsDistinct-tail, IsDistinct-from_sorted, apart_from_distinct, sorted_from_all_adjacent, sorted_head, sorted_tail}
+use Rattle.std.proofs.lemmas.Map.Keys.{IsDistinct-cons, IsDistinct-head, IsDistinct-tail, IsDistinct-from_sorted, apart_from_distinct, sorted_from_all_adjacent, sorted_head, sorted_tail}
 use Rattle.eu_model.proofs.PassLemmas.{first, second, less}
 use Rattle.std.proofs.lemmas.Map.Lookups.{CmpEqualImpliesEq}
-use Rattle.std.proofs.lemmas.List.Sorted.{list_any-IsPermutation}
 
 both : (a b : Bool) → T a → T b → T (a && b)
 both true b p q = q
@@ -139,12 +138,11 @@ module _ {K X : Type 0} (t : X → Bool) where
 
   -- the keys that pass, gathered from entries in any order and sorted
   pub gathered : {R : K → K → Ordering} (o : IsTotalOrder R) (same : CmpEqualImpliesEq R) (d : K) (es : List (K × X)) (ks : List K) → IsDistinct (eq_by_cmp R) (map (λ e. e.0) es)
-      → IsPermutation (passing es) ks → IsSorted R ks → ks ≡ passing (entries (from_entries {R = R} es))
-  gathered {R} o same d es ks apart moved up =
+      → IsDistinct (eq_by_cmp R) ks → ((q : K) → list_any (eq_by_cmp R q) ks ≡ list_any (eq_by_cmp R q) (passing es)) → IsSorted R ks → ks ≡ passing (entries (from_entries {R = R} es))
+  gathered {R} o same d es ks apart ks_apart alike up =
       let m = from_entries {R = R} es in
       let in_order = sorted_keys R (entries m) (entries_sorted m) in
-      let ks_apart = IsDistinct-IsPermutation (eq_by_cmp R) ((eq_by_cmp_equiv o).symm) (passing es) ks moved (IsDistinct-passing (eq_by_cmp R) es apart) in
       same_keys o same ks (passing (entries m)) (strictly_sorted o same ks d up ks_apart) (sorted-passing R (entries m) in_order)
-      (λ q. sym (list_any-IsPermutation (eq_by_cmp R q) (passing es) ks moved) ∙ any-passing o q es apart
+      (λ q. alike q ∙ any-passing o q es apart
       ∙ ap (λ v. option_map_or t v false) (sym (get-from_entries o es q) ∙ get-entries m q)
       ∙ sym (any-passing o q (entries m) (IsDistinct-from_sorted R (map (λ e. e.0) (entries m)) in_order)))

@@ -31,6 +31,14 @@ changed f m k = option_map_or (λ l. insert m k (f l)) (get m k) m
 abbrev pub term_of : Listed → Term
 term_of l = record { registered = l.times.registered; up = l.times.up; updated = l.times.updated; secs = l.instance.secs }
 
+-- the last moment at which a listed lease hasn't expired
+abbrev pub deadline_of : Listed → ℕ
+deadline_of l = l.times.updated + duration l.instance
+
+-- those of leases in some order
+abbrev pub deadlines : List (Key × Listed) → List ℕ
+deadlines es = map (λ e. deadline_of e.1) es
+
 -- the lease renewed: its last update is one duration from now
 abbrev pub renewed_at : ℕ → Listed → Listed
 renewed_at t l = record l { times = record l.times { updated = t + duration l.instance } }

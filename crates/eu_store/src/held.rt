@@ -2,7 +2,7 @@
 ghost use Rattle.std.specs.Prelude.{◌≡◌, IfOk};
 ghost use Rattle.eu_lease.specs.Term.{listed_with};
 ghost use Rattle.eu_model.specs.Kept.{kept_expired};
-ghost use Rattle.eu_store.specs.Stored.{term_of, renewed_at, upped_at, amended, rejoined};
+ghost use Rattle.eu_store.specs.Stored.{term_of, deadline_of, renewed_at, upped_at, amended, rejoined};
 
 use eu_base::{Instance, Moment, Stamp, Status};
 use eu_lease::Lease;
@@ -71,6 +71,13 @@ impl Held {
             instance,
             times: self.times(),
         })
+    }
+
+    /// The last moment at which its lease hasn't expired, in milliseconds.
+    pub(crate) fn deadline(&self) -> u64
+        ensures { result ≡ deadline_of self.now }
+    {
+        self.lease.deadline()
     }
 
     /// Whether its lease has expired, if it is granted some extra milliseconds.

@@ -1,5 +1,5 @@
 //! The leases that are held, by their keys.
-ghost use Rattle.std.specs.Prelude.{◌≡◌, ◌↔◌, ◌<◌, ◌≤◌, ◌+◌, ◌⊎◌, map, None, if◌then◌else◌, is_some, IsSome, IfOk, IfErr, OnOk};
+ghost use Rattle.std.specs.Prelude.{◌≡◌, ◌↔◌, ◌<◌, ◌≤◌, ◌+◌, ◌*◌, ◌⊎◌, length, map, None, if◌then◌else◌, is_some, IsSome, IfOk, IfErr, OnOk};
 ghost use Rattle.std.specs.Option.{option_copied};
 ghost use Rattle.std.specs.FinMap as map;
 ghost use Rattle.eu_store.specs.Stored.{changed, renewed_at, amended, upped_at, rejoined, expired_keys, rows_of, listing_of};
@@ -8,6 +8,7 @@ ghost use Rattle.std.specs.Map.Iter.{deref_pair};
 
 use crate::Held;
 use eu_base::{App, Fault, Instance, Key, Moment, Stamp, Status};
+use eu_deadlines::Deadlines;
 use eu_lease::Lease;
 use eu_model::Listed;
 use indexmap::IndexMap;
@@ -20,24 +21,28 @@ pub const MOST_LEASES: usize = 65_536;
 
 /// The leases that are held. Contracts see a finite map from keys to what is listed, and how many more can be put without
 /// taking memory.
+///
+/// Beside them stands an index of their deadlines, in the order of the table, so that those which have expired are found without a
+/// look at the others.
 #[derive(Debug, Drop)]
 pub struct Leases {
     table: IndexMap<Key, Held>,
+    index: Deadlines,
 }
 
 impl Model for Leases {
-    ghost use Rattle.std.specs.Prelude.{length, ◌≤◌, ◌-◌, min};
+    ghost use Rattle.std.specs.Prelude.{◌≡◌, length, ◌≤◌, ◌-◌, min};
     ghost use Rattle.std.specs.FinMap as map;
     ghost use Rattle.indexmap.specs.IndexMap.{spare};
-    ghost use Rattle.eu_store.specs.Stored.{Stored, coded_stored};
+    ghost use Rattle.eu_store.specs.Stored.{Stored, coded_stored, deadlines};
 
     ghost Value = { Stored };
 
     ghost coded = { coded_stored };
 
-    ghost view = { λ a. record { held = map.from_entries a.table.entries; room = min (spare a.table) (65536 - length a.table.entries) } };
+    ghost view = { λ a. record { held = map.from_entries a.table.entries; room = min (min (spare a.table) a.index.room) (65536 - length a.table.entries) } };
 
-    ghost invariant = { λ a. length a.table.entries ≤ 65536 };
+    ghost invariant = { λ a. (length a.table.entries ≤ 65536) × (a.index.list ≡ deadlines a.table.entries) };
 }
 
 impl Leases {
@@ -47,6 +52,7 @@ impl Leases {
     {
         Leases {
             table: IndexMap::new(alloc),
+            index: Deadlines::new(alloc),
         }
     }
 
@@ -81,10 +87,9 @@ impl Leases {
         if self.table.len() >= MOST_LEASES {
             return Err(Fault::Full);
         }
-        match self.table.reserve(1) {
-            Ok(()) => Ok(()),
-            Err(_) => Err(Fault::OutOfMemory),
-        }
+        self.table.reserve(1)?;
+        self.index.reserve()?;
+        Ok(())
     }
 
     /// Puts a lease under that key, in place of the one that is held or into the room that was made, and hands back the one
@@ -95,9 +100,14 @@ impl Leases {
         ensures held { self.new.held ≡ map.insert self.old.held key held }
         ensures room { self.old.room ≤ self.new.room + (if is_some result then 0 else 1) }
     {
-        match self.table.get_mut(&key) {
-            Some(place) => Some(mem::replace(place, held)),
+        let deadline = held.deadline();
+        match self.table.get_index_of(&key) {
+            Some(place) => {
+                self.index.set(place, deadline);
+                Some(mem::replace(&mut self.table[place], held))
+            }
             None => {
+                self.index.push(deadline);
                 self.table.insert(key, held).unwrap();
                 None
             }
@@ -111,10 +121,9 @@ impl Leases {
         ensures held { self.new.held ≡ changed (λ _. held) self.old.held held.instance.key }
         ensures room { self.new.room ≡ self.old.room }
     {
-        match self.table.get_mut(&held.instance().key) {
-            Some(place) => Some(mem::replace(place, held)),
-            None => None,
-        }
+        let place = self.table.get_index_of(&held.instance().key)?;
+        self.index.set(place, held.deadline());
+        Some(mem::replace(&mut self.table[place], held))
     }
 
     /// Takes out what is held under that key. Takes no memory.
@@ -123,7 +132,9 @@ impl Leases {
         ensures held { self.new.held ≡ map.remove self.old.held key.now }
         ensures room { self.old.room ≤ self.new.room }
     {
-        self.table.swap_remove(key)
+        let (place, _key, held) = self.table.swap_remove_full(key)?;
+        self.index.swap_remove(place);
+        Some(held)
     }
 
     /// Renews the lease of that key, and tells whether one is held. Takes no memory.
@@ -132,13 +143,13 @@ impl Leases {
         ensures held { self.new.held ≡ changed (renewed_at moment) self.old.held key.now }
         ensures room { self.new.room ≡ self.old.room }
     {
-        match self.table.get_mut(key) {
-            Some(held) => {
-                held.renew(moment);
-                true
-            }
-            None => false,
-        }
+        let Some(place) = self.table.get_index_of(key) else {
+            return false;
+        };
+        let held = &mut self.table[place];
+        held.renew(moment);
+        self.index.set(place, held.deadline());
+        true
     }
 
     /// Puts the instance of that key in these statuses; a greater stamp replaces the held one. Tells whether one is held. Takes
@@ -176,13 +187,13 @@ impl Leases {
         ensures held { self.new.held ≡ changed (λ l. amended status overridden dirty (renewed_at moment l)) self.old.held key.now }
         ensures room { self.new.room ≡ self.old.room }
     {
-        match self.table.get_mut(key) {
-            Some(held) => {
-                held.renew_as(moment, status, overridden, dirty);
-                true
-            }
-            None => false,
-        }
+        let Some(place) = self.table.get_index_of(key) else {
+            return false;
+        };
+        let held = &mut self.table[place];
+        held.renew_as(moment, status, overridden, dirty);
+        self.index.set(place, held.deadline());
+        true
     }
 
     /// The instance of that key is up now: the moment is kept, where it is the first. Tells whether a lease is held. Takes no
@@ -215,13 +226,13 @@ impl Leases {
         ensures held { self.new.held ≡ changed (rejoined newcomer.now status overridden lease) self.old.held newcomer.now.key }
         ensures room { self.new.room ≡ self.old.room }
     {
-        match self.table.get_mut(&newcomer.key) {
-            Some(held) => {
-                held.rejoin(newcomer, status, overridden, lease);
-                true
-            }
-            None => false,
-        }
+        let Some(place) = self.table.get_index_of(&newcomer.key) else {
+            return false;
+        };
+        let held = &mut self.table[place];
+        held.rejoin(newcomer, status, overridden, lease);
+        self.index.set(place, held.deadline());
+        true
     }
 
     /// The keys of the leases that have expired, if each is granted some extra milliseconds, in key order. `OutOfMemory`.
@@ -233,14 +244,31 @@ impl Leases {
     ) -> Result<Vec<Key>, AllocError>
         ensures { IfOk result (λ keys. keys.items ≡ expired_keys self.now.held moment extra) }
     {
-        let mut keys = Vec::new(alloc);
-        for (key, held) in self.table.iter() {
-            if held.expired(moment, extra) {
-                keys.push(key.copy(alloc)?)?;
-            }
+        let (keys, _) = self.expired_counted(alloc, moment, extra)?;
+        Ok(keys)
+    }
+
+    /// The same, and how many entries of the index of deadlines were looked at: at most two for each key, and one more.
+    pub fn expired_counted(
+        &self,
+        alloc: Global,
+        moment: Moment,
+        extra: u64,
+    ) -> Result<(Vec<Key>, u64), AllocError>
+        ensures keys { IfOk result (λ r. r.0.items ≡ expired_keys self.now.held moment extra) }
+        ensures few { IfOk result (λ r. r.1 ≤ 2 * length r.0.items + 1) }
+    {
+        let mut readings = 0;
+        let limit = moment.ms().saturating_sub(extra);
+        let places = self.index.before(alloc, limit, &mut readings)?;
+        let entries = self.table.as_slice();
+        let mut keys = Vec::with_capacity(alloc, places.len())?;
+        for place in &places {
+            let (key, _) = entries.get_index(*place).unwrap();
+            keys.push(key.copy(alloc)?)?;
         }
         keys.sort()?;
-        Ok(keys)
+        Ok((keys, readings))
     }
 
     /// What is held of an application, or everything where none is given: expired or not, in key order. `OutOfMemory`.

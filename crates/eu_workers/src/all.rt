@@ -8,7 +8,7 @@ use crate::sessions::{Source, run_sessions};
 use crate::site::Site;
 use crate::timers::{run_bucket, run_evictor, run_threshold};
 use eu_clock::{Chooser, Clock};
-use eu_gate::{BUCKET, EVICTOR, FIRST_REPLICATOR, Gate, THRESHOLD};
+use eu_gate::Gate;
 use eu_peer::Peer;
 use eu_shared::{Label, Pass};
 use std::mem;
@@ -67,17 +67,14 @@ pub enum Worker<K: Label, S, C, H, P> {
     Done(Pass<K>, Ended),
 }
 
-/// The number by which a worker passes the gate: session workers are counted.
+/// Counts a worker that serves sessions, and gives its number; 0 of any other, which passes the gate by the number of its kind.
 fn number_of<S, H, P>(work: &Work<S, H, P>, sessions: &mut u32) -> u32 {
     match work {
         Work::Sessions { .. } => {
             *sessions = sessions.saturating_add(1);
             *sessions
         }
-        Work::Evictor { .. } => EVICTOR,
-        Work::Bucket => BUCKET,
-        Work::Threshold => THRESHOLD,
-        Work::Replicator { number, .. } => FIRST_REPLICATOR.saturating_add(*number),
+        _ => 0,
     }
 }
 
@@ -186,7 +183,8 @@ fn run_each<
 /// Has each worker that is ready do its job, in a thread of its own, and returns when all have ended. Where no thread can be made the
 /// jobs are done one after another, in their order. Takes no memory.
 ///
-/// Session workers are numbered from 1, in their order. Workers that are at work, or done, stay as they are.
+/// Session workers are numbered from 1, in their order. Workers that are at work, or done, stay as they are. The caller hands in at most 16
+/// jobs of sessions and one of each timer, and no two replicators of one peer: more would share a number at the gate.
 pub fn run_all<
     K: Label + Send + Sync,
     R: Threads + Wait + Sync,

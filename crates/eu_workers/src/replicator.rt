@@ -12,7 +12,7 @@ use std::sync::Wait;
 /// The replicator of the peer of that number (`ReplicationTaskProcessor` in Eureka): sends what waits for it, turn after turn, until the
 /// gate stops it or it had so many turns, and gives its pass back.
 ///
-/// A turn passes the gate and is one `eu_peer::replicate_turn`. One that ends by a fault is counted as refused, and the next one
+/// A turn passes the gate, is one `eu_peer::replicate_turn`, and trims the log of the pass (`Pass::trim`). One that ends by a fault is counted as refused, and the next one
 /// follows. No two replicators of one peer may work at once.
 pub fn run_replicator<K: Label, R: Wait, G: Gate, P: Peer, C: Clock>(
     site: &Site<'_, K, R, G>,
@@ -37,6 +37,7 @@ pub fn run_replicator<K: Label, R: Wait, G: Gate, P: Peer, C: Clock>(
         }
         let turn = replicate_turn(site.alloc, &mut seat, number, peer, clock);
         ended.count(turn.is_err());
+        seat.pass.trim();
     }
     let Seat {
         pass,

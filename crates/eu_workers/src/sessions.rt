@@ -44,7 +44,8 @@ fn serve<K: Label, R: Wait, G: Gate, C: Clock, I: Read, O: Write>(
 /// Serves the sessions of one connection after the other, with the worker's number, until there is none, the gate stops it or it had so
 /// many turns, and gives its pass back.
 ///
-/// A turn passes the gate, takes the next connection, serves its session (`eu_session::serve_session`) and ends the connection. Each
+/// A turn passes the gate, takes the next connection, serves its session (`eu_session::serve_session`), ends the connection and trims the
+/// log of the pass (`Pass::trim`). Each
 /// read of the connection passes the gate first, and fails where that says `Stop`; and each response passes it before it is flushed.
 /// A session that ended by a fault is counted as refused, and the next one follows.
 pub fn run_sessions<K: Label, R: Wait, G: Gate, S: Source, C: Clock>(
@@ -73,6 +74,7 @@ pub fn run_sessions<K: Label, R: Wait, G: Gate, S: Source, C: Clock>(
         let served = serve(site, who, &mut seat, clock, &mut reader, &mut writer);
         ended.count(served.is_err());
         source.end(reader, writer);
+        seat.pass.trim();
     }
     let Seat {
         pass,

@@ -1,7 +1,7 @@
 //! Workers that ask for the same command, turn after turn.
 ghost use Rattle.std.specs.Prelude.{◌≡◌};
 ghost use Rattle.eu_model.specs.declared.commands.Command.TheVariants as command;
-ghost use Rattle.eu_workers.specs.Timers.{command_of, number_of, AsksOnly};
+ghost use Rattle.eu_workers.specs.Timers.{command_of, is_due_after, number_of, AsksOnly, Tidies};
 
 use crate::ended::Ended;
 use crate::site::Site;
@@ -10,6 +10,9 @@ use eu_gate::{BUCKET, EVICTOR, Gate, Go, Point, THRESHOLD};
 use eu_model::Command;
 use eu_shared::{Label, Pass};
 use std::sync::Wait;
+
+/// After so many turns of the bucket's worker, an hour by Eureka's minutes, the journal begins anew.
+pub const TURNS_OF_A_CHECKPOINT: u64 = 60;
 
 /// Which command a worker asks for.
 #[derive(Clone, Copy)]
@@ -41,6 +44,32 @@ impl Timer {
             Timer::Threshold => Command::Update,
         }
     }
+
+    /// Whether its worker has the journal begin anew once it had so many turns.
+    fn is_due_after(self, turns: u64) -> bool
+        ensures { result ≡ is_due_after self turns }
+    {
+        match self {
+            Timer::Bucket => turns % TURNS_OF_A_CHECKPOINT == 0,
+            Timer::Evictor | Timer::Threshold => false,
+        }
+    }
+}
+
+/// Ends a turn, the last of so many: has the journal begin anew where that is due, and trims the log of the pass. A checkpoint that finds
+/// no memory isn't made, and counts nowhere.
+fn tidy<K: Label, R: Wait, G: Gate>(
+    site: &Site<'_, K, R, G>,
+    timer: Timer,
+    turns: u64,
+    pass: &mut Pass<K>,
+)
+    ensures { Tidies pass.old pass.new }
+{
+    if timer.is_due_after(turns) {
+        drop(pass.checkpoint(site.rt, site.shared, site.alloc));
+    }
+    pass.trim();
 }
 
 /// Asks for a timer's command at most so many times, until the gate stops it.
@@ -70,6 +99,8 @@ fn run<K: Label, R: Wait, G: Gate, C: Clock, H: Chooser>(
             chooser,
         );
         ended.count(asked.is_err());
+        drop(asked);
+        tidy(site, timer, ended.turns, &mut pass);
     }
     (pass, ended)
 }
@@ -77,8 +108,8 @@ fn run<K: Label, R: Wait, G: Gate, C: Clock, H: Chooser>(
 /// The evictor (`AbstractInstanceRegistry.EvictionTask` in Eureka): asks for `Evict`, turn after turn, until the gate stops it or it
 /// had so many turns, and gives its pass back.
 ///
-/// A turn passes the gate, reads the clock and asks once. What it was answered is in the log of the pass; a turn whose ask was refused
-/// is counted as such, and the next one follows.
+/// A turn passes the gate, reads the clock, asks once, and trims the log of the pass (`Pass::trim`). What it was answered is in that log,
+/// as far as the journal has it; a turn whose ask was refused is counted as such, and the next one follows.
 pub fn run_evictor<K: Label, R: Wait, G: Gate, C: Clock, H: Chooser>(
     site: &Site<'_, K, R, G>,
     pass: Pass<K>,
@@ -91,7 +122,9 @@ pub fn run_evictor<K: Label, R: Wait, G: Gate, C: Clock, H: Chooser>(
     run(site, Timer::Evictor, pass, clock, chooser, limit)
 }
 
-/// The bucket's worker (`MeasuredRate` in Eureka): as the evictor, with `Roll` for its command. It draws no words.
+/// The bucket's worker (`MeasuredRate` in Eureka): as the evictor, with `Roll` for its command. It draws no words. After each 60th turn
+/// it has the journal begin anew (`Pass::checkpoint`), so that this is done at least once an hour; where no memory is left for it, it
+/// isn't, and no turn counts as refused for it.
 pub fn run_bucket<K: Label, R: Wait, G: Gate, C: Clock>(
     site: &Site<'_, K, R, G>,
     pass: Pass<K>,

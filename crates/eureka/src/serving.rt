@@ -26,7 +26,7 @@ pub struct Serving {
 }
 
 /// Listens on that port of 127.0.0.1, and tells on standard error on which, or why that failed.
-fn listen<R: Net<Listener = TcpListener, Stream = TcpStream> + Eprint>(
+pub(crate) fn listen<R: Net<Listener = TcpListener, Stream = TcpStream> + Eprint>(
     rt: &R,
     port: u16,
 ) -> Option<TcpListener> {

@@ -1,11 +1,11 @@
 //! The command line, from words to settings.
 use crate::options::{command, config_of, serving_of};
-use crate::serving::{Serving, serve};
+use crate::serving::{Serving, listen, serve};
 use clap::error::ErrorKind;
 use eu_base::Config;
 use eu_clock::FirstChooser;
 use std::alloc::{AllocError, Global};
-use std::net::TcpListener;
+use std::net::{IpAddr, Ipv4Addr, TcpListener};
 use std::test::Fail;
 
 /// What words give: whether preservation is on, the percentage, the interval and the time between passes.
@@ -192,5 +192,15 @@ fn a_port_that_is_taken_is_a_fault(rt: HostRuntime) -> Result<(), Fail> {
     let taken = TcpListener::bind(&rt, "127.0.0.1:0")?;
     let port = taken.local_addr()?.port();
     assert!(rt; serve(&rt, config, idle(port), FirstChooser) == 3);
+    Ok(())
+}
+
+#[test]
+fn a_server_listens_to_its_own_machine_alone(rt: HostRuntime) -> Result<(), Fail> {
+    let ip = match listen(&rt, 0) {
+        Some(listener) => Some(listener.local_addr()?.ip()),
+        None => None,
+    };
+    assert!(rt; ip == Some(IpAddr::V4(Ipv4Addr::LOCALHOST)));
     Ok(())
 }

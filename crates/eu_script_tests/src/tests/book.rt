@@ -2,10 +2,10 @@
 ghost use Rattle.std.specs.Prelude.{◌≤◌, ◌^◌};
 
 use eu_base::{App, Codes, Config, Fault, Id, Instance, Key, Moment, Rest, Stamp, Status, Task};
-use eu_book::{Book, Logged, MOST_ENTRIES, Receipt};
+use eu_book::{Book, Journal, Logged, LoggedReceipt, MOST_ENTRIES, Receipt};
 use eu_clock::{Chooser, FirstChooser, ListChooser};
 use eu_model::{Command, Entry, Query, Queue, Reply, State, Tally, View};
-use std::alloc::Global;
+use std::alloc::{AllocError, Global};
 
 /// What a book is told.
 #[derive(Clone, Copy)]
@@ -364,20 +364,105 @@ fn roll(alloc: Global, book: &mut Book, times: usize) {
     }
 }
 
-/// Whether a registration after so many minutes is answered so, with so many steps made and nothing counted.
-fn fills(alloc: Global, times: usize, answer: (u64, &str), made: u64) -> Result<bool, Fault> {
+/// Where a journal begins, how many entries it has, how many leases its base has, and how many steps were made in all.
+type Extent = (u64, usize, usize, u64);
+
+fn extent(book: &Book) -> Extent {
+    let journal = book.journal();
+    let leases = journal.base.leases.as_slice().len();
+    (
+        journal.first,
+        journal.entries.len(),
+        leases,
+        book.totals().steps,
+    )
+}
+
+/// How many entries a journal had that has begun anew.
+fn retired(journal: Result<Journal, AllocError>) -> Result<usize, Fault> {
+    let journal = journal?;
+    let entries = journal.entries.len();
+    drop(journal);
+    Ok(entries)
+}
+
+/// A book that was told so many minutes: its journal then, how many entries a checkpoint takes from it, and its journal after that.
+fn rolled(alloc: Global, times: usize) -> Result<(Extent, usize, Extent), Fault> {
     let mut book = opened(alloc)?;
     roll(alloc, &mut book, times);
-    let told = first(alloc, &mut book, Step::Register("i1"));
-    let totals = book.totals();
-    let counts = counts(alloc, &book);
+    let before = extent(&book);
+    let taken = retired(book.checkpoint(alloc));
+    let after = extent(&book);
     drop(book);
-    Ok(told == answer && totals.steps == made && counts == Ok((0, 0)))
+    Ok((before, taken?, after))
 }
 
 #[test]
-fn a_full_journal_refuses(rt: HostRuntime) {
-    assert!(rt; fills(rt.alloc(), MOST_ENTRIES, (6, "refused"), 65_536) == Ok(true));
+fn a_full_journal_begins_anew(rt: HostRuntime) {
+    let full = ((0, 65_536, 0, 65_536), 65_536, (65_536, 0, 0, 65_536));
+    assert!(rt; rolled(rt.alloc(), MOST_ENTRIES) == Ok(full));
+    let more = ((65_536, 1, 0, 65_537), 1, (65_537, 0, 0, 65_537));
+    assert!(rt; rolled(rt.alloc(), MOST_ENTRIES + 1) == Ok(more));
+}
+
+/// Whether the book that was played begins its journal anew with what is left, and goes on with the eighth step.
+fn goes_on(alloc: Global) -> Result<bool, Fault> {
+    let mut book = played(alloc)?;
+    let taken = retired(book.checkpoint(alloc));
+    let left = is_left(&book.journal().base);
+    let more = first(alloc, &mut book, Step::Register("i1"));
+    let extent = extent(&book);
+    let totals = book.totals();
+    drop(book);
+    Ok(
+        taken == Ok(7)
+            && left
+            && more == (7, "other")
+            && extent == (7, 1, 2, 8)
+            && (totals.counted, totals.added, totals.removed) == (1, 4, 2),
+    )
+}
+
+#[test]
+fn a_checkpoint_keeps_what_is_left(rt: HostRuntime) {
+    assert!(rt; goes_on(rt.alloc()) == Ok(true));
+}
+
+/// Whether a command that is refused leaves a full journal as it is, and the next one that isn't has it begin anew and hands it out.
+fn hands_out(alloc: Global) -> Result<bool, Fault> {
+    let mut book = opened(alloc)?;
+    roll(alloc, &mut book, MOST_ENTRIES);
+    let refused = first(alloc, &mut book, Step::Drain);
+    let kept = extent(&book);
+    let answer = book.apply_logged(alloc, 0, Command::Roll, at(0), &mut FirstChooser);
+    let handed = entries_handed(&answer);
+    drop(answer);
+    let begun = extent(&book);
+    drop(book);
+    Ok(
+        refused == (15, "refused")
+            && kept == (0, 65_536, 0, 65_536)
+            && handed == Some(65_536)
+            && begun == (65_536, 1, 0, 65_537),
+    )
+}
+
+/// How many entries a journal had that is handed out with an answer.
+fn entries_handed(answer: &Result<LoggedReceipt, Fault>) -> Option<usize> {
+    match answer {
+        Ok(
+            LoggedReceipt {
+                retired: Some(journal),
+                ..
+            },
+        ) => Some(journal.entries.len()),
+        _ => None,
+    }
+}
+
+#[test]
+fn a_refused_command_leaves_a_full_journal(rt: HostRuntime) {
+    assert!(rt; hands_out(rt.alloc()) == Ok(true));
 }
 
 /// With one peer.
@@ -396,9 +481,9 @@ fn kept(receipt: &Receipt, logged: &Logged) -> (u64, u64, &'static str, bool) {
 }
 
 /// The same of an answer, or the number of the fault.
-fn logged(answer: &Result<(Receipt, Logged), Fault>) -> (u64, u64, &'static str, bool) {
+fn logged(answer: &Result<LoggedReceipt, Fault>) -> (u64, u64, &'static str, bool) {
     match answer {
-        Ok((receipt, logged)) => kept(receipt, logged),
+        Ok(told) => kept(&told.receipt, &told.logged),
         Err(fault) => (u64::from(fault.number()), 0, "refused", false),
     }
 }

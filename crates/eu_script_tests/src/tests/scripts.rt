@@ -627,9 +627,9 @@ const FULL: &str =
     "register 1 A more 90 UP UNKNOWN - c\nregister 1 A i0 90 UP UNKNOWN - c\nevict 90001\nroll 90001\nlook 1 A i0\ncounts 1\n";
 
 const FULL_PRINTED: &str =
-    "refused 6\nrefused 6\nrefused 6\nrefused 6\nfound UP UNKNOWN dirty 0 secs 90 registered 0 up 0 updated 0\nheld 65536 expected 0 threshold 0 last 0 permitted no\n";
+    "refused 7\n204\nevicted 0\nlast 0\nfound UP UNKNOWN dirty 1 secs 90 registered 1 up 1 updated 1\nheld 65536 expected 0 threshold 0 last 0 permitted no\n";
 
 #[test]
-fn a_full_journal_refuses_and_the_script_goes_on(rt: HostRuntime) {
+fn a_full_registry_refuses_and_the_script_goes_on(rt: HostRuntime) {
     assert!(rt; joined_prints(rt.alloc(), 0, 65_536, FULL, FULL_PRINTED) == Ok(true));
 }

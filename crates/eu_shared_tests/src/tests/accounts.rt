@@ -59,7 +59,7 @@ fn is_opening(state: &State, config: Config) -> bool {
 }
 
 /// Whether it is what the two passes make of it.
-fn is_played(state: &State, config: Config) -> bool {
+pub fn is_played(state: &State, config: Config) -> bool {
     is_same(state.config, config)
         && state.expected == 0
         && are_both(&state.leases)

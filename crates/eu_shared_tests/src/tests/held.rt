@@ -3,12 +3,12 @@ ghost use Rattle.std.specs.Prelude.{◌≡◌, ◌≤◌, ◌^◌};
 
 use crate::tests::asks::{both, key, only, registration, renewal};
 use crate::tests::passes::{Refusal, refusal_of};
-use crate::tests::reads::{Seen, in_short};
+use crate::tests::reads::{Seen, are_both, in_short};
 use eu_base::{Config, Fault, Moment};
 use eu_book::Receipt;
 use eu_clock::FirstChooser;
 use eu_model::{Command, Query, Reply, Tally};
-use eu_settle::Closed;
+use eu_settle::{Closed, settle};
 use eu_shared::{Blanks, Held, Label, MOST_PASSES, Pass};
 use std::alloc::{AllocError, Global};
 use std::marker::Brand;
@@ -228,6 +228,7 @@ fn are_accounted_for(rt: &impl Abort, found: &Findings) {
     assert!(rt; found.closed.end.leases.as_slice().len() == 2);
     assert!(rt; is_opening(&found.closed));
     assert!(rt; are_logs(&found.closed));
+    assert!(rt; settle(&found.closed) == Ok(()));
 }
 
 #[test]
@@ -325,5 +326,44 @@ fn last_pass(alloc: Global) -> Result<(u64, Option<Fault>), Fault> {
 #[test]
 fn passes_are_1024(rt: HostRuntime) -> Result<(), Fail> {
     assert!(rt; last_pass(rt.alloc()) == Ok((1_023, Some(Fault::TooManyPasses))));
+    Ok(())
+}
+
+/// Has both passes ask, pass 0 make a checkpoint, and both trim; how long their logs are then, and the book closed.
+fn trim_both<K: Label>(alloc: Global, blanks: Blanks) -> Result<((usize, usize), Closed), Fault>
+    requires names { (blanks.steps.name ≡ K.steps) × (blanks.counted.name ≡ K.counted) × (blanks.added.name ≡ K.added) × (blanks.removed.name ≡ K.removed) }
+    requires parts { (blanks.steps.parts ≡ K.parts) × (blanks.counted.parts ≡ K.parts) × (blanks.added.parts ≡ K.parts) × (blanks.removed.parts ≡ K.parts) × (K.parts ≡ 1025) }
+{
+    let Opened {
+        mut held,
+        mut zero,
+        mut one,
+    } = open_for_two::<K>(alloc, blanks)?;
+    ask_all(alloc, &mut held, &mut zero, &mut one);
+    held.checkpoint(alloc, &mut zero)?;
+    zero.trim();
+    one.trim();
+    let logs = (zero.log().len(), one.log().len());
+    Ok((logs, close_both(alloc, held, zero, one)?))
+}
+
+fn trimmed(alloc: Global) -> Result<((usize, usize), Closed), Fault> {
+    trim_both::<Brand>(alloc, Blanks::new())
+}
+
+#[test]
+fn a_checkpoint_is_accounted_for(rt: HostRuntime) -> Result<(), Fail> {
+    let (logs, closed) = trimmed(rt.alloc())?;
+    assert!(rt; logs == (0, 2));
+    let sums = Tally {
+        steps: 7,
+        counted: 5,
+        added: 2,
+        removed: 0,
+    };
+    assert!(rt; closed.totals == sums);
+    assert!(rt; closed.first == 7 && closed.entries.is_empty());
+    assert!(rt; are_both(&closed.base.leases) && are_both(&closed.end.leases));
+    assert!(rt; settle(&closed) == Ok(()));
     Ok(())
 }

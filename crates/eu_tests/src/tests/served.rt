@@ -365,23 +365,20 @@ fn filled_answers(alloc: Global, cases: &[(&str, &str)], steps: u64) -> Result<b
     Ok(filled.is_ok() && answers?)
 }
 
-/// Whether it refuses a renewal, and shows the lease.
-fn refuses(alloc: Global) -> Result<bool, Fault> {
+/// Whether it shows the lease, and a renewal is answered as ever.
+fn goes_on(alloc: Global) -> Result<bool, Fault> {
     let look = looked(alloc)?;
     let cases = [
-        (
-            RENEWAL,
-            "HTTP/1.1 503 Service Unavailable\r\nContent-Type: application/json\r\nContent-Length: 11\r\n\r\n{\"fault\":6}",
-        ),
         (
             "GET /eureka/apps/A/i1 HTTP/1.1\r\nHost: x\r\n\r\n",
             look.as_str(),
         ),
+        (RENEWAL, "HTTP/1.1 200 OK\r\nContent-Length: 0\r\n\r\n"),
     ];
-    filled_answers(alloc, cases.as_slice(), 65_536)
+    filled_answers(alloc, cases.as_slice(), 65_537)
 }
 
 #[test]
-fn a_full_journal_is_told(rt: HostRuntime) {
-    assert!(rt; refuses(rt.alloc()) == Ok(true));
+fn a_full_journal_is_no_end(rt: HostRuntime) {
+    assert!(rt; goes_on(rt.alloc()) == Ok(true));
 }

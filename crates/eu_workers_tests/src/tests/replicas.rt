@@ -1,4 +1,4 @@
-//! A replicator of one turn, over a book of another server.
+//! A replicator, over a book of another server.
 ghost use Rattle.std.specs.Prelude.{◌≡◌};
 
 use crate::tests::turns::registration;
@@ -26,7 +26,7 @@ impl Gate for Open {
 }
 
 /// Whether a client registers A/i1 at the moment 0.
-fn registers<K: Label, R: Wait>(
+pub fn registers<K: Label, R: Wait>(
     rt: &R,
     shared: &Shared<K>,
     alloc: Global,
@@ -71,9 +71,10 @@ fn server(alloc: Global, config: Config) -> Result<InProcess<Book, ListClock>, F
     })
 }
 
-/// What a replicator with one turn does after a registration.
+/// What a replicator with two turns for the peer of that number does after a registration.
 fn replicate<K: Label, R: Wait>(
     site: &Site<'_, K, R, Open>,
+    number: u32,
     peer: &mut InProcess<Book, ListClock>,
 ) -> Result<Ended, Fault> {
     let mut pass = site.shared.pass(site.rt, site.alloc)?;
@@ -81,7 +82,7 @@ fn replicate<K: Label, R: Wait>(
         return Err(Fault::OutOfMemory);
     }
     let mut clock = ListClock::new(Vec::new(site.alloc));
-    let (pass, ended) = run_replicator(site, 0, pass, peer, &mut clock, 1);
+    let (pass, ended) = run_replicator(site, number, pass, peer, &mut clock, 2);
     drop(pass);
     Ok(ended)
 }
@@ -89,10 +90,11 @@ fn replicate<K: Label, R: Wait>(
 /// The same, and how many leases the other server holds then.
 fn reach<K: Label, R: Wait>(
     site: &Site<'_, K, R, Open>,
+    number: u32,
     config: Config,
 ) -> Result<(Ended, u64), Fault> {
     let mut peer = server(site.alloc, config)?;
-    let ended = replicate(site, &mut peer);
+    let ended = replicate(site, number, &mut peer);
     let held = held(site.alloc, &peer.desk);
     drop(peer);
     Ok((ended?, held))
@@ -103,6 +105,7 @@ fn send_from<K: Label, R: Wait>(
     rt: &R,
     alloc: Global,
     shared: &Shared<K>,
+    number: u32,
     config: Config,
 ) -> Result<(Ended, u64), Fault> {
     let routes = Routes::new(alloc)?;
@@ -113,34 +116,48 @@ fn send_from<K: Label, R: Wait>(
         routes: &routes,
         gate: &Open,
     };
-    reach(&site, config)
+    reach(&site, number, config)
 }
 
-/// What a replicator with one turn did after a registration, and how many leases the other server holds then.
+/// What a replicator with two turns for the peer of that number did after a registration, and how many leases the other server holds
+/// then. The server has one peer, of the number 0.
 fn send<K: Label, R: Wait>(
     rt: &R,
     alloc: Global,
     blanks: Blanks,
+    number: u32,
     config: Config,
 ) -> Result<(Ended, u64), Fault>
     requires names { (blanks.steps.name ≡ K.steps) × (blanks.counted.name ≡ K.counted) × (blanks.added.name ≡ K.added) × (blanks.removed.name ≡ K.removed) }
     requires parts { (blanks.steps.parts ≡ K.parts) × (blanks.counted.parts ≡ K.parts) × (blanks.added.parts ≡ K.parts) × (blanks.removed.parts ≡ K.parts) × (K.parts ≡ 1025) }
 {
     let shared: Shared<K> = Shared::open(alloc, config, 0, 1, blanks)?;
-    send_from(rt, alloc, &shared, config)
+    send_from(rt, alloc, &shared, number, config)
 }
 
-fn sent<R: Wait>(rt: &R, alloc: Global) -> Result<(Ended, u64), Fault> {
-    send::<Brand, R>(rt, alloc, Blanks::new(), Config::new(true, 85, 30, 60_000)?)
+fn sent<R: Wait>(rt: &R, alloc: Global, number: u32) -> Result<(Ended, u64), Fault> {
+    let config = Config::new(true, 85, 30, 60_000)?;
+    send::<Brand, R>(rt, alloc, Blanks::new(), number, config)
 }
 
 #[test]
 fn a_replicator_sends_what_waits(rt: HostRuntime) -> Result<(), Fail> {
-    let (ended, held) = sent(&rt, rt.alloc())?;
-    let one = Ended {
-        turns: 1,
+    let (ended, held) = sent(&rt, rt.alloc(), 0)?;
+    let two = Ended {
+        turns: 2,
         refused: 0,
     };
-    assert!(rt; ended == one && held == 1);
+    assert!(rt; ended == two && held == 1);
+    Ok(())
+}
+
+#[test]
+fn a_replicator_goes_on_after_a_refused_turn(rt: HostRuntime) -> Result<(), Fail> {
+    let (ended, held) = sent(&rt, rt.alloc(), 1)?;
+    let refused = Ended {
+        turns: 2,
+        refused: 2,
+    };
+    assert!(rt; ended == refused && held == 0);
     Ok(())
 }

@@ -1,11 +1,11 @@
-//! Turns of the timers, one each.
+//! Turns of the timers.
 ghost use Rattle.std.specs.Prelude.{◌≡◌};
 
 use eu_base::{Config, Fault};
 use eu_clock::{FirstChooser, ListClock};
 use eu_model::Command;
 use eu_routes::Routes;
-use eu_shared::{Blanks, Label, Pass, Shared};
+use eu_shared::{Blanks, Label, Pass, Shared, close};
 use eu_workers::{Ended, Gate, Go, Point, Site, run_bucket, run_evictor, run_threshold};
 use std::alloc::Global;
 use std::marker::Brand;
@@ -51,41 +51,49 @@ fn told<K: Label>(worked: (Pass<K>, Ended)) -> Seen {
     Seen { ended, logged }
 }
 
-/// What the evictor does with one turn.
+/// What the evictor does with so many turns.
 fn evicts<K: Label, R: Wait>(
     site: &Site<'_, K, R, Always>,
     clock: &mut ListClock,
+    limit: u64,
 ) -> Result<Seen, Fault> {
     let pass = site.shared.pass(site.rt, site.alloc)?;
-    Ok(told(run_evictor(site, pass, clock, &mut FirstChooser, 1)))
+    Ok(told(run_evictor(site, pass, clock, &mut FirstChooser, limit)))
 }
 
-/// What the bucket's worker does with one turn.
+/// What the bucket's worker does with so many turns.
 fn rolls<K: Label, R: Wait>(
     site: &Site<'_, K, R, Always>,
     clock: &mut ListClock,
+    limit: u64,
 ) -> Result<Seen, Fault> {
     let pass = site.shared.pass(site.rt, site.alloc)?;
-    Ok(told(run_bucket(site, pass, clock, 1)))
+    Ok(told(run_bucket(site, pass, clock, limit)))
 }
 
-/// What the threshold's worker does with one turn.
+/// What the threshold's worker does with so many turns.
 fn updates<K: Label, R: Wait>(
     site: &Site<'_, K, R, Always>,
     clock: &mut ListClock,
+    limit: u64,
 ) -> Result<Seen, Fault> {
     let pass = site.shared.pass(site.rt, site.alloc)?;
-    Ok(told(run_threshold(site, pass, clock, 1)))
+    Ok(told(run_threshold(site, pass, clock, limit)))
 }
 
-/// What each timer's worker does with one turn.
+/// The most turns of the evictor, the bucket's worker and the threshold's.
+#[derive(Clone, Copy)]
+struct Limits(u64, u64, u64);
+
+/// What each timer's worker does with so many turns.
 fn work_at<K: Label, R: Wait>(
     site: &Site<'_, K, R, Always>,
     clock: &mut ListClock,
+    limits: Limits,
 ) -> Result<(Seen, Seen, Seen), Fault> {
-    let evictor = evicts(site, clock)?;
-    let bucket = rolls(site, clock)?;
-    let threshold = updates(site, clock)?;
+    let evictor = evicts(site, clock, limits.0)?;
+    let bucket = rolls(site, clock, limits.1)?;
+    let threshold = updates(site, clock, limits.2)?;
     Ok((evictor, bucket, threshold))
 }
 
@@ -95,6 +103,7 @@ fn work_on<K: Label, R: Wait>(
     alloc: Global,
     shared: &Shared<K>,
     go: Go,
+    limits: Limits,
 ) -> Result<(Seen, Seen, Seen), Fault> {
     let routes = Routes::new(alloc)?;
     let site = Site {
@@ -105,7 +114,7 @@ fn work_on<K: Label, R: Wait>(
         gate: &Always { go },
     };
     let mut clock = ListClock::new(Vec::new(alloc));
-    work_at(&site, &mut clock)
+    work_at(&site, &mut clock, limits)
 }
 
 /// The same for a book at which nothing is held.
@@ -114,16 +123,22 @@ fn work<K: Label, R: Wait>(
     alloc: Global,
     blanks: Blanks,
     go: Go,
+    limits: Limits,
 ) -> Result<(Seen, Seen, Seen), Fault>
     requires names { (blanks.steps.name ≡ K.steps) × (blanks.counted.name ≡ K.counted) × (blanks.added.name ≡ K.added) × (blanks.removed.name ≡ K.removed) }
     requires parts { (blanks.steps.parts ≡ K.parts) × (blanks.counted.parts ≡ K.parts) × (blanks.added.parts ≡ K.parts) × (blanks.removed.parts ≡ K.parts) × (K.parts ≡ 1025) }
 {
     let shared: Shared<K> = Shared::open(alloc, Config::new(true, 85, 30, 60_000)?, 0, 0, blanks)?;
-    work_on(rt, alloc, &shared, go)
+    work_on(rt, alloc, &shared, go, limits)
 }
 
-fn worked<R: Wait>(rt: &R, alloc: Global, go: Go) -> Result<(Seen, Seen, Seen), Fault> {
-    work::<Brand, R>(rt, alloc, Blanks::new(), go)
+fn worked<R: Wait>(
+    rt: &R,
+    alloc: Global,
+    go: Go,
+    limits: Limits,
+) -> Result<(Seen, Seen, Seen), Fault> {
+    work::<Brand, R>(rt, alloc, Blanks::new(), go, limits)
 }
 
 fn saw(turns: u64, logged: &'static str) -> Seen {
@@ -133,14 +148,129 @@ fn saw(turns: u64, logged: &'static str) -> Seen {
 
 #[test]
 fn one_turn(rt: HostRuntime) -> Result<(), Fail> {
-    let seen = worked(&rt, rt.alloc(), Go::On)?;
+    let seen = worked(&rt, rt.alloc(), Go::On, Limits(1, 1, 1))?;
     assert!(rt; seen == (saw(1, "evict"), saw(1, "roll"), saw(1, "update")));
     Ok(())
 }
 
 #[test]
 fn a_gate_that_stops_leaves_no_turn(rt: HostRuntime) -> Result<(), Fail> {
-    let seen = worked(&rt, rt.alloc(), Go::Stop)?;
+    let seen = worked(&rt, rt.alloc(), Go::Stop, Limits(1, 1, 1))?;
     assert!(rt; seen == (saw(0, "nothing"), saw(0, "nothing"), saw(0, "nothing")));
+    Ok(())
+}
+
+#[test]
+fn each_takes_all_its_turns(rt: HostRuntime) -> Result<(), Fail> {
+    let seen = worked(&rt, rt.alloc(), Go::On, Limits(3, 2, 4))?;
+    assert!(rt; seen == (saw(3, "evict"), saw(2, "roll"), saw(4, "update")));
+    Ok(())
+}
+
+/// What is left of many turns of the bucket's worker: its turns, how long its log is and with which entry it begins, and where the
+/// journal begins.
+#[derive(Clone, Copy, PartialEq, Eq)]
+struct Left {
+    ended: Ended,
+    logged: usize,
+    begins: Option<u64>,
+    first: u64,
+}
+
+/// The number of the first entry of a log.
+fn begins<K: Label>(pass: &Pass<K>) -> Option<u64> {
+    match pass.log() {
+        [] => None,
+        [first, ..] => Some(first.number),
+    }
+}
+
+/// The first entry of a journal that is closed with one pass.
+fn first_entry<K: Label>(shared: Shared<K>, alloc: Global, pass: Pass<K>) -> Result<u64, Fault> {
+    let passes = one(alloc, pass)?;
+    match close(shared, alloc, passes) {
+        Ok(closed) => {
+            let first = closed.first;
+            drop(closed);
+            Ok(first)
+        }
+        Err(unclosed) => {
+            let fault = unclosed.fault;
+            drop(unclosed);
+            Err(fault)
+        }
+    }
+}
+
+fn one<K: Label>(alloc: Global, pass: Pass<K>) -> Result<Vec<Pass<K>>, Fault> {
+    let mut passes = Vec::new(alloc);
+    passes.push(pass)?;
+    Ok(passes)
+}
+
+/// So many turns of the bucket's worker at a book, and its pass.
+fn roll_on<K: Label, R: Wait>(
+    rt: &R,
+    alloc: Global,
+    shared: &Shared<K>,
+    turns: u64,
+) -> Result<(Pass<K>, Ended), Fault> {
+    let routes = Routes::new(alloc)?;
+    let site = Site {
+        rt,
+        alloc,
+        shared,
+        routes: &routes,
+        gate: &Always { go: Go::On },
+    };
+    let mut clock = ListClock::new(Vec::new(alloc));
+    let pass = shared.pass(rt, alloc)?;
+    Ok(run_bucket(&site, pass, &mut clock, turns))
+}
+
+/// What is left of so many turns at a book at which nothing is held.
+fn leave<K: Label, R: Wait>(
+    rt: &R,
+    alloc: Global,
+    turns: u64,
+    blanks: Blanks,
+) -> Result<Left, Fault>
+    requires names { (blanks.steps.name ≡ K.steps) × (blanks.counted.name ≡ K.counted) × (blanks.added.name ≡ K.added) × (blanks.removed.name ≡ K.removed) }
+    requires parts { (blanks.steps.parts ≡ K.parts) × (blanks.counted.parts ≡ K.parts) × (blanks.added.parts ≡ K.parts) × (blanks.removed.parts ≡ K.parts) × (K.parts ≡ 1025) }
+{
+    let shared: Shared<K> = Shared::open(alloc, Config::new(true, 85, 30, 60_000)?, 0, 0, blanks)?;
+    let (pass, ended) = roll_on(rt, alloc, &shared, turns)?;
+    let logged = pass.log().len();
+    let begins = begins(&pass);
+    let first = first_entry(shared, alloc, pass)?;
+    Ok(Left {
+        ended,
+        logged,
+        begins,
+        first,
+    })
+}
+
+fn left_by<R: Wait>(rt: &R, alloc: Global, turns: u64) -> Result<Left, Fault> {
+    leave::<Brand, R>(rt, alloc, turns, Blanks::new())
+}
+
+#[test]
+fn the_journal_begins_anew_after_each_hour(rt: HostRuntime) -> Result<(), Fail> {
+    let cases = [
+        (59, 59, Some(0), 0),
+        (60, 0, None, 60),
+        (119, 59, Some(60), 60),
+        (121, 1, Some(120), 120),
+    ];
+    for (turns, logged, begins, first) in cases {
+        let wanted = Left {
+            ended: Ended { turns, refused: 0 },
+            logged,
+            begins,
+            first,
+        };
+        assert!(rt; left_by(&rt, rt.alloc(), turns)? == wanted, "{turns} turns");
+    }
     Ok(())
 }

@@ -1,12 +1,12 @@
-use Rattle.std.proofs.Common.{◌≡◌, ◌+◌, ◌≤◌, ◌<◌, length, sym, ap, refl, subst, ◌∙◌, inl, inr, Some, None, IsSome, is_some, arith}
+use Rattle.std.proofs.Common.{◌≡◌, ◌<◌, sym, ap, refl, subst, ◌∙◌, inl, is_some, arith}
 use Rattle.std.proofs.Common.{Result, Err}
+use Rattle.std.specs.Result.{IsErrAnd}
 use Rattle.std.specs.FinMap as map
 use Rattle.eu_base.specs.declared.faults.Fault.{Fault}
 use Rattle.eu_base.specs.declared.faults.Fault.TheVariants.{Full, OutOfMemory}
-use Rattle.eu_store.proofs.MapLemmas.{the_other, none_is_not_some, ok_is_no_err, none_from_is_some}
-use Rattle.eu_store.proofs.TableLemmas.{by_key, map_of, get_in, len_in}
+use Rattle.eu_store.proofs.MapLemmas.{none_is_not_some, ok_is_no_err, none_from_is_some}
+use Rattle.eu_store.proofs.TableLemmas.{by_key, get_in, len_in}
 use Rattle.eu_store.proofs.leases.Leases.prepare_put.Goals as goal
-use Rattle.eu_store.proofs.leases.Leases.prepare_put.Goals.{in-Ok, in-Err}
 
 pub returns-then-contains_key-clause-ready : goal.returns-then-contains_key-clause-ready
 returns-then-contains_key-clause-ready c =
@@ -23,11 +23,26 @@ returns-then-len-ge-MOST_LEASES-clause-full c =
     let long = len_in by_key c.self.inside.table.entries c.args.self.now.held (ap (λ s. s.held) c.self.view_is) c.len.ensures.unique in
     ((λ e. (omega (arith, c.self.invariant), none_from_is_some _ gone)), (λ h. refl))
 
-memory_is_not_full : ◌≡◌ {A = Result (Unit {0}) Fault} (Err OutOfMemory) (Err Full) → ⊥
-memory_is_not_full h = cc
+memory_is_not_full : (r : Result (Unit {0}) Fault) → IsErrAnd r (λ f. f ≡ OutOfMemory) → r ≡ Err Full → ⊥
+memory_is_not_full r memory full = apart (subst (λ s. IsErrAnd s (λ f. f ≡ OutOfMemory)) full memory)
+  where
+    apart : ◌≡◌ {A = Fault} Full OutOfMemory → ⊥
+    apart e = cc
+
+pub returns-in_err-reserve-clause-full : goal.returns-in_err-reserve-clause-full
+returns-in_err-reserve-clause-full c =
+    let long = len_in by_key c.self.inside.table.entries c.args.self.now.held (ap (λ s. s.held) c.self.view_is) c.len.ensures.unique in
+    let short : map.len c.args.self.now.held < 65536 = omega arith in
+    ((λ e. absurd (memory_is_not_full _ c.from_residual.ensures.1 e)), (λ h. absurd (omega (arith, h.0))))
+
+pub returns-in_err-reserve-2-clause-full : goal.returns-in_err-reserve-2-clause-full
+returns-in_err-reserve-2-clause-full c =
+    let long = len_in by_key c.self.inside.table.entries c.args.self.now.held (ap (λ s. s.held) c.self.view_is) c.len.ensures.unique in
+    let short : map.len c.args.self.now.held < 65536 = omega arith in
+    ((λ e. absurd (memory_is_not_full _ c.from_residual-in_err-reserve-2.ensures.1 e)), (λ h. absurd (omega (arith, h.0))))
 
 pub returns-clause-full : goal.returns-clause-full
 returns-clause-full c =
     let long = len_in by_key c.self.inside.table.entries c.args.self.now.held (ap (λ s. s.held) c.self.view_is) c.len.ensures.unique in
     let short : map.len c.args.self.now.held < 65536 = omega arith in
-    ((λ e. absurd (elim c.match-reserve.branch [ in-Ok w ↦ ok_is_no_err (sym w.result-is ∙ e) | in-Err w ↦ memory_is_not_full (sym w.result-is ∙ e) ])), (λ h. absurd (omega (arith, h.0))))
+    ((λ e. absurd (ok_is_no_err e)), (λ h. absurd (omega (arith, h.0))))

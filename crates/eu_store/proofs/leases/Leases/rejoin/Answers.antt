@@ -1,25 +1,36 @@
-use Rattle.std.proofs.Common.{◌≡◌, sym, ap, refl, subst, ◌∙◌, Some, None, IsSome, is_some}
-use Rattle.eu_model.specs.declared.views.Listed.{Listed}
+use Rattle.std.proofs.Common.{◌-◌, ◌≤◌, refl, is_some, length, min, set, sym, ap, ◌∙◌, arith}
+use Rattle.indexmap.specs.IndexMap.{spare, set_value_at}
 use Rattle.eu_store.specs.Stored.{rejoined}
-use Rattle.eu_store.proofs.TableLemmas.{by_key, map_of, get_in, changed_in, unchanged_in}
+use Rattle.eu_store.proofs.MapLemmas.{none_from_is_some}
+use Rattle.eu_store.proofs.TableLemmas.{by_key, get_in, changed_in, unchanged_in}
+use Rattle.eu_store.proofs.IndexLemmas.{deadlines-set, length-set_value_at, written_at}
 use Rattle.eu_store.proofs.leases.Leases.rejoin.Goals as goal
-use Rattle.eu_store.proofs.leases.Leases.rejoin.Goals.{in-Some, in-None}
+
+pub returns-in_default-clause-found : goal.returns-in_default-clause-found
+returns-in_default-clause-found c = c.in_default.ensures.found ∙ sym (ap is_some (get_in by_key c.self.inside.table.entries c.args.self.now.held c.args.newcomer.now.key _ (ap (λ s. s.held) c.self.view_is) refl))
+
+pub returns-in_default-clause-held : goal.returns-in_default-clause-held
+returns-in_default-clause-held c =
+    let es = c.self.inside.table.entries in
+    let view = ap (λ s. s.held) c.self.view_is in
+    sym view ∙ unchanged_in by_key (rejoined c.args.newcomer.now c.args.status c.args.overridden c.args.lease) es es c.args.self.now.held c.args.newcomer.now.key view (sym (none_from_is_some _ (sym c.in_default.ensures.found))) refl
+
+pub invariant_of-self : goal.invariant_of-self
+invariant_of-self c =
+    let es = c.self.inside.table.entries in
+    let short : length (set_value_at es c.in-Some.place c.rejoin.new.self) ≤ 65536 = omega (arith, c.self.invariant.0, length-set_value_at es c.in-Some.place c.rejoin.new.self) in
+    (short, c.set.ensures.list ∙ (λ i. set (c.self.invariant.1 i) c.in-Some.place (c.deadline.ensures i)) ∙ sym (deadlines-set es c.in-Some.place c.rejoin.new.self))
 
 pub returns-clause-found : goal.returns-clause-found
-returns-clause-found c = elim c.match-get_mut.branch [
-  | in-Some w ↦ w.result-is ∙ sym (ap is_some (get_in by_key c.self.inside.table.entries c.args.self.now.held c.args.newcomer.now.key _ (ap (λ s. s.held) c.self.view_is) w.in-Some.ensures.value))
-  | in-None w ↦ w.result-is ∙ sym (ap is_some (get_in by_key c.self.inside.table.entries c.args.self.now.held c.args.newcomer.now.key _ (ap (λ s. s.held) c.self.view_is) w.in-None.ensures.value))
-]
+returns-clause-found c = c.in-Some.ensures.found ∙ sym (ap is_some (get_in by_key c.self.inside.table.entries c.args.self.now.held c.args.newcomer.now.key _ (ap (λ s. s.held) c.self.view_is) refl))
 
 pub returns-clause-held : goal.returns-clause-held
-returns-clause-held c = elim c.match-get_mut.branch [
-  | in-Some w ↦
-      let v = w.rejoin.new.self in
-      let there : IsSome (Some w.in-Some.held.now) = refl in
-      ap (λ a. map_of a.table.entries) w.self-inside-is
-      ∙ changed_in by_key (rejoined c.args.newcomer.now c.args.status c.args.overridden c.args.lease) c.self.inside.table.entries (c.get_mut.follows.lender v).entries c.args.self.now.held c.args.newcomer.now.key w.in-Some.held.now v (ap (λ s. s.held) c.self.view_is) w.in-Some.ensures.value
-      ((c.get_mut.follows.holds v).3 (subst IsSome w.in-Some.ensures.value there)).0 w.rejoin.ensures
-  | in-None w ↦
-      ap (λ a. map_of a.table.entries) w.self-inside-is
-      ∙ unchanged_in by_key (rejoined c.args.newcomer.now c.args.status c.args.overridden c.args.lease) c.self.inside.table.entries _ c.args.self.now.held c.args.newcomer.now.key (ap (λ s. s.held) c.self.view_is) w.in-None.ensures.value (ap (λ m. m.entries) c.get_mut.follows.holds-at-none)
-]
+returns-clause-held c =
+    let m = c.self.inside.table in
+    let there = c.index_mut-held.ensures.value in
+    changed_in by_key (rejoined c.args.newcomer.now c.args.status c.args.overridden c.args.lease) m.entries (set_value_at m.entries c.in-Some.place c.rejoin.new.self) c.args.self.now.held c.args.newcomer.now.key c.index_mut-held.result.now c.rejoin.new.self (ap (λ s. s.held) c.self.view_is) (sym there ∙ c.in-Some.ensures.value)
+    (written_at m c.args.newcomer.now.key c.in-Some.place c.index_mut-held.result.now c.rejoin.new.self c.in-Some.ensures.unique (sym c.in-Some.ensures.index) there) c.rejoin.ensures
+
+pub returns-clause-room : goal.returns-clause-room
+returns-clause-room c =
+    (λ i. min (min (spare c.self.inside.table) (c.set.ensures.room i)) (65536 - length-set_value_at c.self.inside.table.entries c.in-Some.place c.rejoin.new.self i)) ∙ ap (λ s. s.room) c.self.view_is

@@ -259,9 +259,12 @@ plain_back p keyed =
     let rows = same_entries names_total names_exact p.rows in
     λ i. record p { leases = leases i; rows = rows i }
 
--- so is a lawful book's state, whose base is plain data
+-- so is a server to which entries lead from plain data
+pub server_back : (s : State) (es : List Entry) (q : PlainServer) → Runs (server_of_state s) es q → server_of_state (state_of q) ≡ q
+server_back s es q runs =
+    let registry = plain_back q.registry (keyed-runs s es q runs) in
+    λ i. record { registry = registry i; queues = q.queues }
+
+-- so is a lawful book's, whose base is plain data
 pub book_back : (s : State) (a : Account) → server_of_state s ≡ a.base → IsLawful a → server_of_state (state_of a.state) ≡ a.state
-book_back s a base lawful =
-    let runs = subst (λ p. Runs p a.entries a.state) (sym base) lawful.run in
-    let registry = plain_back a.state.registry (keyed-runs s a.entries a.state runs) in
-    λ i. record { registry = registry i; queues = a.state.queues }
+book_back s a base lawful = server_back s a.entries a.state (subst (λ p. Runs p a.entries a.state) (sym base) lawful.run)

@@ -1,0 +1,48 @@
+//! Checkpoints of a book that holds many leases.
+
+use eu_base::{App, Config, Fault, Instance, Moment};
+use eu_book::Book;
+use eu_clock::FirstChooser;
+use eu_json::read_instance;
+use eu_model::Command;
+use std::alloc::Global;
+
+/// An instance as a client registers it over HTTP, of one of a hundred applications.
+fn client(alloc: Global, number: u32, moment: Moment) -> Result<Instance, Fault> {
+    let app = number % 100;
+    let app = App::read(alloc, format!(in alloc; "A{app}")?.as_str())?;
+    let name = app.as_str();
+    let text = format!(in alloc;
+        r#"{{"instance":{{"instanceId":"host-{number}","hostName":"host-{number}.example.org","app":"{name}","ipAddr":"10.0.0.1","status":"UP","port":{{"$":8080,"@enabled":"true"}},"healthCheckUrl":"http://host-{number}.example.org:8080/health","vipAddress":"a.example.org","dataCenterInfo":{{"@class":"com.netflix.appinfo.InstanceInfo$DefaultDataCenterInfo","name":"MyOwn"}},"metadata":{{"zone":"a"}}}}}}"#
+    )?;
+    read_instance(alloc, text.as_str(), &app, moment)
+}
+
+/// A book that holds so many leases. The faults are those of `Book::apply`.
+fn filled(alloc: Global, leases: u32) -> Result<Book, Fault> {
+    let config = Config::new(true, 85, 30, 60_000)?;
+    let moment = Moment::new(0).ok_or(Fault::BadValue)?;
+    let mut book = Book::open(alloc, config, 1, 0)?;
+    for number in 0..leases {
+        let instance = client(alloc, number, moment)?;
+        let command = Command::Register {
+            instance,
+            replicated: false,
+        };
+        book.apply(alloc, 0, command, moment, &mut FirstChooser)?;
+    }
+    Ok(book)
+}
+
+/// Has a book of so many leases begin its journal anew so many times, and lets go of each journal that it was; how many leases their
+/// bases had in all. `Full` where the leases are more than a registry holds; `OutOfMemory`.
+pub fn count_based(alloc: Global, leases: u32, times: u32) -> Result<u64, Fault> {
+    let mut book = filled(alloc, leases)?;
+    let mut based = 0u64;
+    for _ in 0..times {
+        let journal = book.checkpoint(alloc)?;
+        based = based.saturating_add(journal.base.leases.as_slice().len() as u64);
+        drop(journal);
+    }
+    Ok(based)
+}

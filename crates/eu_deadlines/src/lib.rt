@@ -1,0 +1,10 @@
+//! The deadlines of numbered positions, with those that have passed within reach.
+#![tactic(auto)]
+
+mod deadlines;
+mod reading;
+mod remove;
+mod sift;
+mod walk;
+
+pub use deadlines::Deadlines;

@@ -1,0 +1,142 @@
+//! A checkpoint through the lock, worked out by hand.
+ghost use Rattle.std.specs.Prelude.{◌≡◌};
+
+use crate::tests::accounts::is_played;
+use crate::tests::asks::{ask, both, close_for, open, play, renewal};
+use eu_base::{Config, Fault};
+use eu_model::Tally;
+use eu_settle::{Closed, Mismatch, settle};
+use eu_shared::{Blanks, Label, Pass, Shared};
+use std::alloc::Global;
+use std::marker::Brand;
+use std::sync::Wait;
+use std::test::Fail;
+
+/// A book that was closed: what was done in all, its first entry and how many there are, whether its base and its end are what the two
+/// passes make of it, how it is settled, and how long the logs are.
+#[derive(Clone, Copy)]
+struct Account {
+    totals: Tally,
+    first: u64,
+    entries: usize,
+    based: bool,
+    ended: bool,
+    settled: Result<(), Mismatch>,
+}
+
+fn examine(config: Config, closed: &Closed) -> Account {
+    Account {
+        totals: closed.totals,
+        first: closed.first,
+        entries: closed.entries.len(),
+        based: is_played(&closed.base, config),
+        ended: is_played(&closed.end, config),
+        settled: settle(closed),
+    }
+}
+
+/// What comes of a close.
+fn close_account<K: Label>(
+    shared: Shared<K>,
+    alloc: Global,
+    passes: Vec<Pass<K>>,
+) -> Result<Account, Fault> {
+    let closed = close_for(shared, alloc, passes)?;
+    let account = match Config::new(true, 85, 30, 60_000) {
+        Ok(config) => Ok(examine(config, &closed)),
+        Err(fault) => Err(fault),
+    };
+    drop(closed);
+    account
+}
+
+/// What was found once both passes had asked, pass 0 had made a checkpoint, and both had trimmed: how long their logs are and what was
+/// done for them, the number of pass 0's next renewal, if it has one, and the account.
+#[derive(Clone, Copy)]
+struct Findings {
+    made: bool,
+    logs: (usize, usize),
+    steps: (u64, u64),
+    next: Option<(u64, &'static str)>,
+    account: Account,
+}
+
+/// A renewal of i1 by pass 0, where one is wanted.
+fn renew<K: Label, R: Wait>(
+    rt: &R,
+    shared: &Shared<K>,
+    alloc: Global,
+    zero: &mut Pass<K>,
+    more: bool,
+) -> Option<(u64, &'static str)> {
+    if more {
+        Some(ask(rt, shared, alloc, zero, renewal(alloc, "i1"), 4))
+    } else {
+        None
+    }
+}
+
+fn find<K: Label, R: Wait>(
+    rt: &R,
+    alloc: Global,
+    more: bool,
+    blanks: Blanks,
+) -> Result<Findings, Fault>
+    requires names { (blanks.steps.name ≡ K.steps) × (blanks.counted.name ≡ K.counted) × (blanks.added.name ≡ K.added) × (blanks.removed.name ≡ K.removed) }
+    requires parts { (blanks.steps.parts ≡ K.parts) × (blanks.counted.parts ≡ K.parts) × (blanks.added.parts ≡ K.parts) × (blanks.removed.parts ≡ K.parts) × (K.parts ≡ 1025) }
+{
+    let shared = open::<K>(alloc, blanks)?;
+    let mut zero = shared.pass(rt, alloc)?;
+    let mut one = shared.pass(rt, alloc)?;
+    let played = play(rt, &shared, alloc, &mut zero, &mut one);
+    let made = played && zero.checkpoint(rt, &shared, alloc).is_ok();
+    zero.trim();
+    one.trim();
+    let logs = (zero.log().len(), one.log().len());
+    let steps = (zero.tallies().steps, one.tallies().steps);
+    let next = renew(rt, &shared, alloc, &mut zero, more);
+    let passes = both(alloc, one, zero)?;
+    Ok(Findings {
+        made,
+        logs,
+        steps,
+        next,
+        account: close_account(shared, alloc, passes)?,
+    })
+}
+
+fn found<R: Wait>(rt: &R, alloc: Global, more: bool) -> Result<Findings, Fault> {
+    find::<Brand, R>(rt, alloc, more, Blanks::new())
+}
+
+#[test]
+fn a_checkpoint_is_accounted_for(rt: HostRuntime) -> Result<(), Fail> {
+    let found = found(&rt, rt.alloc(), false)?;
+    let account = found.account;
+    let sums = Tally {
+        steps: 7,
+        counted: 5,
+        added: 2,
+        removed: 0,
+    };
+    assert!(rt; found.made);
+    assert!(rt; found.logs == (0, 2) && found.steps == (5, 2));
+    assert!(rt; account.totals == sums);
+    assert!(rt; account.first == 7 && account.entries == 0);
+    assert!(rt; account.based && account.ended);
+    assert!(rt; account.settled == Ok(()));
+    Ok(())
+}
+
+#[test]
+fn what_follows_a_checkpoint_is_settled(rt: HostRuntime) -> Result<(), Fail> {
+    let found = found(&rt, rt.alloc(), true)?;
+    let account = found.account;
+    assert!(rt; found.made);
+    assert!(rt; found.next == Some((7, "done")));
+    assert!(rt; account.totals.steps == 8 && account.totals.counted == 6);
+    assert!(rt; account.first == 7 && account.entries == 1);
+    assert!(rt; account.based && !account.ended);
+    assert!(rt; account.settled == Ok(()));
+    Ok(())
+}

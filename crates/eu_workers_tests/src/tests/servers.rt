@@ -1,0 +1,124 @@
+//! Two servers, each with its book behind a lock, of which each is the other's peer.
+ghost use Rattle.std.specs.Prelude.{◌≡◌};
+
+use crate::tests::replicas::registers;
+use eu_base::{Config, Fault, Moment};
+use eu_clock::ListClock;
+use eu_model::{Query, View};
+use eu_peer::{InProcess, Turn, replicate_turn};
+use eu_shared::{Blanks, Label, Pass, Seat, Shared};
+use std::alloc::Global;
+use std::marker::Brand;
+use std::sync::Wait;
+use std::test::Fail;
+
+/// A clock that stands at 0.
+fn clock(alloc: Global) -> ListClock {
+    ListClock::new(Vec::new(alloc))
+}
+
+/// A new pass of a server, where it can ask.
+fn seat<'a, K: Label, R: Wait>(
+    rt: &'a R,
+    alloc: Global,
+    shared: &'a Shared<K>,
+) -> Result<Seat<'a, K, R>, Fault> {
+    Ok(Seat {
+        pass: shared.pass(rt, alloc)?,
+        shared,
+        rt,
+    })
+}
+
+/// A turn of a server for its one peer.
+fn turn<K: Label, L: Label, R: Wait>(
+    alloc: Global,
+    here: &mut Seat<'_, K, R>,
+    there: &mut InProcess<Seat<'_, L, R>, ListClock>,
+) -> Option<Turn> {
+    replicate_turn(alloc, here, 0, there, &mut clock(alloc)).ok()
+}
+
+/// The leases that a view of counts tells.
+fn leases(view: &View) -> u64 {
+    match view {
+        View::Counts(counts) => counts.held,
+        _ => 0,
+    }
+}
+
+/// How many leases a server holds.
+fn held<K: Label, R: Wait>(rt: &R, shared: &Shared<K>, alloc: Global, pass: &mut Pass<K>) -> u64 {
+    let Some(moment) = Moment::new(0) else {
+        return 0;
+    };
+    match pass.read(rt, shared, alloc, &Query::Counts, moment) {
+        Ok(view) => leases(&view),
+        Err(_) => 0,
+    }
+}
+
+/// A turn of the first server after a registration, one of the second, another of the first, and how many leases the second holds.
+type Findings = (Option<Turn>, Option<Turn>, Option<Turn>, u64);
+
+/// What comes of these turns between two servers.
+fn meet<K: Label, L: Label, R: Wait>(
+    rt: &R,
+    alloc: Global,
+    here: &Shared<K>,
+    there: &Shared<L>,
+) -> Result<Findings, Fault> {
+    let mut mine = seat(rt, alloc, here)?;
+    let mut theirs = seat(rt, alloc, there)?;
+    let desk = seat(rt, alloc, there)?;
+    let mut to_there = InProcess {
+        desk,
+        clock: clock(alloc),
+    };
+    let desk = seat(rt, alloc, here)?;
+    let mut to_here = InProcess {
+        desk,
+        clock: clock(alloc),
+    };
+    if !registers(rt, here, alloc, &mut mine.pass) {
+        return Err(Fault::OutOfMemory);
+    }
+    let sent = turn(alloc, &mut mine, &mut to_there);
+    let back = turn(alloc, &mut theirs, &mut to_here);
+    let again = turn(alloc, &mut mine, &mut to_there);
+    let held = held(rt, there, alloc, &mut theirs.pass);
+    Ok((sent, back, again, held))
+}
+
+/// The same between two servers that are opened for it, each with one peer.
+fn open_both<K: Label, L: Label, R: Wait>(
+    rt: &R,
+    alloc: Global,
+    blanks: Blanks,
+    others: Blanks,
+) -> Result<Findings, Fault>
+    requires names { (blanks.steps.name ≡ K.steps) × (blanks.counted.name ≡ K.counted) × (blanks.added.name ≡ K.added) × (blanks.removed.name ≡ K.removed) }
+    requires parts { (blanks.steps.parts ≡ K.parts) × (blanks.counted.parts ≡ K.parts) × (blanks.added.parts ≡ K.parts) × (blanks.removed.parts ≡ K.parts) × (K.parts ≡ 1025) }
+    requires other_names { (others.steps.name ≡ L.steps) × (others.counted.name ≡ L.counted) × (others.added.name ≡ L.added) × (others.removed.name ≡ L.removed) }
+    requires other_parts { (others.steps.parts ≡ L.parts) × (others.counted.parts ≡ L.parts) × (others.added.parts ≡ L.parts) × (others.removed.parts ≡ L.parts) × (L.parts ≡ 1025) }
+{
+    let config = Config::new(true, 85, 30, 60_000)?;
+    let here: Shared<K> = Shared::open(alloc, config, 0, 1, blanks)?;
+    let there: Shared<L> = Shared::open(alloc, config, 0, 1, others)?;
+    meet(rt, alloc, &here, &there)
+}
+
+fn met<R: Wait>(rt: &R, alloc: Global) -> Result<Findings, Fault> {
+    open_both::<Brand, Brand, R>(rt, alloc, Blanks::new(), Blanks::new())
+}
+
+#[test]
+fn two_servers_meet(rt: HostRuntime) -> Result<(), Fail> {
+    let sent = Turn::Sent {
+        tasks: 1,
+        adopted: 0,
+    };
+    let wanted = (Some(sent), Some(Turn::Idle), Some(Turn::Idle), 1);
+    assert!(rt; met(&rt, rt.alloc())? == wanted);
+    Ok(())
+}

@@ -1,9 +1,9 @@
 #!/usr/bin/env bash
 # Times heartbeats over connections of 100 each, with 4 workers: the server, a server that answers without looking (the loopback's own
-# speed), and, where BASELINE names its program, a plain Rust server with the same options. Then a million heartbeats of 1, 1,000 and 60,000
-# leases, in which the journal begins anew every 65,536 steps. Then a soak: more clients than workers, connections that are cut anywhere, and
-# garbage (EACH connections of each client, 2,500 if it isn't set). Prints heartbeats a second, the median, the 99th and the 99.9th percentile
-# and the longest time in microseconds, and what memory the server had.
+# speed), and, where BASELINE names its program, a plain Rust server with the same options. Then a million heartbeats (MILLIONS of them) of 1,
+# 1,000 and 60,000 leases, in which the journal begins anew every 65,536 steps. Then a soak: more clients than workers, connections that are
+# cut anywhere, and garbage (EACH connections of each client, 2,500 if it isn't set). Prints heartbeats a second, the median, the 99th and the
+# 99.9th percentile and the longest time in microseconds, and what memory the server had.
 set -euo pipefail
 top=$(cd "$(dirname "${BASH_SOURCE[0]}")/.." && pwd)
 program=$top/crates/eureka/out/eureka
@@ -15,6 +15,7 @@ trap 'stop; rm -rf "$work"' EXIT
 rustc --edition 2021 -O -o "$work/load" "$top/bench/serve_load.rs"
 connections=${CONNECTIONS:-4}
 sessions=${SESSIONS:-50}
+millions=${MILLIONS:-1}
 port=18761
 
 # Waits until somebody listens on the port.
@@ -57,12 +58,14 @@ beats() {
     stop
 }
 
-# What memory the server has, while it runs, and in the end after each eighth of that time.
+# What memory the server has, while it runs, and in the end the most of it in each eighth of that time.
 watch() {
-    (while ps -o rss= -p "$started"; do sleep 0.5; done) > "$work/memory" &
+    (while ps -o rss= -p "$started"; do sleep 0.2; done) > "$work/memory" &
 }
 memory() {
-    awk '{ kib[NR] = $1 } END { for (part = 1; part <= 8; part++) printf "%s%d", (part > 1 ? " " : "memory in MiB after each eighth of the time: "), kib[int((NR * part + 7) / 8)] / 1024; print "" }' "$work/memory"
+    awk '{ kib[NR] = $1 } END { printf "most memory in MiB in each eighth of the time:"
+        for (row = part = 1; part <= 8; part++) { for (most = 0; row <= NR * part / 8; row++) if (kib[row] > most) most = kib[row]; printf " %d", most / 1024 }
+        print "" }' "$work/memory"
 }
 
 for run in 1 2 3; do
@@ -72,10 +75,10 @@ for run in 1 2 3; do
 done
 
 for leases in 1 1000 60000; do
-    total=$((4 * 2500 + 1 + (leases + 99) / 100))
+    total=$((4 * 2500 * millions + 1 + (leases + 99) / 100))
     serve "$program" "$total"
     watch
-    echo "a million of $leases: $("$work/load" beats "$port" 4 2500 "$leases")"
+    echo "$millions million of $leases: $("$work/load" beats "$port" 4 $((2500 * millions)) "$leases")"
     ended "$total"
     memory
 done

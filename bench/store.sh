@@ -12,22 +12,25 @@ timed() {
     { time "$@" > /dev/null; } 2>&1 | awk '{ print $1 + $2 }'
 }
 
-# so many turns of a task, by a program, five times
+# one turn of a task, by a program, five times: each time of so many turns that they take half a second, since times come in milliseconds
 each() {
-    local program=$1 turns=$2
-    shift 2
+    local program=$1 turns=1
+    shift
+    while awk -v all="$(timed "$program" "$@" "$turns")" -v none="$(timed "$program" "$@" 0)" 'BEGIN { exit all - none > 0.5 }'; do
+        turns=$((turns * 8))
+    done
     for _ in 1 2 3 4 5; do
         echo "$(timed "$program" "$@" "$turns") $(timed "$program" "$@" 0)"
-    done | awk -v turns="$turns" '{ printf " %.0f", ($1 - $2) / turns * 1e9 } END { print " ns" }'
+    done | awk -v turns="$turns" '{ printf " %.1f", ($1 - $2) / turns * 1e9 } END { print " ns" }'
 }
 
 for program in "$PWD/out/eu_store_bench" ${BEFORE:+"$BEFORE"}; do
     echo "$program"
     for count in 50 1000 10000 60000; do
-        echo "renewal of one of $count:$(each "$program" 1000000 renew "$count")"
+        echo "renewal of one of $count:$(each "$program" renew "$count")"
     done
-    for task in "1000 0 300" "60000 0 300" "60000 10 300" "60000 100 300" "60000 1000 300" "60000 10000 30"; do
-        read -r count expired turns <<< "$task"
-        echo "pass over $count, of which $expired have expired:$(each "$program" "$turns" pass "$count" "$expired")"
+    for task in "1000 0" "60000 0" "60000 10" "60000 100" "60000 1000" "60000 10000" "60000 60000"; do
+        read -r count expired <<< "$task"
+        echo "pass over $count, of which $expired have expired:$(each "$program" pass "$count" "$expired")"
     done
 done

@@ -4,3 +4,4 @@ pub mod Status
 pub mod Tree
 pub mod Rest
 pub mod Action
+pub mod Kept

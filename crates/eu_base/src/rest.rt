@@ -11,50 +11,57 @@ use crate::trees::{are_of_host, same_members};
 use serde_json::{Map, Value, json};
 use std::alloc::{AllocError, Global};
 use std::marker::Model;
+use std::sync::Arc;
+
+/// How the members are kept.
+#[derive(Debug, Drop)]
+enum Kept {
+    /// Those of a host of that name: they are the same for every host but for its name, which is all that is kept.
+    OfHost(String),
+    /// Others, once for all copies.
+    Shared(Arc<Map<String, Value>, Global>),
+}
 
 /// The members of an instance that the registry keeps as they came: a JSON object whose numbers are all whole. Contracts see
-/// the tree. A host's own members, which are the same for every host but for its name, are kept as that name.
+/// the tree. They never change, so copies share them.
 #[derive(Debug, Drop)]
 pub struct Rest {
-    /// The members are those of a host, and none is kept.
-    of_host: bool,
-    /// Its name; empty otherwise.
-    host: String,
-    members: Map<String, Value>,
+    kept: Kept,
 }
 
 impl Model for Rest {
-    ghost use Rattle.std.specs.Prelude.{◌≡◌, false, if◌then◌else◌, string_bytes};
-    ghost use Rattle.serde_json.specs.Data.{Data, object};
-    ghost use Rattle.serde_json.specs.View.{members_view};
-    ghost use Rattle.serde_json.specs.Written.{members_have_float};
-    ghost use Rattle.eu_base.specs.Rest.{rest_of_host};
+    ghost use Rattle.std.specs.Prelude.{◌≡◌, false};
+    ghost use Rattle.serde_json.specs.Data.{Data};
+    ghost use Rattle.serde_json.specs.Written.{has_float};
+    ghost use Rattle.eu_base.specs.Kept.{tree_of_kept};
     ghost use Rattle.eu_base.specs.Tree.{coded_tree};
 
     ghost Value = { Data };
 
     ghost coded = { coded_tree };
 
-    ghost view = { λ r. if r.of_host then rest_of_host (string_bytes r.host) else object (members_view r.members.entries) };
+    ghost view = { λ r. tree_of_kept r.kept };
 
-    ghost invariant = { λ r. members_have_float (members_view r.members.entries) ≡ false };
+    ghost invariant = { λ r. has_float (tree_of_kept r.kept) ≡ false };
 }
 
 impl Rest {
-    /// The members of that value. None exactly where it isn't an object, or has a number anywhere that isn't whole.
-    pub fn new(alloc: Global, value: Value) -> Option<Rest>
-        ensures some { IfSome result (λ r. r ≡ tree_of value) }
-        ensures found { IsSome result ↔ IsRest (tree_of value) }
+    /// The members of that value. None exactly where it isn't an object, or has a number anywhere that isn't whole. `AllocError` where
+    /// no memory is left.
+    pub fn new(alloc: Global, value: Value) -> Result<Option<Rest>, AllocError>
+        ensures some { IfOk result (λ o. IfSome o (λ r. r ≡ tree_of value)) }
+        ensures found { IfOk result (λ o. IsSome o ↔ IsRest (tree_of value)) }
     {
         if has_fraction(&value) {
-            return None;
+            return Ok(None);
         }
-        let members = members_of(value)?;
-        Some(Rest {
-            of_host: false,
-            host: String::new(alloc),
-            members,
-        })
+        let Some(members) = members_of(value) else {
+            return Ok(None);
+        };
+        let members = Arc::new(alloc, members)?;
+        Ok(Some(Rest {
+            kept: Kept::Shared(members),
+        }))
     }
 
     /// What a client at that host gives at least: its host name, an address and a data center of its own. `OutOfMemory`.
@@ -62,9 +69,7 @@ impl Rest {
         ensures { IfOk result (λ r. r ≡ rest_of_host host.now) }
     {
         Ok(Rest {
-            of_host: true,
-            host: String::from_str(alloc, host)?,
-            members: Map::new(alloc),
+            kept: Kept::OfHost(String::from_str(alloc, host)?),
         })
     }
 
@@ -73,11 +78,9 @@ impl Rest {
         ensures tree { IfOk result (λ members. object (members_view members.entries) ≡ self.now) }
         ensures whole { has_float self.now ≡ false }
     {
-        if self.of_host {
-            members_of_host(alloc, &self.host)
-        } else {
-            let members = self.members.clone()?;
-            Ok(members)
+        match &self.kept {
+            Kept::OfHost(host) => members_of_host(alloc, host),
+            Kept::Shared(members) => clone_members(members),
         }
     }
 
@@ -85,26 +88,31 @@ impl Rest {
     pub fn same(&self, other: &Rest) -> bool
         ensures { IsTrue result ↔ (self.now ≡ other.now) }
     {
-        match (self.of_host, other.of_host) {
-            (true, true) => self.host.as_str() == other.host.as_str(),
-            (true, false) => are_of_host(&other.members, &self.host),
-            (false, true) => are_of_host(&self.members, &other.host),
-            (false, false) => same_members(&self.members, &other.members),
+        match (&self.kept, &other.kept) {
+            (Kept::OfHost(host), Kept::OfHost(theirs)) => host.as_str() == theirs.as_str(),
+            (Kept::OfHost(host), Kept::Shared(theirs)) => are_of_host(theirs, host),
+            (Kept::Shared(members), Kept::OfHost(theirs)) => are_of_host(members, theirs),
+            (Kept::Shared(members), Kept::Shared(theirs)) => same_members(members, theirs),
         }
     }
 
-    /// The same members once more. `OutOfMemory`.
+    /// The same members once more, which both share. `OutOfMemory`.
     pub fn copy(&self) -> Result<Rest, AllocError>
         ensures { IfOk result (λ r. r ≡ self.now) }
     {
-        let host = self.host.clone()?;
-        let members = self.members.clone()?;
-        Ok(Rest {
-            of_host: self.of_host,
-            host,
-            members,
-        })
+        let kept = match &self.kept {
+            Kept::OfHost(host) => Kept::OfHost(host.clone()?),
+            Kept::Shared(members) => Kept::Shared(Arc::try_clone(members)?),
+        };
+        Ok(Rest { kept })
     }
+}
+
+/// The members once more, each copied.
+fn clone_members(members: &Map<String, Value>) -> Result<Map<String, Value>, AllocError>
+    ensures { IfOk result (λ copies. members_view copies.entries ≡ members_view members.now.entries) }
+{
+    Ok(members.clone()?)
 }
 
 /// The members of a host of that name.

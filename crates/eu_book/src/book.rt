@@ -139,15 +139,18 @@ impl Book {
     }
 
     /// As `apply`; and what a log of one's own keeps of the command, for who has one, with the journal as it was, where it has begun
-    /// anew. All of it is made before anything changes.
+    /// anew. The log keeps `mine`, the command once more: so whoever holds a lock can have copied it before. All else is made before
+    /// anything changes.
     pub fn apply_logged<C: Chooser>(
         &mut self,
         alloc: Global,
         pass: u64,
         command: Command,
+        mine: Command,
         moment: Moment,
         chooser: &mut C,
     ) -> Result<LoggedReceipt, Fault>
+        requires same { mine ≡ command }
         ensures applied { IfOk result (λ r. Applies C.asks self.old chooser.old pass command moment r.receipt.reply r.receipt.number self.new chooser.new) }
         ensures logged { IfOk result (λ r. r.logged ≡ logged command moment r.receipt.reply r.receipt.number) }
         ensures retired { IfOk result (λ r. IsRetired self.old r.retired) }
@@ -155,10 +158,6 @@ impl Book {
         ensures err { OnErr result (self.new ≡ self.old) }
         ensures unasked { OnErr result (chooser.new ≡ chooser.old) }
     {
-        let Ok(mine) = command.copy(alloc) else {
-            drop(command);
-            return Err(Fault::OutOfMemory);
-        };
         match self.enter(alloc, pass, command, moment, chooser, true) {
             Ok(entered) => Ok(hand_out(entered, mine, moment)),
             Err(fault) => {

@@ -304,7 +304,8 @@ impl Registry {
     {
         self.rows.take(&key.id);
         match self.leases.take(key) {
-            Some(_lease) => {
+            Some(lease) => {
+                drop(lease);
                 self.threshold.left();
                 Reply::Done
             }

@@ -28,9 +28,9 @@ impl Registry {
     /// `Update`, `Evict`).
     ///
     /// No command for a peer (`Drain`, `Landed`, `Lost`) is handed in. The step is that of the command's call: `register`,
-    /// `renew`, `cancel`, `set_status`, `unset_status`, `adopt`, `roll`, `update` or `evict`, whose replies and refusals it has. Refused with `Full` or `Exhausted` where that call is, and else
-    /// with `OutOfMemory`, also where no memory is left for replies and copies; a refusal changes nothing, and asks the chooser
-    /// for no word. Only an `Evict` asks it.
+    /// `renew`, `cancel`, `set_status`, `unset_status`, `adopt`, `roll`, `update` or `evict`, whose replies and refusals it has.
+    /// Refused with `Full` or `Exhausted` where that call is, and else with `OutOfMemory`, also where no memory is left for
+    /// replies and copies; a refusal changes nothing, and asks the chooser for no word. Only an `Evict` asks it.
     pub fn step<C: Chooser>(
         &mut self,
         alloc: Global,

@@ -80,7 +80,7 @@ impl Deadlines {
         );
     }
 
-    /// Sets the deadline of a position, to an earlier or a later one. Takes no memory.
+    /// Sets the deadline of a position that is there, to an earlier or a later one. Takes no memory.
     pub fn set(&mut self, position: usize, deadline: u64)
         requires { position < length self.old.list }
         ensures list { self.new.list ≡ slice_set self.old.list position deadline }
@@ -106,7 +106,7 @@ impl Deadlines {
         }
     }
 
-    /// Takes a position out; the last position takes its number. Takes no memory.
+    /// Takes out a position that is there; the last position takes its number. Takes no memory.
     pub fn swap_remove(&mut self, position: usize)
         requires { position < length self.old.list }
         ensures list { self.new.list ≡ swap_remove self.old.list position 0 }
@@ -137,8 +137,10 @@ impl Deadlines {
         }
     }
 
-    /// The positions whose deadlines are before the limit, each once. The readings are counted: at most two deadlines are read for
-    /// each position that is found, and one more.
+    /// The positions whose deadlines are before the limit, each once. What is read is added to the readings: the deadline of each
+    /// position that is found, and at most one more than two for each in all.
+    ///
+    /// `AllocError` where no memory is left for the positions; the readings may have grown all the same.
     pub fn before(
         &self,
         alloc: Global,
@@ -148,6 +150,7 @@ impl Deadlines {
         requires { readings.old + 2 * length self.now.list + 2 < 2 ^ 64 }
         ensures found { IfOk result (λ found. AreBefore self.now.list limit found.items) }
         ensures counted { IfOk result (λ found. readings.new ≤ readings.old + 2 * vec_len found + 1) }
+        ensures read { IfOk result (λ found. readings.old + vec_len found ≤ readings.new) }
     {
         let heap = Counted::new(&self.deadlines);
         let mut found = earlier_places(alloc, &heap, limit, readings)?;

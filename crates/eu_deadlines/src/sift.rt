@@ -81,9 +81,9 @@ fn earliest_below(deadlines: &[u64], at: usize) -> usize
 {
     let left = 2 * at + 1;
     let right = left + 1;
-    if right < deadlines.len() && deadlines[right] < deadlines[left] {
-        right
-    } else {
-        left
+    if right == deadlines.len() {
+        return left;
     }
+    // added rather than chosen by a branch, which could not be foretold
+    left + usize::from(deadlines[right] < deadlines[left])
 }

@@ -17,6 +17,7 @@ fn offer(
     requires { readings.old + 1 < 2 ^ 64 }
     ensures found { OnOk result (found.new.items ≡ (if is_earlier heap.now limit place then found.old.items ++ place ∷ [] else found.old.items)) }
     ensures counted { readings.new ≤ readings.old + 1 }
+    ensures read { OnOk result (readings.old + length found.new.items ≤ readings.new + length found.old.items) }
 {
     if place < heap.len() && heap.read(place, readings) < limit {
         found.push(place)?;
@@ -25,7 +26,7 @@ fn offer(
 }
 
 /// The places of all entries whose deadlines are before the limit, level by level from the top: what is found is the queue of what
-/// is still to be looked below. At most two deadlines are read for each, and one more.
+/// is still to be looked below. The deadline of each is read, and at most one more than two for each in all.
 pub fn earlier_places(
     alloc: Global,
     heap: &Counted<'_>,
@@ -36,6 +37,7 @@ pub fn earlier_places(
     requires fits { readings.old + 2 * length heap.now + 2 < 2 ^ 64 }
     ensures found { IfOk result (λ found. IsAllEarlier heap.now limit found.items) }
     ensures counted { IfOk result (λ found. readings.new ≤ readings.old + 2 * vec_len found + 1) }
+    ensures read { IfOk result (λ found. readings.old + vec_len found ≤ readings.new) }
 {
     let mut found = Vec::new(alloc);
     offer(heap, 0, limit, readings, &mut found)?;

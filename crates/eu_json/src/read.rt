@@ -1,5 +1,5 @@
 //! An instance from JSON.
-ghost use Rattle.std.specs.Prelude.{◌≡◌, ◌⊎◌, ◌<◌, length, MatchResult, Some, None};
+ghost use Rattle.std.specs.Prelude.{◌≡◌, ◌⊎◌, ◌<◌, length, IfOk, MatchResult, Some, None};
 ghost use Rattle.std.specs.Option.{option_map};
 ghost use Rattle.serde_json.specs.Read.{read};
 ghost use Rattle.serde_json.specs.View.{view};
@@ -13,7 +13,7 @@ use crate::numbers::{interval_in, secs_in, stamp_in};
 use crate::statuses::{overridden_at, status_in};
 use eu_base::{App, Fault, Id, Instance, Key, Moment, Rest, Status, has_fraction};
 use serde_json::Value;
-use std::alloc::Global;
+use std::alloc::{AllocError, Global};
 
 /// The JSON of a text. `NotJson` where it is none, `OutOfMemory`.
 pub fn parse(alloc: Global, text: &str) -> Result<Value, Fault>
@@ -41,10 +41,10 @@ fn id_of(alloc: Global, name: &str) -> Result<Id, Fault>
     Id::read(alloc, name)
 }
 
-/// The members that the registry keeps as they came: all but those that it writes itself.
-fn rest_of(alloc: Global, instance: Value) -> Rest
+/// The members that the registry keeps as they came: all but those that it writes itself. `AllocError` where no memory is left.
+fn rest_of(alloc: Global, instance: Value) -> Result<Rest, AllocError>
     requires { IsRest (view instance) }
-    ensures { result ≡ rest_of (view instance) }
+    ensures { IfOk result (λ r. r ≡ rest_of (view instance)) }
 {
     let mut rest = instance;
     rest = without(rest, "leaseInfo");
@@ -54,7 +54,8 @@ fn rest_of(alloc: Global, instance: Value) -> Rest
     rest = without(rest, "status");
     rest = without(rest, "app");
     rest = without(rest, "instanceId");
-    Rest::new(alloc, rest).unwrap()
+    let rest = Rest::new(alloc, rest)?;
+    Ok(rest.unwrap())
 }
 
 /// The instance of an object whose numbers are all whole.
@@ -79,7 +80,7 @@ pub fn of_object(
     let status = status_in(Status::Up, instance.get("status"));
     let overridden = status_in(Status::Unknown, overridden_at(&instance));
     let app = app.copy(alloc)?;
-    let rest = rest_of(alloc, instance);
+    let rest = rest_of(alloc, instance)?;
     let key = Key { app, id };
     Ok(Instance {
         key,

@@ -35,6 +35,10 @@ all_newer [] answers = []
 all_newer (t ∷ ts) [] = []
 all_newer (t ∷ ts) (a ∷ others) = and_then (newer t a) (all_newer ts others)
 
+-- a drain was answered with no batch
+abbrev pub NoBatch : Answer → Type 0
+NoBatch a = (tasks : List Task) → a ≢ Did (reply.Batch tasks)
+
 -- how many asks were accepted
 abbrev pub accepted : List (Result Answer Fault) → ℕ
 accepted [] = 0
@@ -93,10 +97,6 @@ module _ {D : Type 0} (asked : D → Ask → ℕ → Result Answer Fault → D �
     abbrev pub Taken : ℕ → D → P → Result Unit Fault → D → P → Type 0
     Taken peer desk p result desk' p' =
         (mid : D) × asked desk (Do (Drain peer)) moment (Err Busy) mid × GivesBack peer mid result desk' × (p' ≡ p)
-
-    -- the drain was answered with no batch
-    abbrev pub NoBatch : Answer → Type 0
-    NoBatch a = (tasks : List Task) → a ≢ Did (reply.Batch tasks)
 
     -- The whole turn, by what came of it
     abbrev pub TurnsAt : ℕ → D → P → Result Turn Fault → D → P → Type 0

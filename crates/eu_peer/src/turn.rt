@@ -1,5 +1,5 @@
 //! A turn: what waits for a peer is sent to it.
-ghost use Rattle.std.specs.Prelude.{◌≡◌, map, IfOk};
+ghost use Rattle.std.specs.Prelude.{◌≡◌, map, IfOk, MatchOption};
 ghost use Rattle.eu_peer.specs.Turns as spec;
 
 use crate::peer::Peer;
@@ -148,6 +148,19 @@ fn send<D: Desk, P: Peer>(
     }
 }
 
+/// The batch with which a drain was answered; none where another answer came.
+fn batch_of(answer: Answer) -> Option<Tasks>
+    ensures { MatchOption result (spec.NoBatch answer) (λ tasks. answer ≡ Answer.Did (Reply.Batch tasks)) }
+{
+    match answer {
+        Answer::Did(Reply::Batch(tasks)) => Some(tasks),
+        other => {
+            drop(other);
+            None
+        }
+    }
+}
+
 /// Sends what waits for the peer of that number, counted from 0, and asks what its answers want (`ReplicationTaskProcessor` and
 /// `PeerEurekaNode.heartbeat` in Eureka).
 ///
@@ -172,8 +185,11 @@ pub fn replicate_turn<D: Desk, P: Peer, C: Clock>(
     let moment = clock.now();
     let drain = Ask::Do(Command::Drain { peer: number });
     match desk.ask(alloc, drain, moment) {
-        Ok(Answer::Did(Reply::Batch(tasks))) => send(alloc, desk, number, peer, &tasks, moment),
-        Ok(_) | Err(Fault::EmptyBatch) => Ok(Turn::Idle),
+        Ok(answer) => match batch_of(answer) {
+            Some(tasks) => send(alloc, desk, number, peer, &tasks, moment),
+            None => Ok(Turn::Idle),
+        },
+        Err(Fault::EmptyBatch) => Ok(Turn::Idle),
         Err(Fault::Busy) => {
             give_back(alloc, desk, number, moment)?;
             Ok(Turn::Waiting)

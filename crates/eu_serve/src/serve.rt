@@ -1,5 +1,7 @@
 //! A server.
-ghost use Rattle.std.specs.Prelude.{◌≡◌, ◌≤◌, ◌<◌, Err, IfOk, IfErr, OnOk};
+ghost use Rattle.std.specs.Prelude.{◌≡◌, ◌≤◌, ◌<◌, ◌⊎◌, ℕ, Err, IfOk, IfErr, OnOk};
+ghost use Rattle.std.specs.Io.KnownBytes.{Appends};
+ghost use Rattle.eu_serve.specs.Served.{served_text};
 ghost use Rattle.eu_settle.specs.Settled.{IsMismatch, IsSettled};
 ghost use Rattle.eu_settle.specs.declared.settling.Mismatch.{Mismatch};
 
@@ -35,6 +37,24 @@ pub(crate) struct Plan {
     pub sessions: u32,
     pub periods: Periods,
     pub timeouts: Timeouts,
+}
+
+impl Plan {
+    /// That of a server with these settings, at their pace and with a server's timeouts.
+    fn of_server(config: Config, expected: u32, workers: u32, sessions: u32) -> Plan
+        ensures settings { (result.config ≡ config) × (result.expected ≡ expected) × (result.workers ≡ workers) × (result.sessions ≡ sessions) }
+        ensures periods { result.periods ≡ record { evictor = config.evict_ms; bucket = 60000; threshold = 900000 } }
+        ensures timeouts { (result.timeouts.read ≡ 10000) × (result.timeouts.write ≡ 10000) × (result.timeouts.linger ≡ 1000) }
+    {
+        Plan {
+            config,
+            expected,
+            workers,
+            sessions,
+            periods: Periods::of_server(config.evict_ms),
+            timeouts: Timeouts::of_server(),
+        }
+    }
 }
 
 /// A worker of a server, over a book that `K` names.
@@ -162,6 +182,17 @@ fn serve_book<K: Label + Send + Sync, R: Threads + Wait + Clock + Sync, H: Choos
     Ok(served)
 }
 
+/// Writes how many connections were served. `Write` where that fails.
+fn tell<W: Write>(writer: &mut W, served: u64) -> Result<(), Fault>
+    ensures told { OnOk result (Appends (W.contents writer.old) (W.contents writer.new) (served_text served)) }
+    ensures err { IfErr result (λ f. f ≡ Fault.Write) }
+{
+    if writeln!(writer, "served {served}").is_err() || writer.flush().is_err() {
+        return Err(Fault::Write);
+    }
+    Ok(())
+}
+
 /// Serves by a plan, as `serve_on` does.
 pub(crate) fn serve<R: Threads + Wait + Clock + Sync, H: Chooser + Send + Drop, W: Write>(
     rt: &R,
@@ -170,12 +201,12 @@ pub(crate) fn serve<R: Threads + Wait + Clock + Sync, H: Chooser + Send + Drop, 
     plan: &Plan,
     chooser: H,
     writer: &mut W,
-) -> Result<(), Fault> {
+) -> Result<(), Fault>
+    ensures told { OnOk result ((n : ℕ) × Appends (W.contents writer.old) (W.contents writer.new) (served_text n)) }
+    ensures untold { IfErr result (λ f. (f ≡ Fault.Write) ⊎ (writer.new ≡ writer.old)) }
+{
     let served = serve_book::<Brand, R, H>(rt, alloc, listener, plan, chooser, Blanks::new())?;
-    if writeln!(writer, "served {served}").is_err() || writer.flush().is_err() {
-        return Err(Fault::Write);
-    }
-    Ok(())
+    tell(writer, served)
 }
 
 /// Serves so many connections of a listener, by so many workers, and then writes `served N`, N being how many there were.
@@ -191,8 +222,8 @@ pub(crate) fn serve<R: Threads + Wait + Clock + Sync, H: Chooser + Send + Drop, 
 ///
 /// # Errors
 ///
-/// - `Read` where a connection can't be accepted, for another reason than that it was aborted before. No further session
-///   begins then; those that began are finished, and the book is closed and settled, before it is told. Also where the machine's
+/// - `Read` where a connection can't be accepted, for another reason than that it was aborted before, its network failed or a
+///   signal came. No further session begins then; those that began are finished, and the book is closed and settled, before it is told. Also where the machine's
 ///   clock can't be read at the start.
 /// - `OutOfMemory` where there is no memory to open the book, for the workers, or to close it.
 /// - `PassMissing` and `Mismatch` where the book can't be closed or settled.
@@ -211,14 +242,9 @@ pub fn serve_on<R: Threads + Wait + Clock + Sync, H: Chooser + Send + Drop, W: W
     writer: &mut W,
 ) -> Result<(), Fault>
     requires { (1 ≤ workers) × (workers ≤ 16) }
+    ensures told { OnOk result ((n : ℕ) × Appends (W.contents writer.old) (W.contents writer.new) (served_text n)) }
+    ensures untold { IfErr result (λ f. (f ≡ Fault.Write) ⊎ (writer.new ≡ writer.old)) }
 {
-    let plan = Plan {
-        config,
-        expected,
-        workers,
-        sessions,
-        periods: Periods::of_server(config.evict_ms),
-        timeouts: Timeouts::of_server(),
-    };
+    let plan = Plan::of_server(config, expected, workers, sessions);
     serve(rt, alloc, listener, &plan, chooser, writer)
 }

@@ -218,6 +218,53 @@ fn a_server_has_the_settings_that_it_is_given(rt: HostRuntime) -> Result<(), Fai
     Ok(())
 }
 
+/// A registration of A/i1 for a second, and the page once it was evicted and the clients were counted anew, preservation being off.
+const FOR_A_SECOND: &str =
+    "POST /eureka/apps/a HTTP/1.1\r\nHost: x\r\nConnection: close\r\nContent-Length: 183\r\n\r\n{\"instance\":{\"instanceId\":\"i1\",\"hostName\":\"h\",\"app\":\"a\",\"ipAddr\":\"10.0.0.1\",\"status\":\"UP\",\"lastDirtyTimestamp\":\"5\",\"dataCenterInfo\":{\"name\":\"MyOwn\"},\"leaseInfo\":{\"durationInSecs\":1}}}";
+
+const EVICTED: &str =
+    "HTTP/1.1 200 OK\r\nContent-Type: text/plain; charset=utf-8\r\nContent-Length: 78\r\nConnection: close\r\n\r\nheld 0\nexpected 0\nthreshold 0\nlast 0\npreservation off\npermitted yes\nstatuses \n";
+
+/// Whether a client registers for a second, and then finds that it was evicted.
+fn is_evicted<R: Net<Stream = TcpStream> + Clock>(
+    rt: &R,
+    alloc: Global,
+    address: SocketAddr,
+) -> bool {
+    let registered = is_answered(rt, alloc, address, FOR_A_SECOND, REGISTERED);
+    thread::sleep(rt, Duration::from_millis(3_000));
+    registered && is_answered(rt, alloc, address, LOOK, EVICTED)
+}
+
+/// What a server by a plan writes, and whether a client is evicted by its timers.
+fn serve_and_evict<
+    R: Threads + Wait + Clock + Sync + Net<Listener = TcpListener, Stream = TcpStream>,
+>(
+    rt: &R,
+    alloc: Global,
+    listener: &TcpListener,
+    address: SocketAddr,
+    plan: &Plan,
+) -> (Result<Vec<u8>, Fault>, bool) {
+    thread::join(
+        rt,
+        || written(rt, alloc, listener, plan),
+        || is_evicted(rt, alloc, address),
+    )
+}
+
+#[test]
+fn timers_evict_and_count_anew(rt: HostRuntime) -> Result<(), Fail> {
+    let (listener, address) = listen(&rt)?;
+    let mut plan = plan(2, 10_000)?;
+    plan.config = Config::new(false, 85, 30, 1)?;
+    plan.expected = 7;
+    let (out, evicted) = serve_and_evict(&rt, rt.alloc(), &listener, address, &plan);
+    assert!(rt; evicted);
+    assert!(rt; out?.as_slice() == b"served 2\n".as_slice());
+    Ok(())
+}
+
 /// What a server by a plan writes, and whether a client that is connected reads that answer to its request.
 fn serve_one<R: Threads + Wait + Clock + Sync>(
     rt: &R,

@@ -56,7 +56,7 @@ use std::io::{Read, Write};
 /// `OUT_OF_SERVICE` or `UNKNOWN`. SRC is `c` for a client, and `r` for a peer that replicates. A number has 1 to 20
 /// digits. There are 8 peers at most, which are numbered from 0; P in the other lines is below 2^32, and a CODE is 100 to 999.
 /// Where a command is refused, the line prints `refused` and the fault's number, nothing changes, and the script goes on:
-/// `refused 6` comes before every other where 65,536 commands were answered, since their journal is kept.
+/// `refused 6` comes before every other where 2^62 commands were answered.
 ///
 /// `BadLine` comes where a line is none of these, or has more than 4,096 bytes; `Read` where a read failed, or the script
 /// has more than 16,777,216 bytes; `Write` where a write or a flush failed; and `OutOfMemory` where there was no memory

@@ -14,20 +14,20 @@ use Rattle.eu_model.specs.Delta.{delta, plus}
 use Rattle.eu_shared.specs.Passes.{Caller, IsAnswer, IsRefused, IsShown}
 use Rattle.eu_session.specs.Book.{first_asks}
 
--- a command was answered, as some lawful book answers it at that number: the pass logs just this, and counts what it did. The
--- number is at least that of the steps that were made for the pass
+-- a command was answered, as some lawful book answers it at that number: the pass logs just this, counts what it did, and has seen
+-- where that book's journal begins then. The number is at least that of the steps that were made for the pass
 pub record Logs (p : Caller) (c : Command) (t : ℕ) (reply : Reply) (q : Caller) : Type 0 where
   pub number : ℕ
   pub before : FirstChooser
   pub after : FirstChooser
-  pub answer : IsAnswer first_asks before p.number c t reply number after
+  pub answer : IsAnswer first_asks before p c t reply number after q
   pub fresh : p.tally.steps ≤ number
   pub same : q.number ≡ p.number
   pub log : q.log ≡ p.log ++ logged c t reply number ∷ []
   pub tally : q.tally ≡ plus p.tally (delta c reply)
   pub seen : p.seen ≤ q.seen
 
--- the pass may have seen where the journal begins, and is as it was else
+-- the pass has seen where the journal begins, and is as it was else
 pub record Looks (p q : Caller) : Type 0 where
   pub same : q.number ≡ p.number
   pub log : q.log ≡ p.log
@@ -40,5 +40,5 @@ PassAsks p (Do c) t (Ok (Did reply)) q = Logs p c t reply q
 PassAsks p (Do c) t (Ok (Saw v)) q = ⊥
 PassAsks p (Do c) t (Err f) q = IsRefused c t f × (q ≡ p)
 PassAsks p (See look) t (Ok (Did reply)) q = ⊥
-PassAsks p (See look) t (Ok (Saw v)) q = IsShown look t v × Looks p q
+PassAsks p (See look) t (Ok (Saw v)) q = IsShown p look t v q × Looks p q
 PassAsks p (See look) t (Err f) q = (f ≡ OutOfMemory) × (q ≡ p)

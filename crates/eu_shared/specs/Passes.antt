@@ -1,5 +1,5 @@
 -- Passes and the shared book, as contracts see them
-use Rattle.std.specs.Prelude.{ℕ, List, [], ◌∷◌, ◌++◌, max}
+use Rattle.std.specs.Prelude.{◌≡◌, ℕ, List, [], ◌∷◌, ◌++◌, max}
 use Rattle.eu_base.specs.declared.faults.Fault.{Fault}
 use Rattle.eu_book.specs.declared.journal.Logged.{Logged}
 use Rattle.eu_book.specs.Account.{Account, Applies, IsLawful, Refuses, opened}
@@ -54,15 +54,19 @@ done_for (p ∷ ps) = plus p.tally (done_for ps)
 
 -- ---- what is known of an answer, where the book behind the lock isn't
 
--- some lawful book answers the command so, at this number, and is lawful after
-abbrev pub IsAnswer : {S : Type 0} → Asks S → S → ℕ → Command → ℕ → Reply → ℕ → S → Type 0
-IsAnswer asks x pass c t reply number x' =
-    (before : Account) × (after : Account) × IsLawful before × IsLawful after × Applies asks before x pass c t reply number after x'
+-- some lawful book answers the pass so, at this number, and is lawful after; the pass has then seen where its journal begins
+abbrev pub IsAnswer : {S : Type 0} → Asks S → S → Caller → Command → ℕ → Reply → ℕ → S → Caller → Type 0
+IsAnswer asks x p c t reply number x' p' =
+    (before : Account) × (after : Account) × IsLawful before × IsLawful after × Applies asks before x p.number c t reply number after x' × (p'.seen ≡ max p.seen after.first)
 
 -- some lawful book refuses it so
 abbrev pub IsRefused : Command → ℕ → Fault → Type 0
 IsRefused c t f = (a : Account) × IsLawful a × Refuses a c t f
 
--- some lawful book shows it
-abbrev pub IsShown : Query → ℕ → View → Type 0
-IsShown q t v = (a : Account) × IsLawful a × Shows a.state.registry (λ s. seen.view s q t) v
+-- some lawful book shows it to the pass, which has then seen where its journal begins
+abbrev pub IsShown : Caller → Query → ℕ → View → Caller → Type 0
+IsShown p q t v p' = (a : Account) × IsLawful a × Shows a.state.registry (λ s. seen.view s q t) v × (p'.seen ≡ max p.seen a.first)
+
+-- some lawful book's journal begins anew for the pass, which has then seen where: after all steps
+abbrev pub IsBegun : Caller → Caller → Type 0
+IsBegun p p' = (a : Account) × IsLawful a × (p'.seen ≡ max p.seen a.totals.steps)

@@ -158,13 +158,42 @@ impl<K: Label> Held<K> {
         ensures unasked { OnErr result (chooser.new ≡ chooser.old) }
     {
         let _before = self.book.journal();
-        if pass.log.reserve(1).is_err() {
+        let Ok(mine) = command.copy(alloc) else {
             drop(command);
+            return Err(Fault::OutOfMemory);
+        };
+        self.ask_with(alloc, pass, command, mine, moment, chooser)
+    }
+
+    /// As `ask`, where the command was copied before: `mine` is for the pass's log.
+    pub(crate) fn ask_with<C: Chooser>(
+        &mut self,
+        alloc: Global,
+        pass: &mut Pass<K>,
+        command: Command,
+        mine: Command,
+        moment: Moment,
+        chooser: &mut C,
+    ) -> Result<Receipt, Fault>
+        requires same { mine ≡ command }
+        ensures applied { IfOk result (λ r. Applies C.asks self.old.book chooser.old pass.old.number command moment r.reply r.number self.new.book chooser.new) }
+        ensures pass { IfOk result (λ r. pass.new ≡ answered pass.old (logged command moment r.reply r.number) self.new.book.first) }
+        ensures fresh { IfOk result (λ r. pass.old.tally.steps ≤ r.number) }
+        ensures before { IsLawful self.old.book }
+        ensures after { OnOk result (IsLawful self.new.book) }
+        ensures made { self.new.made ≡ self.old.made }
+        ensures refused { IfErr result (λ f. Refuses self.old.book command moment f) }
+        ensures err { OnErr result ((self.new ≡ self.old) × (pass.new ≡ pass.old)) }
+        ensures unasked { OnErr result (chooser.new ≡ chooser.old) }
+    {
+        let _lawful = self.book.journal();
+        if pass.log.reserve(1).is_err() {
+            drop((command, mine));
             return Err(Fault::OutOfMemory);
         }
         let told = self
             .book
-            .apply_logged(alloc, pass.number, command, moment, chooser)?;
+            .apply_logged(alloc, pass.number, command, mine, moment, chooser)?;
         let done = Tally::of(&told.logged.command, &told.logged.reply);
         self.totals.audit(&mut pass.shares);
         self.totals.add(&mut pass.shares, done);
@@ -210,8 +239,10 @@ impl<K: Label> Held<K> {
         ensures book { OnOk result (self.new ≡ record { book = cleared self.old.book; made = self.old.made }) }
         ensures pass { OnOk result (pass.new ≡ shown pass.old self.old.book.totals.steps) }
         ensures fresh { OnOk result (pass.old.tally.steps ≤ self.old.book.totals.steps) }
+        ensures before { IsLawful self.old.book }
         ensures err { OnErr result ((self.new ≡ self.old) × (pass.new ≡ pass.old)) }
     {
+        let _as_it_was = self.book.journal();
         let retired = self.book.checkpoint(alloc)?;
         self.totals.audit(&mut pass.shares);
         see(

@@ -1,14 +1,14 @@
 //! Passes: by each, one caller asks the shared book.
-ghost use Rattle.std.specs.Prelude.{◌≡◌, ◌≤◌, false, max};
+ghost use Rattle.std.specs.Prelude.{◌≡◌, ◌≤◌, false, max, IfOk};
 ghost use Rattle.eu_settle.specs.Settled.{from_first};
 ghost use Rattle.eu_shared.specs.Closing.{log_of, logged_by};
 ghost use Rattle.eu_shared.specs.Passes.{trimmed};
 
 use crate::shares::{Label, Shares};
 use eu_book::{Journal, Logged};
-use eu_model::Tally;
+use eu_model::{Command, Tally};
 use eu_settle::PassLog;
-use std::alloc::AllocError;
+use std::alloc::{AllocError, Global};
 use std::marker::Model;
 
 /// The pass of one caller of a shared book: by its number the entries of the journal name it. It keeps a log of its own, and the
@@ -82,11 +82,18 @@ impl<K: Label> Pass<K> {
         self.retired = None;
     }
 
-    /// Makes room in its log for what it is answered next. `AllocError` where no memory is left.
-    pub(crate) fn reserve(&mut self) -> Result<(), AllocError>
-        ensures { self.new ≡ self.old }
+    /// Makes room in its log for what it is answered next, and gives the command once more, to be kept there. `AllocError` where no
+    /// memory is left.
+    pub(crate) fn prepare(
+        &mut self,
+        alloc: Global,
+        command: &Command,
+    ) -> Result<Command, AllocError>
+        ensures same { IfOk result (λ mine. mine ≡ command.now) }
+        ensures pass { self.new ≡ self.old }
     {
-        self.log.reserve(1)
+        self.log.reserve(1)?;
+        command.copy(alloc)
     }
 
     /// Its number and its log.

@@ -10,7 +10,7 @@ ghost use Rattle.eu_book.specs.Peers.{state_of};
 ghost use Rattle.eu_model.specs.Delta.{delta, plus};
 ghost use Rattle.eu_settle.specs.declared.closed.PassLog.{PassLog};
 ghost use Rattle.eu_shared.specs.Closing.{account_of, log_of, logged_by, IsReason};
-ghost use Rattle.eu_shared.specs.Passes.{done_for, fresh, IsAnswer, IsRefused, IsShown};
+ghost use Rattle.eu_shared.specs.Passes.{done_for, fresh, IsAnswer, IsBegun, IsRefused, IsShown};
 
 use crate::closing::Unclosed;
 use crate::held::Held;
@@ -74,7 +74,8 @@ impl<K: Label> Shared<K> {
 }
 
 impl<K: Label> Pass<K> {
-    /// Tells the shared book a command, at a moment (`Held::ask`). The room in the log is made before the lock is taken.
+    /// Tells the shared book a command, at a moment (`Held::ask`). The command's copy for the log, and its room there, are made before
+    /// the lock is taken.
     ///
     /// What it is answered is logged, and what was done is added to the tallies. The number of the entry is at least that of the
     /// steps that were made for this pass. A refusal is one of `Book::apply`; it leaves the pass as it was, and asks no word.
@@ -92,16 +93,18 @@ impl<K: Label> Pass<K> {
         ensures number { self.new.number ≡ self.old.number }
         ensures seen { self.old.seen ≤ self.new.seen }
         ensures fresh { IfOk result (λ r. self.old.tally.steps ≤ r.number) }
-        ensures answer { IfOk result (λ r. IsAnswer C.asks chooser.old self.old.number command moment r.reply r.number chooser.new) }
+        ensures answer { IfOk result (λ r. IsAnswer C.asks chooser.old self.old command moment r.reply r.number chooser.new self.new) }
         ensures refused { IfErr result (λ f. IsRefused command moment f) }
         ensures err { OnErr result (self.new ≡ self.old) }
         ensures unasked { OnErr result (chooser.new ≡ chooser.old) }
     {
-        if self.reserve().is_err() {
+        let Ok(mine) = self.prepare(alloc, &command) else {
             drop(command);
             return Err(Fault::OutOfMemory);
-        }
-        let answer = shared.lock(rt).ask(alloc, self, command, moment, chooser);
+        };
+        let answer = shared
+            .lock(rt)
+            .ask_with(alloc, self, command, mine, moment, chooser);
         self.let_go();
         answer
     }
@@ -116,7 +119,7 @@ impl<K: Label> Pass<K> {
         query: &Query,
         moment: Moment,
     ) -> Result<View, AllocError>
-        ensures view { IfOk result (λ v. IsShown query.now moment v) }
+        ensures view { IfOk result (λ v. IsShown self.old query.now moment v self.new) }
         ensures pass { (self.new.number ≡ self.old.number) × (self.new.log ≡ self.old.log) × (self.new.tally ≡ self.old.tally) × (self.old.seen ≤ self.new.seen) }
         ensures err { OnErr result (self.new ≡ self.old) }
     {
@@ -133,6 +136,7 @@ impl<K: Label> Pass<K> {
         alloc: Global,
     ) -> Result<(), AllocError>
         ensures pass { (self.new.number ≡ self.old.number) × (self.new.log ≡ self.old.log) × (self.new.tally ≡ self.old.tally) × (self.old.seen ≤ self.new.seen) }
+        ensures begun { OnOk result (IsBegun self.old self.new) }
         ensures fresh { OnOk result (self.old.tally.steps ≤ self.new.seen) }
         ensures err { OnErr result (self.new ≡ self.old) }
     {

@@ -248,7 +248,8 @@ impl Leases {
         Ok(keys)
     }
 
-    /// The same, and how many entries of the index of deadlines were looked at: at most two for each key, and one more.
+    /// The same, and how many entries of the index of deadlines were looked at: that of each key, and at most one more than two for
+    /// each in all. `OutOfMemory`.
     pub fn expired_counted(
         &self,
         alloc: Global,
@@ -257,6 +258,7 @@ impl Leases {
     ) -> Result<(Vec<Key>, u64), AllocError>
         ensures keys { IfOk result (λ r. r.0.items ≡ expired_keys self.now.held moment extra) }
         ensures few { IfOk result (λ r. r.1 ≤ 2 * length r.0.items + 1) }
+        ensures each { IfOk result (λ r. length r.0.items ≤ r.1) }
     {
         let mut readings = 0;
         let limit = moment.ms().saturating_sub(extra);
@@ -276,7 +278,7 @@ impl Leases {
         ensures { IfOk result (λ leases. leases.items ≡ listing_of (option_copied app.entry) self.now.held) }
     {
         let rows = self.rows(alloc, app)?;
-        let mut leases = Vec::new(alloc);
+        let mut leases = Vec::with_capacity(alloc, rows.len())?;
         for row in &rows {
             leases.push(row.1.listed(alloc)?)?;
         }

@@ -63,7 +63,7 @@ fn renew(leases: &mut Leases, keys: &[Key], times: u64) -> Result<u64, Fault> {
     Ok(renewed)
 }
 
-/// How many renewals of drawn leases found one, where so many are held. `Full` where they are more than are held; `OutOfMemory`.
+/// How many renewals of drawn leases found one, where so many are held. `Full` where they are more than 65,536; `OutOfMemory`.
 pub fn count_renewed(alloc: Global, count: u64, times: u64) -> Result<u64, Fault> {
     let keys = keys(alloc, count)?;
     let mut leases = Leases::new(alloc);
@@ -74,7 +74,7 @@ pub fn count_renewed(alloc: Global, count: u64, times: u64) -> Result<u64, Fault
 }
 
 /// How many expired leases were found in all, where so many are held, of which the first so many have expired, and they are looked for so
-/// many times. `Full` where they are more than are held; `OutOfMemory`.
+/// many times. `Full` where they are more than 65,536; `OutOfMemory`.
 pub fn count_expired(alloc: Global, count: u64, expired: u64, times: u64) -> Result<u64, Fault> {
     let mut leases = Leases::new(alloc);
     for number in 0..count {

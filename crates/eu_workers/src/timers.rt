@@ -123,7 +123,7 @@ pub fn run_evictor<K: Label, R: Wait, G: Gate, C: Clock, H: Chooser>(
 }
 
 /// The bucket's worker (`MeasuredRate` in Eureka): as the evictor, with `Roll` for its command. It draws no words. After each 60th turn
-/// it has the journal begin anew (`Pass::checkpoint`), so that this is done at least once an hour; where no memory is left for it, it
+/// it has the journal begin anew (`Pass::checkpoint`), so once an hour where a turn is a minute; where no memory is left for it, it
 /// isn't, and no turn counts as refused for it.
 pub fn run_bucket<K: Label, R: Wait, G: Gate, C: Clock>(
     site: &Site<'_, K, R, G>,

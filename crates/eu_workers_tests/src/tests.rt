@@ -4,5 +4,6 @@ mod replicas;
 mod servers;
 mod sessions;
 mod timers;
+mod trims;
 mod turns;
 mod victims;

@@ -1,4 +1,6 @@
 //! The command line, from words to settings.
+mod runs;
+
 use crate::options::{command, config_of, serving_of};
 use crate::serving::{Serving, listen, serve};
 use clap::error::ErrorKind;

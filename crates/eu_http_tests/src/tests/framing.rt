@@ -312,7 +312,7 @@ fn a_declared_length_is_judged_before_the_body_comes(rt: HostRuntime) {
 }
 
 /// Requests in two pieces, with the body of each.
-const PIECES: [(&[u8], &[u8], &str); 3] = [
+const PIECES: [(&[u8], &[u8], &str); 4] = [
     (b"\r\nGET / HTTP/1.1\r\nHo", b"st: x\r\n\r\n", ""),
     (
         b"PUT / HTTP/1.1\r\nHost: x\r\nContent-Length: 3\r\n\r\na",
@@ -322,6 +322,11 @@ const PIECES: [(&[u8], &[u8], &str); 3] = [
     (
         b"PUT / HTTP/1.1\nHost: x\nTransfer-Encoding: Chunked\n\n1;a\r\na\r\n2\r",
         b"\nbc\r\n0\r\nend: x\r\n\r\n",
+        "abc",
+    ),
+    (
+        b"PUT / HTTP/1.1\r\nHost: x\r\nTransfer-Encoding: chunked\r\n\r\n3\r\nabc\r\n",
+        b"0\r\n\r\n",
         "abc",
     ),
 ];

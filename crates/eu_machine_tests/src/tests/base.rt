@@ -363,7 +363,7 @@ fn faults_have_numbers(rt: HostRuntime) {
 /// The rest of a text; none where it isn't JSON, or no object of whole numbers.
 fn rest(alloc: Global, text: &str) -> Option<Rest> {
     match Value::from_str(alloc, text) {
-        Ok(value) => Rest::new(alloc, value),
+        Ok(value) => Rest::new(alloc, value).ok()?,
         Err(_) => None,
     }
 }
@@ -371,7 +371,7 @@ fn rest(alloc: Global, text: &str) -> Option<Rest> {
 /// Whether a text is JSON, and if so, whether it is a rest.
 fn is_rest(alloc: Global, text: &str) -> Option<bool> {
     match Value::from_str(alloc, text) {
-        Ok(value) => Some(Rest::new(alloc, value).is_some()),
+        Ok(value) => Some(Rest::new(alloc, value).ok()?.is_some()),
         Err(_) => None,
     }
 }

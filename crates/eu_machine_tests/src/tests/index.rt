@@ -6,9 +6,6 @@ use eu_store::{Held, Leases};
 use std::alloc::{AllocError, Global};
 use std::test::Fail;
 
-/// How long each lease lasts, in seconds.
-const SECS: u32 = 10;
-
 fn at(ms: u64) -> Result<Moment, Fault> {
     Moment::new(ms).ok_or(Fault::BadStamp)
 }
@@ -21,37 +18,85 @@ fn key(alloc: Global, number: u64) -> Result<Key, Fault> {
     Ok(Key { app, id })
 }
 
-/// A lease that is made at that moment.
-fn held(alloc: Global, number: u64, ms: u64) -> Result<Held, Fault> {
-    let moment = at(ms)?;
+/// How long a lease lasts: 10 seconds, or 30.
+#[derive(Clone, Copy)]
+enum Term {
+    Short,
+    Long,
+}
+
+impl Term {
+    fn drawn(chooser: &mut RngChooser) -> Term {
+        match chooser.below(2) {
+            0 => Term::Short,
+            _ => Term::Long,
+        }
+    }
+
+    fn ms(self) -> u64 {
+        match self {
+            Term::Short => 10_000,
+            Term::Long => 30_000,
+        }
+    }
+}
+
+/// An instance of that number, whose lease lasts so long.
+fn instance(alloc: Global, number: u64, term: Term) -> Result<Instance, Fault> {
     let key = key(alloc, number)?;
     let rest = Rest::of_host(alloc, "h")?;
-    let instance = Instance {
+    let mut instance = Instance {
         key,
         status: Status::Up,
         overridden: Status::Unknown,
         dirty: 0,
-        secs: SECS,
+        secs: 10,
         interval: 30,
         rest,
     };
-    Ok(Held::new(instance, Lease::fresh(moment, SECS)))
+    if let Term::Long = term {
+        instance.secs = 30;
+    }
+    Ok(instance)
+}
+
+/// A lease of that number, made at that moment.
+fn held(alloc: Global, number: u64, ms: u64, term: Term) -> Result<Held, Fault> {
+    let moment = at(ms)?;
+    let instance = instance(alloc, number, term)?;
+    let lease = Lease::fresh(moment, instance.secs);
+    Ok(Held::new(instance, lease))
 }
 
 /// Puts a lease of that number, made at that moment.
-fn put(alloc: Global, leases: &mut Leases, number: u64, ms: u64) -> Result<(), Fault> {
+fn put(alloc: Global, leases: &mut Leases, number: u64, ms: u64, term: Term) -> Result<(), Fault> {
     let key = key(alloc, number)?;
     leases.prepare_put(&key)?;
-    let held = held(alloc, number, ms)?;
+    let held = held(alloc, number, ms, term)?;
     drop(leases.put_prepared(key, held));
     Ok(())
 }
 
-/// A lease as the plain list keeps it: the number of its id, and its last update.
+/// Has an instance of that number join again at that moment, where it is held.
+fn rejoin(
+    alloc: Global,
+    leases: &mut Leases,
+    number: u64,
+    ms: u64,
+    term: Term,
+) -> Result<bool, Fault> {
+    let moment = at(ms)?;
+    let instance = instance(alloc, number, term)?;
+    let lease = Lease::fresh(moment, instance.secs);
+    Ok(leases.rejoin(&instance, Status::Up, Status::Unknown, lease))
+}
+
+/// A lease as the plain list keeps it: the number of its id, its last update, and how long it lasts.
 #[derive(Clone, Copy)]
 struct Plain {
     number: u64,
     updated: u64,
+    term: Term,
 }
 
 /// Leases as a plain list, of which each is looked at.
@@ -61,18 +106,34 @@ struct Slow {
 }
 
 impl Slow {
-    fn put(&mut self, number: u64, ms: u64) -> Result<(), AllocError> {
-        let lease = Plain {
-            number,
-            updated: ms,
-        };
+    /// Whether there is a lease of that number.
+    fn has(&self, number: u64) -> bool {
+        self.kept.iter().any(|kept| kept.number == number)
+    }
+
+    /// Puts a lease of that number in the place of one that is there; tells whether one is.
+    fn replace(&mut self, number: u64, ms: u64, term: Term) -> bool {
         for kept in &mut self.kept {
             if kept.number == number {
-                *kept = lease;
-                return Ok(());
+                *kept = Plain {
+                    number,
+                    updated: ms,
+                    term,
+                };
+                return true;
             }
         }
-        self.kept.push(lease)?;
+        false
+    }
+
+    fn put(&mut self, number: u64, ms: u64, term: Term) -> Result<(), AllocError> {
+        if !self.replace(number, ms, term) {
+            self.kept.push(Plain {
+                number,
+                updated: ms,
+                term,
+            })?;
+        }
         Ok(())
     }
 
@@ -85,32 +146,36 @@ impl Slow {
     fn renew(&mut self, number: u64, ms: u64) -> bool {
         for kept in &mut self.kept {
             if kept.number == number {
-                kept.updated = ms.saturating_add(1_000 * u64::from(SECS));
+                kept.updated = ms.saturating_add(kept.term.ms());
                 return true;
             }
         }
         false
     }
 
-    /// The numbers of the leases that have expired, in order.
+    /// The numbers of the leases that have expired.
     fn expired(&self, alloc: Global, ms: u64, extra: u64) -> Result<Vec<u64>, AllocError> {
         let mut numbers = Vec::new(alloc);
         for lease in &self.kept {
-            let deadline = lease.updated.saturating_add(1_000 * u64::from(SECS));
+            let deadline = lease.updated.saturating_add(lease.term.ms());
             if deadline.saturating_add(extra) < ms {
                 numbers.push(lease.number)?;
             }
         }
-        numbers.sort()?;
         Ok(numbers)
     }
 }
 
-/// The ids of these numbers, each after a space.
+/// The ids of these numbers in their order by bytes, each after a space.
 fn ids_of(alloc: Global, numbers: &[u64]) -> Result<String, AllocError> {
-    let mut text = String::new(alloc);
+    let mut texts = Vec::new(alloc);
     for number in numbers {
-        write!(text, " j{number}")?;
+        texts.push(format!(in alloc; " j{number}")?)?;
+    }
+    texts.sort()?;
+    let mut text = String::new(alloc);
+    for one in &texts {
+        text.push_str(one)?;
     }
     Ok(text)
 }
@@ -139,6 +204,59 @@ fn are_expired(
     Ok(text.as_str() == wanted && read <= few)
 }
 
+/// What is drawn for a call.
+#[derive(Clone, Copy)]
+struct Drawn {
+    call: u64,
+    number: u64,
+    ms: u64,
+    term: Term,
+}
+
+impl Drawn {
+    fn of(chooser: &mut RngChooser) -> Drawn {
+        Drawn {
+            call: chooser.below(9),
+            number: chooser.below(300),
+            ms: chooser.below(60_000),
+            term: Term::drawn(chooser),
+        }
+    }
+}
+
+/// A call on both that changes a lease, if it is held. Tells whether they answer alike.
+fn changes_alike(
+    alloc: Global,
+    leases: &mut Leases,
+    slow: &mut Slow,
+    drawn: Drawn,
+) -> Result<bool, Fault> {
+    let Drawn {
+        call,
+        number,
+        ms,
+        term,
+    } = drawn;
+    let key = key(alloc, number)?;
+    let moment = at(ms)?;
+    let answer = match call {
+        0 => leases.take(&key).is_some() == slow.take(number),
+        1 => leases.renew(&key, moment) == slow.renew(number, ms),
+        2 => {
+            let (status, row) = (Status::Down, Status::Unknown);
+            leases.renew_as(&key, moment, status, row, None) == slow.renew(number, ms)
+        }
+        3 => rejoin(alloc, leases, number, ms, term)? == slow.replace(number, ms, term),
+        4 => {
+            let held = held(alloc, number, ms, term)?;
+            leases.replace(held).is_some() == slow.replace(number, ms, term)
+        }
+        5 => leases.amend(&key, Status::Down, Status::Unknown, None) == slow.has(number),
+        _ => leases.mark_up(&key, moment) == slow.has(number),
+    };
+    Ok(answer)
+}
+
 /// One drawn call on both. Tells whether they answer alike.
 fn answers_alike(
     alloc: Global,
@@ -146,23 +264,20 @@ fn answers_alike(
     slow: &mut Slow,
     chooser: &mut RngChooser,
 ) -> Result<bool, Fault> {
-    let number = 100 + chooser.below(300);
-    let ms = chooser.below(60_000);
-    let key = key(alloc, number)?;
-    match chooser.below(4) {
-        0 => {
-            put(alloc, leases, number, ms)?;
-            slow.put(number, ms)?;
+    let drawn = Drawn::of(chooser);
+    match drawn.call {
+        7 => {
+            put(alloc, leases, drawn.number, drawn.ms, drawn.term)?;
+            slow.put(drawn.number, drawn.ms, drawn.term)?;
             Ok(true)
         }
-        1 => Ok(leases.take(&key).is_some() == slow.take(number)),
-        2 => Ok(leases.renew(&key, at(ms)?) == slow.renew(number, ms)),
-        _ => {
+        8 => {
             let extra = chooser.below(5_000);
-            let numbers = slow.expired(alloc, ms, extra)?;
+            let numbers = slow.expired(alloc, drawn.ms, extra)?;
             let wanted = ids_of(alloc, &numbers)?;
-            are_expired(alloc, leases, ms, extra, wanted.as_str())
+            are_expired(alloc, leases, drawn.ms, extra, wanted.as_str())
         }
+        _ => changes_alike(alloc, leases, slow, drawn),
     }
 }
 
@@ -195,19 +310,25 @@ fn a_plain_list_answers_alike(rt: HostRuntime) {
 fn numbered(alloc: Global, count: u64) -> Result<Leases, Fault> {
     let mut leases = Leases::new(alloc);
     for number in 0..count {
-        put(alloc, &mut leases, number, number)?;
+        put(alloc, &mut leases, number, number, Term::Short)?;
     }
     Ok(leases)
 }
 
-/// Whether these have expired of a thousand leases, and so many deadlines were read at most.
-fn are_expired_of_a_thousand(alloc: Global, ms: u64, wanted: &str) -> Result<bool, Fault> {
+/// Whether these have expired of a thousand leases, and so many deadlines were read.
+fn are_expired_of_a_thousand(
+    alloc: Global,
+    ms: u64,
+    wanted: &str,
+    wanted_read: u64,
+) -> Result<bool, Fault> {
     let leases = numbered(alloc, 1_000)?;
-    are_expired(alloc, &leases, ms, 0, wanted)
+    let (keys, read) = leases.expired_counted(alloc, at(ms)?, 0)?;
+    Ok(ids(alloc, &keys)?.as_str() == wanted && read == wanted_read)
 }
 
 #[test]
 fn few_deadlines_are_read(rt: HostRuntime) {
-    assert!(rt; are_expired_of_a_thousand(rt.alloc(), 10_003, " j0 j1 j2") == Ok(true));
-    assert!(rt; are_expired_of_a_thousand(rt.alloc(), 10_000, "") == Ok(true));
+    assert!(rt; are_expired_of_a_thousand(rt.alloc(), 10_003, " j0 j1 j2", 7) == Ok(true));
+    assert!(rt; are_expired_of_a_thousand(rt.alloc(), 10_000, "", 1) == Ok(true));
 }

@@ -434,7 +434,8 @@ fn hands_out(alloc: Global) -> Result<bool, Fault> {
     roll(alloc, &mut book, MOST_ENTRIES);
     let refused = first(alloc, &mut book, Step::Drain);
     let kept = extent(&book);
-    let answer = book.apply_logged(alloc, 0, Command::Roll, at(0), &mut FirstChooser);
+    let (one, mine) = (Command::Roll, Command::Roll);
+    let answer = book.apply_logged(alloc, 0, one, mine, at(0), &mut FirstChooser);
     let handed = entries_handed(&answer);
     drop(answer);
     let begun = extent(&book);
@@ -491,7 +492,8 @@ fn logged(answer: &Result<LoggedReceipt, Fault>) -> (u64, u64, &'static str, boo
 /// The same of a drain at a moment.
 fn drained_logged(alloc: Global, book: &mut Book, now: Moment) -> (u64, u64, &'static str, bool) {
     let drain = Command::Drain { peer: 0 };
-    let answer = book.apply_logged(alloc, 5, drain, now, &mut FirstChooser);
+    let mine = Command::Drain { peer: 0 };
+    let answer = book.apply_logged(alloc, 5, drain, mine, now, &mut FirstChooser);
     let logged = logged(&answer);
     drop(answer);
     logged

@@ -346,7 +346,7 @@ fn fails(alloc: Global, mut reader: Parts<'_>, mut writer: Failing, printed: &[u
     result == Err(ScriptFault::Write) && writer.has_failed && writer.text.as_slice() == printed
 }
 
-const FAILS: [(&[u8], bool, usize, usize, &[u8]); 9] = [
+const FAILS: [(&[u8], bool, usize, usize, &[u8]); 10] = [
     (b"a\nb\nc\n", false, 0, 9, b""),
     (b"a\nb\nc\n", false, 1, 9, b"1\n"),
     (b"a\nb\nc\n", false, 2, 9, b"1\n1\n"),
@@ -355,6 +355,7 @@ const FAILS: [(&[u8], bool, usize, usize, &[u8]); 9] = [
     (b"a\nb\nc\n", false, 9, 2, b"1\n1\n1\n"),
     (b"a\n", true, 9, 0, b"1\n"),
     (b"a", false, 0, 9, b""),
+    (b"a", false, 9, 1, b"1\n"),
     (b"!\n", false, 9, 0, b""),
 ];
 

@@ -90,15 +90,15 @@ fn a_reader_is_tried_again_and_then_fails(rt: HostRuntime) {
     assert!(rt; reading.has_failed());
 }
 
-/// What is written by a writer that is interrupted too often, where it keeps nothing.
-fn interrupted(alloc: Global) -> Option<Result<usize, WriteFault>> {
+/// What is written by a writer that is interrupted so often, and how many bytes it keeps.
+fn interrupted(alloc: Global, interruptions: usize) -> (Result<usize, WriteFault>, usize) {
     let mut writer = Narrow {
-        interruptions: MOST_TRIES,
+        interruptions,
         held: Vec::new(alloc),
         most: 9,
     };
     let written = Writing::new(&mut writer).write_some(b"ab");
-    writer.held.is_empty().then_some(written)
+    (written, writer.held.len())
 }
 
 #[test]
@@ -108,7 +108,57 @@ fn too_many_interruptions_are_a_failure(rt: HostRuntime) {
         bytes: b"ab".as_slice(),
     };
     assert!(rt; come(&mut Reading::new(&mut reader)) == Err(ReadFault));
-    assert!(rt; interrupted(rt.alloc()) == Some(Err(WriteFault)));
+    assert!(rt; interrupted(rt.alloc(), MOST_TRIES) == (Err(WriteFault), 0));
+    assert!(rt; interrupted(rt.alloc(), MOST_TRIES - 1) == (Ok(1), 1));
+}
+
+/// Fails at its first call with such an error, and does well after that.
+#[derive(Drop)]
+struct Stumbling {
+    first: Option<ErrorKind>,
+}
+
+impl Read for Stumbling {
+    fn read(&mut self, _buffer: &mut [u8]) -> io::Result<usize> {
+        match self.first.take() {
+            Some(kind) => Err(Error::from(kind)),
+            None => Ok(0),
+        }
+    }
+}
+
+impl Write for Stumbling {
+    fn write(&mut self, bytes: &[u8]) -> io::Result<usize> {
+        match self.first.take() {
+            Some(kind) => Err(Error::from(kind)),
+            None => Ok(bytes.len()),
+        }
+    }
+
+    fn flush(&mut self) -> io::Result<()> {
+        match self.first.take() {
+            Some(kind) => Err(Error::from(kind)),
+            None => Ok(()),
+        }
+    }
+}
+
+/// Whether a read, a write and a flush go well where the first call fails with such an error.
+fn goes_well(kind: ErrorKind) -> (bool, bool, bool) {
+    let mut reader = Stumbling { first: Some(kind) };
+    let mut writer = Stumbling { first: Some(kind) };
+    let mut flushed = Stumbling { first: Some(kind) };
+    (
+        come(&mut Reading::new(&mut reader)) == Ok((0, 0)),
+        Writing::new(&mut writer).write_some(b"ab") == Ok(2),
+        Writing::new(&mut flushed).flush() == Ok(()),
+    )
+}
+
+#[test]
+fn an_interruption_alone_is_tried_again(rt: HostRuntime) {
+    assert!(rt; goes_well(ErrorKind::Interrupted) == (true, true, true));
+    assert!(rt; goes_well(ErrorKind::WouldBlock) == (false, false, false));
 }
 
 /// Whether a writer with room for so many bytes takes the whole of six, or takes a front and fails, and is flushed only with room left.

@@ -63,7 +63,7 @@ fn held(alloc: Global, book: &Book) -> u64 {
 }
 
 /// A server at which nothing is held.
-fn server(alloc: Global, config: Config) -> Result<InProcess<Book, ListClock>, Fault> {
+pub fn server(alloc: Global, config: Config) -> Result<InProcess<Book, ListClock>, Fault> {
     let desk = Book::open(alloc, config, 0, 0)?;
     Ok(InProcess {
         desk,

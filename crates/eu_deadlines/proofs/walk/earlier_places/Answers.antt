@@ -38,6 +38,7 @@ loop-next-preserved c =
       reached = omega (arith, ap length made, offered_length c.args.heap.now c.args.limit (offered c.args.heap.now c.args.limit c.loop-next.found.items (2 * c.index-place.result.now + 1)) (2 * c.index-place.result.now + 2), offered_length c.args.heap.now c.args.limit c.loop-next.found.items (2 * c.index-place.result.now + 1));
       walked = step c.args.heap.now c.args.limit c.requires.order c.loop-next.found.items c.loop-next.next c.loop-next.invariant.walked c.index-place.result.now here is c.offer-in-loop-next-2.new.found.items made;
       counted = omega arith;
+      read = omega (arith, c.in_ok-offer-2.ensures.read, c.in_ok-offer-3.ensures.read);
     }
 
 pub returns-clause-found : goal.returns-clause-found

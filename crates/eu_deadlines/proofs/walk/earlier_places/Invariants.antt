@@ -7,6 +7,7 @@ invariant-loop-next l = record {
   reached : l.next ≤ length l.found.items;
   walked : Walked l.heap l.limit l.found.items l.next;
   counted : l.readings ≤ l.fn.readings + 2 * l.next + 1;
+  read : l.fn.readings + length l.found.items ≤ l.readings;
 }
 
 abbrev pub decreases-loop-next : goal.decreases-loop-next

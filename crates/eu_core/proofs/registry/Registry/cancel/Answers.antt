@@ -18,7 +18,7 @@ returns-in-Some c = λ replicated t.
     λ i. record p { config = (left i).config; leases = c.take-2.new.self.held; rows = c.take.new.self.rows; expected = (left i).expected } in
     subst (λ q. Answers c.args.self.now (Cancel c.args.key.now replicated) t (Ok Done) q) (sym whole)
     (moved _ _ _ _ _ _ c.self.view_is
-    (found_answers p c.args.key.now replicated t _ _ c.take-2.ensures.held c.take.ensures.rows c.in-Some._lease (p.expected - 1) c.in-Some.ensures.before refl))
+    (found_answers p c.args.key.now replicated t _ _ c.take-2.ensures.held c.take.ensures.rows c.in-Some.lease (p.expected - 1) c.in-Some.ensures.before refl))
 
 pub returns-in-None : goal.returns-in-None
 returns-in-None c = λ replicated t.

@@ -7,4 +7,4 @@ use Rattle.eu_shared.proofs.pass.Pass.read.Goals as goal
 pub returns-clause-view : goal.returns-clause-view
 returns-clause-view g c =
     let lawful = subst (λ (h : Holding). IsLawful h.book) (sym c.deref.ensures) c.lock.ensures in
-    is_shown c.args.query.now c.args.moment _ c.read.result lawful c.read.ensures.view
+    is_shown c.args.query.now c.args.moment _ _ _ c.read.result lawful c.read.ensures.view c.read.ensures.pass

@@ -1,7 +1,7 @@
 use Rattle.std.proofs.Common.{rules, ◌∙◌, ap}
 use Rattle.std.specs.Prelude.{◌++◌, ◌∷◌, []}
 use Rattle.eu_shared.proofs.TrimLemmas.{pushed}
-use Rattle.eu_shared.proofs.held.Held.ask.Goals as goal
+use Rattle.eu_shared.proofs.held.Held.ask_with.Goals as goal
 
 pub invariant_of-pass-2 : goal.invariant_of-pass-2
 invariant_of-pass-2 g c = (

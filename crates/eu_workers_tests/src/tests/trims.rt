@@ -1,0 +1,202 @@
+//! After each turn a worker trims the log of its pass.
+ghost use Rattle.std.specs.Prelude.{◌≡◌};
+
+use crate::tests::replicas::{Open, registers, server};
+use eu_base::{Config, Fault};
+use eu_clock::{FirstChooser, ListClock};
+use eu_routes::Routes;
+use eu_shared::{Blanks, Label, Pass, Shared};
+use eu_workers::{
+    Site, Source, run_bucket, run_evictor, run_replicator, run_sessions, run_threshold,
+};
+use std::alloc::Global;
+use std::marker::Brand;
+use std::sync::Wait;
+use std::test::Fail;
+
+/// How many entries a log has, and whether it has those of the turn alone.
+#[derive(Clone, Copy, PartialEq, Eq)]
+struct Left {
+    logged: usize,
+    is_trimmed: bool,
+}
+
+/// The number of the first entry of a log.
+fn first_number<K: Label>(pass: &Pass<K>) -> Option<u64> {
+    match pass.log() {
+        [] => None,
+        [first, ..] => Some(first.number),
+    }
+}
+
+/// A pass by which A/i1 was registered, and by which the journal began anew then; and the number of the registration's entry.
+fn stale<K: Label, R: Wait>(site: &Site<'_, K, R, Open>) -> Result<(Pass<K>, u64), Fault> {
+    let mut pass = site.shared.pass(site.rt, site.alloc)?;
+    if !registers(site.rt, site.shared, site.alloc, &mut pass) {
+        return Err(Fault::OutOfMemory);
+    }
+    pass.checkpoint(site.rt, site.shared, site.alloc)?;
+    match first_number(&pass) {
+        Some(number) => Ok((pass, number)),
+        None => Err(Fault::OutOfMemory),
+    }
+}
+
+/// What is left in the log of a pass, where the entry of that number was made before the turn.
+fn what_is_left<K: Label>(pass: Pass<K>, before: u64) -> Left {
+    let logged = pass.log().len();
+    let is_trimmed = match first_number(&pass) {
+        Some(number) => number > before,
+        None => true,
+    };
+    drop(pass);
+    Left { logged, is_trimmed }
+}
+
+fn clock(alloc: Global) -> ListClock {
+    ListClock::new(Vec::new(alloc))
+}
+
+/// One connection, by which A/i1 is renewed.
+#[derive(Drop)]
+struct Renewing {
+    connection: Option<(&'static [u8], Vec<u8>)>,
+}
+
+impl Source for Renewing {
+    type Reader = &'static [u8];
+
+    type Writer = Vec<u8>;
+
+    fn next(&mut self) -> Option<(&'static [u8], Vec<u8>)> {
+        self.connection.take()
+    }
+
+    fn end(&mut self, _reader: &'static [u8], _writer: Vec<u8>) {}
+}
+
+const RENEWAL: &str = "PUT /eureka/apps/A/i1 HTTP/1.1\r\nHost: x\r\n\r\n";
+
+/// What a session leaves.
+fn after_session<K: Label, R: Wait>(site: &Site<'_, K, R, Open>) -> Result<Left, Fault> {
+    let (pass, before) = stale(site)?;
+    let mut source = Renewing {
+        connection: Some((RENEWAL.as_bytes(), Vec::new(site.alloc))),
+    };
+    let (pass, _) = run_sessions(site, 1, pass, &mut source, &mut clock(site.alloc), 1);
+    Ok(what_is_left(pass, before))
+}
+
+/// What the evictor leaves.
+fn after_eviction<K: Label, R: Wait>(site: &Site<'_, K, R, Open>) -> Result<Left, Fault> {
+    let (pass, before) = stale(site)?;
+    let (pass, _) = run_evictor(site, pass, &mut clock(site.alloc), &mut FirstChooser, 1);
+    Ok(what_is_left(pass, before))
+}
+
+/// What the bucket's worker leaves.
+fn after_roll<K: Label, R: Wait>(site: &Site<'_, K, R, Open>) -> Result<Left, Fault> {
+    let (pass, before) = stale(site)?;
+    let (pass, _) = run_bucket(site, pass, &mut clock(site.alloc), 1);
+    Ok(what_is_left(pass, before))
+}
+
+/// What the threshold's worker leaves.
+fn after_update<K: Label, R: Wait>(site: &Site<'_, K, R, Open>) -> Result<Left, Fault> {
+    let (pass, before) = stale(site)?;
+    let (pass, _) = run_threshold(site, pass, &mut clock(site.alloc), 1);
+    Ok(what_is_left(pass, before))
+}
+
+/// What the replicator leaves.
+fn after_batch<K: Label, R: Wait>(
+    site: &Site<'_, K, R, Open>,
+    config: Config,
+) -> Result<Left, Fault> {
+    let (pass, before) = stale(site)?;
+    let mut peer = server(site.alloc, config)?;
+    let (pass, _) = run_replicator(site, 0, pass, &mut peer, &mut clock(site.alloc), 1);
+    Ok(what_is_left(pass, before))
+}
+
+/// What each worker leaves after a turn.
+#[derive(Clone, Copy, PartialEq, Eq)]
+struct Leaving {
+    sessions: Left,
+    evictor: Left,
+    bucket: Left,
+    threshold: Left,
+    replicator: Left,
+}
+
+fn work_at<K: Label, R: Wait>(
+    site: &Site<'_, K, R, Open>,
+    config: Config,
+) -> Result<Leaving, Fault> {
+    Ok(Leaving {
+        sessions: after_session(site)?,
+        evictor: after_eviction(site)?,
+        bucket: after_roll(site)?,
+        threshold: after_update(site)?,
+        replicator: after_batch(site, config)?,
+    })
+}
+
+/// The same at a book that is shared.
+fn work_on<K: Label, R: Wait>(
+    rt: &R,
+    alloc: Global,
+    shared: &Shared<K>,
+    config: Config,
+) -> Result<Leaving, Fault> {
+    let routes = Routes::new(alloc)?;
+    let site = Site {
+        rt,
+        alloc,
+        shared,
+        routes: &routes,
+        gate: &Open,
+    };
+    work_at(&site, config)
+}
+
+/// The same at a book with one peer, at which nothing is held.
+fn work<K: Label, R: Wait>(
+    rt: &R,
+    alloc: Global,
+    blanks: Blanks,
+    config: Config,
+) -> Result<Leaving, Fault>
+    requires names { (blanks.steps.name ≡ K.steps) × (blanks.counted.name ≡ K.counted) × (blanks.added.name ≡ K.added) × (blanks.removed.name ≡ K.removed) }
+    requires parts { (blanks.steps.parts ≡ K.parts) × (blanks.counted.parts ≡ K.parts) × (blanks.added.parts ≡ K.parts) × (blanks.removed.parts ≡ K.parts) × (K.parts ≡ 1025) }
+{
+    let shared: Shared<K> = Shared::open(alloc, config, 0, 1, blanks)?;
+    work_on(rt, alloc, &shared, config)
+}
+
+fn worked<R: Wait>(rt: &R, alloc: Global) -> Result<Leaving, Fault> {
+    let config = Config::new(true, 85, 30, 60_000)?;
+    work::<Brand, R>(rt, alloc, Blanks::new(), config)
+}
+
+/// What is left of so many entries of the turn.
+fn trimmed(logged: usize) -> Left {
+    Left {
+        logged,
+        is_trimmed: true,
+    }
+}
+
+#[test]
+fn each_worker_trims_its_log(rt: HostRuntime) -> Result<(), Fail> {
+    let left = worked(&rt, rt.alloc())?;
+    let wanted = Leaving {
+        sessions: trimmed(1),
+        evictor: trimmed(1),
+        bucket: trimmed(1),
+        threshold: trimmed(1),
+        replicator: trimmed(2),
+    };
+    assert!(rt; left == wanted);
+    Ok(())
+}

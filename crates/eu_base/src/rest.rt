@@ -23,7 +23,7 @@ enum Kept {
 }
 
 /// The members of an instance that the registry keeps as they came: a JSON object whose numbers are all whole. Contracts see
-/// the tree. They never change, so copies share them.
+/// the tree. They never change, so copies share them (but for those of `Rest::of_host`, of which a copy has a name of its own).
 #[derive(Debug, Drop)]
 pub struct Rest {
     kept: Kept,
@@ -64,7 +64,8 @@ impl Rest {
         }))
     }
 
-    /// What a client at that host gives at least: its host name, an address and a data center of its own. `OutOfMemory`.
+    /// What a client at that host gives at least: its host name, an address and a data center of its own. `AllocError` where no
+    /// memory is left.
     pub fn of_host(alloc: Global, host: &str) -> Result<Rest, AllocError>
         ensures { IfOk result (λ r. r ≡ rest_of_host host.now) }
     {
@@ -73,7 +74,7 @@ impl Rest {
         })
     }
 
-    /// The members, by their names, once more. `OutOfMemory`.
+    /// The members, by their names, once more. `AllocError` where no memory is left.
     pub fn to_members(&self, alloc: Global) -> Result<Map<String, Value>, AllocError>
         ensures tree { IfOk result (λ members. object (members_view members.entries) ≡ self.now) }
         ensures whole { has_float self.now ≡ false }
@@ -96,7 +97,7 @@ impl Rest {
         }
     }
 
-    /// The same members once more, which both share. `OutOfMemory`.
+    /// The same members once more. Those that `Rest::new` took are shared by both. `AllocError` where no memory is left.
     pub fn copy(&self) -> Result<Rest, AllocError>
         ensures { IfOk result (λ r. r ≡ self.now) }
     {

@@ -1,9 +1,9 @@
 //! The book.
-ghost use Rattle.std.specs.Prelude.{◌≡◌, ◌≤◌, Some, IfOk, IfErr, OnErr, OnOk};
+ghost use Rattle.std.specs.Prelude.{◌≡◌, ◌≤◌, length, Some, IfOk, IfErr, OnErr, OnOk};
 ghost use Rattle.eu_model.specs.Answers.{Shows};
 ghost use Rattle.eu_model.specs.State.{server_of_state};
 ghost use Rattle.eu_model.specs.View.{view};
-ghost use Rattle.eu_book.specs.Account.{cleared, opened, logged, Applies, Refuses, IsLawful};
+ghost use Rattle.eu_book.specs.Account.{cleared, most_entries, opened, logged, Applies, Refuses, IsLawful};
 ghost use Rattle.eu_book.specs.Answered.{for_log};
 ghost use Rattle.eu_book.specs.Renewed.{IsJournal, IsRetired};
 ghost use Rattle.eu_book.specs.Peers.{served, state_of};
@@ -138,9 +138,9 @@ impl Book {
         Ok(entered.receipt)
     }
 
-    /// As `apply`; and what a log of one's own keeps of the command, for who has one, with the journal as it was, where it has begun
-    /// anew. The log keeps `mine`, the command once more: so whoever holds a lock can have copied it before. All else is made before
-    /// anything changes.
+    /// As `apply`; and what a log of one's own keeps, for who has one, with the journal as it was, where it has begun anew. Of the
+    /// command the log keeps `mine`, which is to be the command once more: so whoever holds a lock can have copied it before. All
+    /// else is made before anything changes.
     pub fn apply_logged<C: Chooser>(
         &mut self,
         alloc: Global,
@@ -150,9 +150,8 @@ impl Book {
         moment: Moment,
         chooser: &mut C,
     ) -> Result<LoggedReceipt, Fault>
-        requires same { mine ≡ command }
         ensures applied { IfOk result (λ r. Applies C.asks self.old chooser.old pass command moment r.receipt.reply r.receipt.number self.new chooser.new) }
-        ensures logged { IfOk result (λ r. r.logged ≡ logged command moment r.receipt.reply r.receipt.number) }
+        ensures logged { IfOk result (λ r. r.logged ≡ logged mine moment r.receipt.reply r.receipt.number) }
         ensures retired { IfOk result (λ r. IsRetired self.old r.retired) }
         ensures refused { IfErr result (λ f. Refuses self.old command moment f) }
         ensures err { OnErr result (self.new ≡ self.old) }
@@ -254,6 +253,7 @@ impl Book {
         ensures base { (server_of_state result.now.base ≡ self.now.base) × (result.now.base ≡ state_of self.now.base) }
         ensures first { result.now.first ≡ self.now.first }
         ensures entries { result.now.entries.items ≡ self.now.entries }
+        ensures fits { length self.now.entries ≤ most_entries }
         ensures lawful { IsLawful self.now }
     {
         &self.journal

@@ -1,6 +1,9 @@
 //! Gates: what workers pass before they go on.
 
-/// The number of the evictor. Session workers have the numbers 1 to 16.
+/// The most session workers of a server. They have the numbers 1 to 16.
+pub const MOST_WORKERS: u32 = 16;
+
+/// The number of the evictor.
 pub const EVICTOR: u32 = 17;
 
 /// The number of the bucket's worker.

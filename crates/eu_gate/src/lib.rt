@@ -6,5 +6,5 @@ mod gate;
 mod periods;
 
 pub use entrance::Entrance;
-pub use gate::{BUCKET, EVICTOR, FIRST_REPLICATOR, Gate, Go, Point, THRESHOLD};
+pub use gate::{BUCKET, EVICTOR, FIRST_REPLICATOR, Gate, Go, MOST_WORKERS, Point, THRESHOLD};
 pub use periods::{BUCKET_MS, Periods, THRESHOLD_MS, Timer, Timers, is_timer};

@@ -131,7 +131,7 @@ fn prepare(stream: &TcpStream, timeouts: Timeouts) -> io::Result<()> {
 }
 
 /// Waits for the next connection, and gives its two sides. One that can't be prepared has gone, and is passed over.
-fn accept<R: Wait>(
+pub(crate) fn accept<R: Wait>(
     rt: &R,
     listener: &TcpListener,
     timeouts: Timeouts,

@@ -7,8 +7,8 @@ mod pace;
 mod serve;
 
 pub use door::{LINGER_BYTES, LINGER_MS, READ_TIMEOUT_MS, WRITE_TIMEOUT_MS};
-pub use eu_gate::{BUCKET_MS, THRESHOLD_MS};
-pub use serve::{MOST_WORKERS, serve_on};
+pub use eu_gate::{BUCKET_MS, MOST_WORKERS, THRESHOLD_MS};
+pub use serve::serve_on;
 
 #[cfg(test)]
 mod tests;

@@ -2,6 +2,7 @@
 ghost use Rattle.std.specs.Prelude.{◌≡◌, ◌≤◌, ◌<◌, ◌⊎◌, ℕ, Err, IfOk, IfErr, OnOk};
 ghost use Rattle.std.specs.Io.KnownBytes.{Appends};
 ghost use Rattle.eu_serve.specs.Served.{served_text};
+ghost use Rattle.eu_serve.specs.Unlimited.{IsUnlimited};
 ghost use Rattle.eu_settle.specs.Settled.{IsMismatch, IsSettled};
 ghost use Rattle.eu_settle.specs.declared.settling.Mismatch.{Mismatch};
 
@@ -21,9 +22,6 @@ use std::net::TcpListener;
 use std::sync::Wait;
 use std::thread::Threads;
 use std::time::Clock;
-
-/// The most workers of a server.
-pub const MOST_WORKERS: u32 = 16;
 
 /// The workers that are timers.
 const TIMERS: usize = 3;
@@ -65,7 +63,9 @@ fn job<'a, K: Label, R: Wait + Clock, H: Chooser>(
     rt: &'a R,
     pass: Pass<K>,
     work: Work<Door<'a, R>, H, Nobody>,
-) -> Hand<'a, K, R, H> {
+) -> Hand<'a, K, R, H>
+    ensures { IsUnlimited result }
+{
     Worker::Ready(Job {
         pass,
         clock: SystemClock::new(rt),

@@ -1,13 +1,13 @@
 //! Servers of a few sessions, with clients in the same process.
 
-use crate::door::Timeouts;
+use crate::door::{Timeouts, accept};
 use crate::pace::Pace;
 use crate::serve::{Plan, serve, serve_on};
 use eu_base::{Config, Fault};
 use eu_clock::FirstChooser;
 use eu_gate::{BUCKET, EVICTOR, Gate, Go, Periods, Point, THRESHOLD};
 use std::alloc::{AllocError, Global};
-use std::io::{Read, Write};
+use std::io::{ErrorKind, Read, Write};
 use std::net::{Net, SocketAddr, TcpListener, TcpStream};
 use std::sync::Wait;
 use std::sync::atomic::{AtomicU64, Ordering};
@@ -168,6 +168,125 @@ fn silent_clients_are_given_up(rt: HostRuntime) -> Result<(), Fail> {
     Ok(())
 }
 
+/// Whether a client is answered at once while fifteen others are connected that say nothing until then.
+fn is_answered_beside_fifteen<R: Net<Stream = TcpStream> + Clock>(
+    rt: &R,
+    alloc: Global,
+    address: SocketAddr,
+) -> io::Result<bool> {
+    let began = Instant::now(rt)?;
+    let mut silent = Vec::new(alloc);
+    for _ in 0..15 {
+        silent.push(TcpStream::connect(rt, address)?)?;
+    }
+    let answered = is_answered(rt, alloc, address, RENEWAL, NOT_FOUND);
+    let soon = began.elapsed(rt)? < Duration::from_secs(8);
+    drop(silent);
+    Ok(answered && soon)
+}
+
+/// What a server of sixteen sessions at once writes.
+fn written_by_sixteen<R: Threads + Wait + Clock + Sync>(
+    rt: &R,
+    alloc: Global,
+    listener: &TcpListener,
+) -> Result<Vec<u8>, Fault> {
+    let config = Config::new(true, 85, 30, 60_000)?;
+    let mut out = Vec::new(alloc);
+    serve_on(
+        rt,
+        alloc,
+        listener,
+        config,
+        1,
+        16,
+        16,
+        FirstChooser,
+        &mut out,
+    )?;
+    Ok(out)
+}
+
+/// The same, and whether a client is answered at once beside fifteen silent ones.
+fn serve_sixteen<
+    R: Threads + Wait + Clock + Sync + Net<Listener = TcpListener, Stream = TcpStream>,
+>(
+    rt: &R,
+    alloc: Global,
+    listener: &TcpListener,
+    address: SocketAddr,
+) -> (Result<Vec<u8>, Fault>, io::Result<bool>) {
+    thread::join(
+        rt,
+        || written_by_sixteen(rt, alloc, listener),
+        || is_answered_beside_fifteen(rt, alloc, address),
+    )
+}
+
+/// A silent client is waited for longer than the other one waits here.
+#[test]
+fn sixteen_workers_serve_at_once(rt: HostRuntime) -> Result<(), Fail> {
+    let (listener, address) = listen(&rt)?;
+    let (out, answered) = serve_sixteen(&rt, rt.alloc(), &listener, address);
+    assert!(rt; answered?);
+    assert!(rt; out?.as_slice() == b"served 16\n".as_slice());
+    Ok(())
+}
+
+/// Whether 1,100 clients are answered, one after the other.
+fn are_all_answered<R: Net<Stream = TcpStream>>(
+    rt: &R,
+    alloc: Global,
+    address: SocketAddr,
+) -> bool {
+    for _ in 0..1_100 {
+        if !is_answered(rt, alloc, address, RENEWAL, NOT_FOUND) {
+            return false;
+        }
+    }
+    true
+}
+
+/// What a server by a plan writes, and whether 1,100 clients are answered.
+fn serve_on_and_on<
+    R: Threads + Wait + Clock + Sync + Net<Listener = TcpListener, Stream = TcpStream>,
+>(
+    rt: &R,
+    alloc: Global,
+    listener: &TcpListener,
+    address: SocketAddr,
+    plan: &Plan,
+) -> (Result<Vec<u8>, Fault>, bool) {
+    thread::join(
+        rt,
+        || written(rt, alloc, listener, plan),
+        || are_all_answered(rt, alloc, address),
+    )
+}
+
+#[test]
+fn one_worker_serves_on(rt: HostRuntime) -> Result<(), Fail> {
+    let (listener, address) = listen(&rt)?;
+    let mut plan = plan(1_100, 10_000)?;
+    plan.workers = 1;
+    let (out, answered) = serve_on_and_on(&rt, rt.alloc(), &listener, address, &plan);
+    assert!(rt; answered);
+    assert!(rt; out?.as_slice() == b"served 1100\n".as_slice());
+    Ok(())
+}
+
+#[test]
+fn a_connection_is_prepared(rt: HostRuntime) -> Result<(), Fail> {
+    let (listener, address) = listen(&rt)?;
+    let client = TcpStream::connect(&rt, address)?;
+    let (reader, writer) = accept(&rt, &listener, Timeouts::of_server())?;
+    drop(client);
+    let wait = Some(Duration::from_secs(10));
+    assert!(rt; reader.nodelay()? && writer.nodelay()?);
+    assert!(rt; reader.read_timeout()? == wait && writer.write_timeout()? == wait);
+    Ok(())
+}
+
 #[test]
 fn no_session_is_served_at_once(rt: HostRuntime) -> Result<(), Fail> {
     let (listener, _) = listen(&rt)?;
@@ -176,12 +295,12 @@ fn no_session_is_served_at_once(rt: HostRuntime) -> Result<(), Fail> {
     Ok(())
 }
 
-/// A request for the status page, and the page of a server at which nothing is held that expects seven clients, each to renew every
-/// 20 s, of which half may go.
+/// A request for the status page, and the page of a server at which nothing is held that expects 70,007 clients (more than it may
+/// hold), each to renew every 20 s, of which half may go.
 const LOOK: &str = "GET /eureka/status HTTP/1.1\r\nHost: x\r\nConnection: close\r\n\r\n";
 
 const PAGE: &str =
-    "HTTP/1.1 200 OK\r\nContent-Type: text/plain; charset=utf-8\r\nContent-Length: 79\r\nConnection: close\r\n\r\nheld 0\nexpected 7\nthreshold 10\nlast 0\npreservation off\npermitted yes\nstatuses \n";
+    "HTTP/1.1 200 OK\r\nContent-Type: text/plain; charset=utf-8\r\nContent-Length: 87\r\nConnection: close\r\n\r\nheld 0\nexpected 70007\nthreshold 105010\nlast 0\npreservation off\npermitted yes\nstatuses \n";
 
 /// What a server of one session writes that has those settings.
 fn written_by_settings<R: Threads + Wait + Clock + Sync>(
@@ -191,7 +310,17 @@ fn written_by_settings<R: Threads + Wait + Clock + Sync>(
 ) -> Result<Vec<u8>, Fault> {
     let config = Config::new(false, 50, 20, 1_000)?;
     let mut out = Vec::new(alloc);
-    serve_on(rt, alloc, listener, config, 7, 1, 1, FirstChooser, &mut out)?;
+    serve_on(
+        rt,
+        alloc,
+        listener,
+        config,
+        70_007,
+        1,
+        1,
+        FirstChooser,
+        &mut out,
+    )?;
     Ok(out)
 }
 
@@ -218,22 +347,31 @@ fn a_server_has_the_settings_that_it_is_given(rt: HostRuntime) -> Result<(), Fai
     Ok(())
 }
 
-/// A registration of A/i1 for a second, and the page once it was evicted and the clients were counted anew, preservation being off.
+/// A registration of A/i1 for a second, and its renewal; and the page once it was evicted, the minute of its renewal had ended, and
+/// the clients were counted anew, preservation being off.
 const FOR_A_SECOND: &str =
     "POST /eureka/apps/a HTTP/1.1\r\nHost: x\r\nConnection: close\r\nContent-Length: 183\r\n\r\n{\"instance\":{\"instanceId\":\"i1\",\"hostName\":\"h\",\"app\":\"a\",\"ipAddr\":\"10.0.0.1\",\"status\":\"UP\",\"lastDirtyTimestamp\":\"5\",\"dataCenterInfo\":{\"name\":\"MyOwn\"},\"leaseInfo\":{\"durationInSecs\":1}}}";
 
-const EVICTED: &str =
-    "HTTP/1.1 200 OK\r\nContent-Type: text/plain; charset=utf-8\r\nContent-Length: 78\r\nConnection: close\r\n\r\nheld 0\nexpected 0\nthreshold 0\nlast 0\npreservation off\npermitted yes\nstatuses \n";
+const RENEWAL_OF_IT: &str =
+    "PUT /eureka/apps/A/i1 HTTP/1.1\r\nHost: x\r\nConnection: close\r\n\r\n";
 
-/// Whether a client registers for a second, and then finds that it was evicted.
+const RENEWED: &str = "HTTP/1.1 200 OK\r\nContent-Length: 0\r\nConnection: close\r\n\r\n";
+
+const EVICTED: &str =
+    "HTTP/1.1 200 OK\r\nContent-Type: text/plain; charset=utf-8\r\nContent-Length: 78\r\nConnection: close\r\n\r\nheld 0\nexpected 0\nthreshold 0\nlast 1\npreservation off\npermitted yes\nstatuses \n";
+
+/// Whether a client registers for a second and renews once, and then finds by a connection that was kept, after the other worker has
+/// left, that it was evicted.
 fn is_evicted<R: Net<Stream = TcpStream> + Clock>(
     rt: &R,
     alloc: Global,
     address: SocketAddr,
-) -> bool {
+) -> io::Result<bool> {
     let registered = is_answered(rt, alloc, address, FOR_A_SECOND, REGISTERED);
-    thread::sleep(rt, Duration::from_millis(3_000));
-    registered && is_answered(rt, alloc, address, LOOK, EVICTED)
+    let renewed = is_answered(rt, alloc, address, RENEWAL_OF_IT, RENEWED);
+    let last = TcpStream::connect(rt, address)?;
+    thread::sleep(rt, Duration::from_millis(6_000));
+    Ok(registered && renewed && is_answered_on(alloc, last, LOOK, EVICTED))
 }
 
 /// What a server by a plan writes, and whether a client is evicted by its timers.
@@ -245,7 +383,7 @@ fn serve_and_evict<
     listener: &TcpListener,
     address: SocketAddr,
     plan: &Plan,
-) -> (Result<Vec<u8>, Fault>, bool) {
+) -> (Result<Vec<u8>, Fault>, io::Result<bool>) {
     thread::join(
         rt,
         || written(rt, alloc, listener, plan),
@@ -256,12 +394,14 @@ fn serve_and_evict<
 #[test]
 fn timers_evict_and_count_anew(rt: HostRuntime) -> Result<(), Fail> {
     let (listener, address) = listen(&rt)?;
-    let mut plan = plan(2, 10_000)?;
+    let mut plan = plan(3, 10_000)?;
     plan.config = Config::new(false, 85, 30, 1)?;
     plan.expected = 7;
+    // The client looks in the middle of the second minute, which lasts as short as this.
+    plan.periods.bucket = 4_000;
     let (out, evicted) = serve_and_evict(&rt, rt.alloc(), &listener, address, &plan);
-    assert!(rt; evicted);
-    assert!(rt; out?.as_slice() == b"served 2\n".as_slice());
+    assert!(rt; evicted?);
+    assert!(rt; out?.as_slice() == b"served 3\n".as_slice());
     Ok(())
 }
 
@@ -352,6 +492,9 @@ fn a_turn_that_was_missed_is_not_caught_up(rt: HostRuntime) -> Result<(), Fail> 
     Ok(())
 }
 
+/// By so much no clock is set forward: it can't be read any more.
+const NO_CLOCK: u64 = u64::MAX;
+
 /// A machine whose monotonic clock is set forward by so many milliseconds.
 #[derive(Drop)]
 struct Machine<'a, R: Wait + Clock> {
@@ -363,8 +506,14 @@ impl<R: Wait + Clock> Wait for Machine<'_, R> {}
 
 impl<R: Wait + Clock> Clock for Machine<'_, R> {
     fn monotonic(&self) -> io::Result<Duration> {
-        let ahead = Duration::from_millis(self.ahead.load(Ordering::SeqCst));
-        Ok(self.rt.monotonic()?.saturating_add(ahead))
+        match self.ahead.load(Ordering::SeqCst) {
+            NO_CLOCK => Err(io::Error::from(ErrorKind::Unsupported)),
+            ahead => Ok(
+                self.rt
+                    .monotonic()?
+                    .saturating_add(Duration::from_millis(ahead)),
+            ),
+        }
     }
 
     fn since_1970(&self) -> io::Result<Duration> {
@@ -389,6 +538,20 @@ fn a_turn_is_due_a_period_after_the_last_one_began(rt: HostRuntime) -> Result<()
     let began = Instant::now(&rt)?;
     assert!(rt; pace.pass(EVICTOR, Point::Turn) == Go::On);
     assert!(rt; began.elapsed(&rt)? >= Duration::from_millis(50));
+    Ok(())
+}
+
+#[test]
+fn a_timer_without_a_clock_takes_no_turn(rt: HostRuntime) -> Result<(), Fail> {
+    let machine = Machine {
+        rt: &rt,
+        ahead: AtomicU64::new(0),
+    };
+    let pace = Pace::new(&machine, Periods::of_server(0))?;
+    assert!(rt; pace.pass(EVICTOR, Point::Turn) == Go::On);
+    machine.ahead.store(NO_CLOCK, Ordering::SeqCst);
+    assert!(rt; pace.pass(EVICTOR, Point::Turn) == Go::Stop);
+    assert!(rt; pace.pass(1, Point::Turn) == Go::On);
     Ok(())
 }
 

@@ -180,7 +180,7 @@ fn run_each<
     );
 }
 
-/// Has each worker that is ready do its job, in a thread of its own, and returns when all have ended. Where no thread can be made the
+/// Has each worker that is ready, or has its number already, do its job, in a thread of its own, and returns when all have ended. Where no thread can be made the
 /// jobs are done one after another, in their order. Takes no memory.
 ///
 /// Session workers are numbered from 1, in their order. Workers that are at work, or done, stay as they are. The caller hands in at most 16

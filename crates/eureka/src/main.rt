@@ -3,8 +3,8 @@
 
 ghost use Rattle.std.specs.Prelude.{ℕ, ◌≡◌, ◌≢◌, ◌⊎◌, OnOk, Err};
 ghost use Rattle.clap.specs.Words.{kind_of};
+ghost use Rattle.std.specs.declared.io.ErrorKind.TheVariants as io_kind;
 
-mod options;
 mod serving;
 #[cfg(test)]
 mod tests;
@@ -13,8 +13,8 @@ use clap::error::ErrorKind;
 use clap::{ArgMatches, Error};
 use eu_base::{Config, Fault};
 use eu_clock::{Chooser, FirstChooser, RngChooser};
+use eu_options::{command, config_of, seed_of, serving_of};
 use eu_server::{ScriptFault, run_script};
-use options::{command, config_of, seed_of, serving_of};
 use serving::serve;
 use std::net::{Net, TcpListener, TcpStream};
 use std::process::ExitCode;
@@ -95,9 +95,24 @@ fn run<R: Input + Print + Eprint + AllocGlobal, C: Chooser>(
     tell_end(rt, ended)
 }
 
-/// The words of the command line. None where there is no memory for them.
-fn words_given<R: Env + AllocGlobal>(rt: &R) -> Option<Vec<String>> {
-    env::args(rt).ok()?.collect(rt.alloc()).ok()
+/// The words of the command line. An error tells that there is no memory for them, or that one isn't UTF-8.
+fn words_given<R: Env + AllocGlobal>(rt: &R) -> io::Result<Vec<String>> {
+    let words = env::args(rt)?;
+    Ok(words.collect(rt.alloc())?)
+}
+
+/// Tells why there are no words, if standard error takes it, and gives the exit status.
+fn tell_no_words(rt: &impl Eprint, kind: io::ErrorKind) -> u8
+    ensures no_memory { kind ≡ io_kind.OutOfMemory → result ≡ 3 }
+    ensures mistake { kind ≢ io_kind.OutOfMemory → result ≡ 2 }
+{
+    match kind {
+        io::ErrorKind::OutOfMemory => tell_fault(rt, Fault::OutOfMemory),
+        _ => {
+            let _ = eprintln!(rt; "error: a word is not UTF-8");
+            BAD_INPUT
+        }
+    }
 }
 
 /// Runs a script as the options say, and gives the exit status.
@@ -150,8 +165,9 @@ fn start<
 >(rt: &R) -> u8
     ensures { (result ≡ 0) ⊎ ((result ≡ 2) ⊎ (result ≡ 3)) }
 {
-    let Some(words) = words_given(rt) else {
-        return tell_fault(rt, Fault::OutOfMemory);
+    let words = match words_given(rt) {
+        Ok(words) => words,
+        Err(error) => return tell_no_words(rt, error.kind()),
     };
     let Ok(command) = command(rt.alloc()) else {
         return tell_fault(rt, Fault::OutOfMemory);

@@ -1,29 +1,16 @@
 //! A server of the port that the options name.
-ghost use Rattle.std.specs.Prelude.{◌≡◌, ◌≢◌, ◌⊎◌, ◌≤◌, OnOk};
+ghost use Rattle.std.specs.Prelude.{◌≡◌, ◌≢◌, ◌⊎◌, OnOk};
 
 use crate::{DONE, tell_fault};
 use eu_base::{Config, Fault};
 use eu_clock::Chooser;
+use eu_options::Serving;
 use eu_serve::serve_on;
 use std::io;
 use std::net::{Ipv4Addr, Net, SocketAddr, TcpListener, TcpStream};
 use std::sync::Wait;
 use std::thread::Threads;
 use std::time::Clock;
-
-/// Where a server listens, and how much it serves.
-#[derive(Clone, Copy, Debug)]
-pub struct Serving {
-    /// The port of 127.0.0.1; 0 has the system choose one.
-    pub port: u16,
-    /// How many connections are served.
-    pub sessions: u32,
-    /// How many of them at once.
-    pub workers: u32,
-    /// How many clients are expected at first.
-    pub expected: u32,
-    ghost workers_bound: { (1 ≤ workers) × (workers ≤ 16) },
-}
 
 /// Listens on that port of 127.0.0.1, and tells on standard error on which, or why that failed.
 pub(crate) fn listen<R: Net<Listener = TcpListener, Stream = TcpStream> + Eprint>(

@@ -289,7 +289,8 @@ fn answer_alike(alloc: Global, seed: u64, calls: u32) -> Result<bool, Fault> {
     };
     let mut chooser = RngChooser::seeded(seed);
     for _call in 0..calls {
-        if !answers_alike(alloc, &mut leases, &mut slow, &mut chooser)? {
+        let alike = answers_alike(alloc, &mut leases, &mut slow, &mut chooser)?;
+        if !alike || leases.len() != slow.kept.len() {
             return Ok(false);
         }
     }
@@ -315,20 +316,29 @@ fn numbered(alloc: Global, count: u64) -> Result<Leases, Fault> {
     Ok(leases)
 }
 
-/// Whether these have expired of a thousand leases, and so many deadlines were read.
-fn are_expired_of_a_thousand(
+/// Whether these have expired of so many leases, and so many deadlines were read.
+fn are_expired_of(
     alloc: Global,
+    count: u64,
     ms: u64,
     wanted: &str,
     wanted_read: u64,
 ) -> Result<bool, Fault> {
-    let leases = numbered(alloc, 1_000)?;
+    let leases = numbered(alloc, count)?;
     let (keys, read) = leases.expired_counted(alloc, at(ms)?, 0)?;
     Ok(ids(alloc, &keys)?.as_str() == wanted && read == wanted_read)
 }
 
 #[test]
 fn few_deadlines_are_read(rt: HostRuntime) {
-    assert!(rt; are_expired_of_a_thousand(rt.alloc(), 10_003, " j0 j1 j2", 7) == Ok(true));
-    assert!(rt; are_expired_of_a_thousand(rt.alloc(), 10_000, "", 1) == Ok(true));
+    assert!(rt; are_expired_of(rt.alloc(), 1_000, 10_003, " j0 j1 j2", 7) == Ok(true));
+    assert!(rt; are_expired_of(rt.alloc(), 1_000, 10_000, "", 1) == Ok(true));
+}
+
+/// No deadline is read twice, and none that isn't there.
+#[test]
+fn as_many_deadlines_are_read_as_there_are(rt: HostRuntime) {
+    assert!(rt; are_expired_of(rt.alloc(), 0, 10_003, "", 0) == Ok(true));
+    assert!(rt; are_expired_of(rt.alloc(), 1, 10_003, " j0", 1) == Ok(true));
+    assert!(rt; are_expired_of(rt.alloc(), 4, 10_003, " j0 j1 j2", 4) == Ok(true));
 }

@@ -2,8 +2,9 @@
 ghost use Rattle.std.specs.Prelude.{◌≡◌};
 
 use crate::tests::asks::{close_for, drain, only};
+use crate::tests::passes::number;
 use crate::tests::reads::{Seen, see};
-use crate::tests::states::{are_two_idle, counts_only, is_same};
+use crate::tests::states::{are_eight_idle, counts_only, is_same};
 use eu_base::{Config, Fault};
 use eu_model::{Counts, Query, State};
 use eu_settle::Closed;
@@ -19,7 +20,7 @@ fn is_opening(state: &State, config: Config) -> bool {
         && state.expected == 7
         && state.leases.as_slice().is_empty()
         && counts_only(state, 0)
-        && are_two_idle(state.queues.as_slice())
+        && are_eight_idle(state.queues.as_slice())
 }
 
 /// Whether nothing was done from such an opening.
@@ -27,16 +28,18 @@ fn is_untouched(closed: &Closed, config: Config) -> bool {
     closed.entries.is_empty() && is_opening(&closed.base, config) && is_opening(&closed.end, config)
 }
 
-/// The counts at once, how the drains of peers 1 and 2 are answered, and whether the book is closed as it was opened.
+/// The counts at once, the number of a pass that is made then, how the drains of peers 7 and 8 are answered, and whether the book is
+/// closed as it was opened.
 #[derive(Clone, Copy)]
 struct Opening {
     counts: Result<Seen, Fault>,
+    next: u64,
     known: (u64, &'static str),
     unknown: (u64, &'static str),
     untouched: bool,
 }
 
-/// Opens a book without preservation that expects seven clients and has two peers.
+/// Opens a book without preservation that expects seven clients and has eight peers.
 fn open_for_peers<K: Label, R: Wait>(
     rt: &R,
     alloc: Global,
@@ -46,17 +49,19 @@ fn open_for_peers<K: Label, R: Wait>(
     requires parts { (blanks.steps.parts ≡ K.parts) × (blanks.counted.parts ≡ K.parts) × (blanks.added.parts ≡ K.parts) × (blanks.removed.parts ≡ K.parts) × (K.parts ≡ 1025) }
 {
     let config = Config::new(false, 50, 20, 1_000)?;
-    let shared: Shared<K> = Shared::open(alloc, config, 7, 2, blanks)?;
+    let shared: Shared<K> = Shared::open(alloc, config, 7, 8, blanks)?;
     let mut pass = shared.pass(rt, alloc)?;
     let counts = see(rt, &shared, alloc, &mut pass, Query::Counts);
-    let known = drain(rt, &shared, alloc, &mut pass, 1);
-    let unknown = drain(rt, &shared, alloc, &mut pass, 2);
+    let next = number(rt, &shared, alloc)?;
+    let known = drain(rt, &shared, alloc, &mut pass, 7);
+    let unknown = drain(rt, &shared, alloc, &mut pass, 8);
     let passes = only(alloc, pass)?;
     let closed = close_for(shared, alloc, passes)?;
     let untouched = is_untouched(&closed, config);
     drop(closed);
     Ok(Opening {
         counts,
+        next,
         known,
         unknown,
         untouched,
@@ -87,6 +92,7 @@ fn counts_seven(seen: Seen) -> bool {
 fn a_book_is_opened_as_it_is_told(rt: HostRuntime) -> Result<(), Fail> {
     let opening = opened(&rt, rt.alloc())?;
     assert!(rt; counts_seven(opening.counts?));
+    assert!(rt; opening.next == 1);
     assert!(rt; opening.known == (9, "refused") && opening.unknown == (15, "refused"));
     assert!(rt; opening.untouched);
     Ok(())

@@ -92,7 +92,7 @@ fn a_missing_pass_is_missed(rt: HostRuntime) -> Result<(), Fail> {
 }
 
 /// The number of a new pass.
-fn number<K: Label, R: Wait>(rt: &R, shared: &Shared<K>, alloc: Global) -> Result<u64, Fault> {
+pub fn number<K: Label, R: Wait>(rt: &R, shared: &Shared<K>, alloc: Global) -> Result<u64, Fault> {
     let pass = shared.pass(rt, alloc)?;
     let number = pass.number();
     drop(pass);

@@ -1,7 +1,7 @@
 //! What passes see through the lock.
 use crate::tests::asks::key;
-use eu_base::{Fault, Moment};
-use eu_model::{Counts, Listed, Listing, Query, View};
+use eu_base::{Fault, Moment, Status};
+use eu_model::{Counts, Listed, Listing, Query, Times, View};
 use eu_shared::{Label, Pass, Shared};
 use std::alloc::Global;
 use std::sync::Wait;
@@ -19,16 +19,27 @@ pub enum Seen {
     Other,
 }
 
-/// Whether it is the lease of that id of A, last updated then.
-fn is_lease(listed: &Listed, id: &str, updated: u64) -> bool {
-    let key = &listed.instance.key;
-    key.app.as_str() == "A" && key.id.as_str() == id && listed.times.updated == updated
+/// Whether it is the lease of that id of A, as it was registered then, up from then on, and last updated then.
+fn is_lease(listed: &Listed, id: &str, registered: u64, updated: u64) -> bool {
+    let instance = &listed.instance;
+    let is_of_key = instance.key.app.as_str() == "A" && instance.key.id.as_str() == id;
+    let is_as_told = instance.status == Status::Up
+        && instance.overridden == Status::Unknown
+        && instance.dirty == 0
+        && instance.secs == 90
+        && instance.interval == 30;
+    let Times {
+        registered: began,
+        updated: last,
+        up,
+    } = listed.times;
+    is_of_key && is_as_told && (began, last, up) == (registered, updated, registered)
 }
 
 /// Whether they are those of i1 and i2, as `play` leaves them.
 pub fn are_both(leases: &Listing) -> bool {
     match leases.as_slice() {
-        [one, two] => is_lease(one, "i1", 90_004) && is_lease(two, "i2", 90_006),
+        [one, two] => is_lease(one, "i1", 0, 90_004) && is_lease(two, "i2", 1, 90_006),
         _ => false,
     }
 }

@@ -22,10 +22,7 @@ fn is_idle(queue: &Queue) -> bool {
     queue.waiting.as_slice().is_empty() && queue.flight.as_slice().is_empty()
 }
 
-/// Whether nothing waits for two peers, and there are no others.
-pub fn are_two_idle(queues: &[Queue]) -> bool {
-    match queues {
-        [one, two] => is_idle(one) && is_idle(two),
-        _ => false,
-    }
+/// Whether nothing waits for eight peers, and there are no others.
+pub fn are_eight_idle(queues: &[Queue]) -> bool {
+    queues.len() == 8 && queues.iter().all(is_idle)
 }

@@ -25,6 +25,25 @@ impl Gate for Open {
     }
 }
 
+/// Whether a client registers the instance of that id of A at the moment 0.
+pub fn registers_as<K: Label, R: Wait>(
+    rt: &R,
+    shared: &Shared<K>,
+    alloc: Global,
+    pass: &mut Pass<K>,
+    id: &str,
+) -> bool {
+    let Some(moment) = Moment::new(0) else {
+        return false;
+    };
+    match registration(alloc, id) {
+        Ok(command) => pass
+            .ask(rt, shared, alloc, command, moment, &mut FirstChooser)
+            .is_ok(),
+        Err(_) => false,
+    }
+}
+
 /// Whether a client registers A/i1 at the moment 0.
 pub fn registers<K: Label, R: Wait>(
     rt: &R,
@@ -32,15 +51,7 @@ pub fn registers<K: Label, R: Wait>(
     alloc: Global,
     pass: &mut Pass<K>,
 ) -> bool {
-    let Some(moment) = Moment::new(0) else {
-        return false;
-    };
-    match registration(alloc, "i1") {
-        Ok(command) => pass
-            .ask(rt, shared, alloc, command, moment, &mut FirstChooser)
-            .is_ok(),
-        Err(_) => false,
-    }
+    registers_as(rt, shared, alloc, pass, "i1")
 }
 
 /// The leases that a view of counts tells.

@@ -1,7 +1,7 @@
 //! Two servers, each with its book behind a lock, of which each is the other's peer.
 ghost use Rattle.std.specs.Prelude.{◌≡◌};
 
-use crate::tests::replicas::registers;
+use crate::tests::replicas::registers_as;
 use eu_base::{Config, Fault, Moment};
 use eu_clock::ListClock;
 use eu_model::{Query, View};
@@ -58,7 +58,23 @@ fn held<K: Label, R: Wait>(rt: &R, shared: &Shared<K>, alloc: Global, pass: &mut
     }
 }
 
-/// A turn of the first server after a registration, one of the second, another of the first, and how many leases the second holds.
+/// Whether 250 clients register at the moment 0: as many as a batch has tasks.
+fn all_register<K: Label, R: Wait>(
+    rt: &R,
+    shared: &Shared<K>,
+    alloc: Global,
+    pass: &mut Pass<K>,
+) -> Result<bool, Fault> {
+    for number in 0..250 {
+        let id = format!(in alloc; "j{number}")?;
+        if !registers_as(rt, shared, alloc, pass, &id) {
+            return Ok(false);
+        }
+    }
+    Ok(true)
+}
+
+/// A turn of the first server after 250 registrations, one of the second, another of the first, and how many leases the second holds.
 type Findings = (Option<Turn>, Option<Turn>, Option<Turn>, u64);
 
 /// What comes of these turns between two servers.
@@ -80,7 +96,7 @@ fn meet<K: Label, L: Label, R: Wait>(
         desk,
         clock: clock(alloc),
     };
-    if !registers(rt, here, alloc, &mut mine.pass) {
+    if !all_register(rt, here, alloc, &mut mine.pass)? {
         return Err(Fault::OutOfMemory);
     }
     let sent = turn(alloc, &mut mine, &mut to_there);
@@ -115,10 +131,10 @@ fn met<R: Wait>(rt: &R, alloc: Global) -> Result<Findings, Fault> {
 #[test]
 fn two_servers_meet(rt: HostRuntime) -> Result<(), Fail> {
     let sent = Turn::Sent {
-        tasks: 1,
+        tasks: 250,
         adopted: 0,
     };
-    let wanted = (Some(sent), Some(Turn::Idle), Some(Turn::Idle), 1);
+    let wanted = (Some(sent), Some(Turn::Idle), Some(Turn::Idle), 250);
     assert!(rt; met(&rt, rt.alloc())? == wanted);
     Ok(())
 }

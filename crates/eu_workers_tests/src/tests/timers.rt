@@ -178,7 +178,7 @@ struct Left {
 }
 
 /// The number of the first entry of a log.
-fn begins<K: Label>(pass: &Pass<K>) -> Option<u64> {
+pub fn begins<K: Label>(pass: &Pass<K>) -> Option<u64> {
     match pass.log() {
         [] => None,
         [first, ..] => Some(first.number),

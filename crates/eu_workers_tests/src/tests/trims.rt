@@ -2,6 +2,7 @@
 ghost use Rattle.std.specs.Prelude.{◌≡◌};
 
 use crate::tests::replicas::{Open, registers, server};
+use crate::tests::timers::begins;
 use eu_base::{Config, Fault};
 use eu_clock::{FirstChooser, ListClock};
 use eu_routes::Routes;
@@ -21,14 +22,6 @@ struct Left {
     is_trimmed: bool,
 }
 
-/// The number of the first entry of a log.
-fn first_number<K: Label>(pass: &Pass<K>) -> Option<u64> {
-    match pass.log() {
-        [] => None,
-        [first, ..] => Some(first.number),
-    }
-}
-
 /// A pass by which A/i1 was registered, and by which the journal began anew then; and the number of the registration's entry.
 fn stale<K: Label, R: Wait>(site: &Site<'_, K, R, Open>) -> Result<(Pass<K>, u64), Fault> {
     let mut pass = site.shared.pass(site.rt, site.alloc)?;
@@ -36,7 +29,7 @@ fn stale<K: Label, R: Wait>(site: &Site<'_, K, R, Open>) -> Result<(Pass<K>, u64
         return Err(Fault::OutOfMemory);
     }
     pass.checkpoint(site.rt, site.shared, site.alloc)?;
-    match first_number(&pass) {
+    match begins(&pass) {
         Some(number) => Ok((pass, number)),
         None => Err(Fault::OutOfMemory),
     }
@@ -45,7 +38,7 @@ fn stale<K: Label, R: Wait>(site: &Site<'_, K, R, Open>) -> Result<(Pass<K>, u64
 /// What is left in the log of a pass, where the entry of that number was made before the turn.
 fn what_is_left<K: Label>(pass: Pass<K>, before: u64) -> Left {
     let logged = pass.log().len();
-    let is_trimmed = match first_number(&pass) {
+    let is_trimmed = match begins(&pass) {
         Some(number) => number > before,
         None => true,
     };
@@ -57,19 +50,30 @@ fn clock(alloc: Global) -> ListClock {
     ListClock::new(Vec::new(alloc))
 }
 
-/// One connection, by which A/i1 is renewed.
+/// Connections, so many, by each of which A/i1 is renewed, and before each of which the journal begins anew.
 #[derive(Drop)]
-struct Renewing {
-    connection: Option<(&'static [u8], Vec<u8>)>,
+struct Renewing<'a, K: Label, R: Wait> {
+    rt: &'a R,
+    shared: &'a Shared<K>,
+    alloc: Global,
+    other: Pass<K>,
+    left: u32,
 }
 
-impl Source for Renewing {
+impl<K: Label, R: Wait> Source for Renewing<'_, K, R> {
     type Reader = &'static [u8];
 
     type Writer = Vec<u8>;
 
     fn next(&mut self) -> Option<(&'static [u8], Vec<u8>)> {
-        self.connection.take()
+        if self.left == 0 {
+            return None;
+        }
+        self.left -= 1;
+        self.other
+            .checkpoint(self.rt, self.shared, self.alloc)
+            .ok()?;
+        Some((RENEWAL.as_bytes(), Vec::new(self.alloc)))
     }
 
     fn end(&mut self, _reader: &'static [u8], _writer: Vec<u8>) {}
@@ -77,13 +81,17 @@ impl Source for Renewing {
 
 const RENEWAL: &str = "PUT /eureka/apps/A/i1 HTTP/1.1\r\nHost: x\r\n\r\n";
 
-/// What a session leaves.
-fn after_session<K: Label, R: Wait>(site: &Site<'_, K, R, Open>) -> Result<Left, Fault> {
+/// What three sessions leave.
+fn after_sessions<K: Label, R: Wait>(site: &Site<'_, K, R, Open>) -> Result<Left, Fault> {
     let (pass, before) = stale(site)?;
     let mut source = Renewing {
-        connection: Some((RENEWAL.as_bytes(), Vec::new(site.alloc))),
+        rt: site.rt,
+        shared: site.shared,
+        alloc: site.alloc,
+        other: site.shared.pass(site.rt, site.alloc)?,
+        left: 3,
     };
-    let (pass, _) = run_sessions(site, 1, pass, &mut source, &mut clock(site.alloc), 1);
+    let (pass, _) = run_sessions(site, 1, pass, &mut source, &mut clock(site.alloc), 4);
     Ok(what_is_left(pass, before))
 }
 
@@ -134,7 +142,7 @@ fn work_at<K: Label, R: Wait>(
     config: Config,
 ) -> Result<Leaving, Fault> {
     Ok(Leaving {
-        sessions: after_session(site)?,
+        sessions: after_sessions(site)?,
         evictor: after_eviction(site)?,
         bucket: after_roll(site)?,
         threshold: after_update(site)?,

@@ -4,13 +4,25 @@ use std::alloc::{Alloc, Allocator, Global};
 use std::env::FillError;
 use std::fmt::Display;
 use std::io::{BufRead, Error, ErrorKind, Lines, Read, Write};
-use std::net::{Net, SocketAddr, TcpListener, TcpStream};
+use std::net::{Ipv4Addr, Net, SocketAddr, TcpListener, TcpStream};
 use std::rt::Env;
 use std::sync::{Mutex, Wait};
 use std::test::Fail;
 use std::thread::Threads;
-use std::time::{Clock, Duration};
-use std::{io, thread};
+use std::time::{Clock, Duration, Instant};
+use std::{io, str, thread};
+
+/// What doesn't work at a machine.
+#[derive(Clone, Copy, PartialEq, Eq)]
+enum Broken {
+    Nothing,
+    /// Its words aren't UTF-8.
+    Words,
+    /// No connection can be accepted.
+    Accept,
+    /// Standard output takes no bytes.
+    Output,
+}
 
 /// A machine with such words and such an input; what is written to it is kept.
 #[derive(Drop)]
@@ -21,6 +33,7 @@ struct Machine<'a, R> {
     input: &'static [u8],
     out: Mutex<Vec<u8>>,
     err: Mutex<Vec<u8>>,
+    broken: Broken,
 }
 
 /// Writes a text behind what is kept.
@@ -58,7 +71,9 @@ impl<R: Net<Listener = TcpListener, Stream = TcpStream>> Net for Machine<'_, R> 
     type Listener = TcpListener;
 
     fn bind(&self, address: SocketAddr) -> io::Result<TcpListener> {
-        self.rt.bind(address)
+        let listener = self.rt.bind(address)?;
+        listener.set_nonblocking(self.broken == Broken::Accept)?;
+        Ok(listener)
     }
 
     fn connect(&self, address: SocketAddr) -> io::Result<TcpStream> {
@@ -71,7 +86,10 @@ impl<R> Env for Machine<'_, R> {
         let Some(word) = self.words.get(i) else {
             return Err(FillError::NotPresent);
         };
-        let bytes = word.as_bytes();
+        let bytes = match self.broken {
+            Broken::Words => b"\xff".as_slice(),
+            _ => word.as_bytes(),
+        };
         if bytes.len() > buf.len() {
             return Err(FillError::TooLong);
         }
@@ -115,6 +133,9 @@ impl<R: Wait> Print for Machine<'_, R> {
     }
 
     fn write_all(&self, bytes: &[u8]) -> io::Result<()> {
+        if self.broken == Broken::Output {
+            return Err(Error::from(ErrorKind::BrokenPipe));
+        }
         self.out.lock(self.rt).write_all(bytes)
     }
 }
@@ -138,22 +159,27 @@ struct Ran {
     err: Vec<u8>,
 }
 
-/// Runs the program.
-fn run<R: Threads + Wait + Clock + Net<Listener = TcpListener, Stream = TcpStream> + Sync>(
-    rt: &R,
+/// A machine with such words and such an input.
+fn prepared<'a, R>(
+    rt: &'a R,
     alloc: Global,
-    words: &[&str],
+    words: &'a [&'a str],
     input: &'static str,
-) -> Ran {
-    let machine = Machine {
+    broken: Broken,
+) -> Machine<'a, R> {
+    Machine {
         rt,
         alloc,
         words,
         input: input.as_bytes(),
         out: Mutex::new(Vec::new(alloc)),
         err: Mutex::new(Vec::new(alloc)),
-    };
-    let status = start(&machine);
+        broken,
+    }
+}
+
+/// What a machine has kept, once a run on it has ended.
+fn kept_by<R>(machine: Machine<'_, R>, status: u8) -> Ran {
     let Machine {
         rt: _,
         alloc: _,
@@ -161,12 +187,36 @@ fn run<R: Threads + Wait + Clock + Net<Listener = TcpListener, Stream = TcpStrea
         input: _,
         out,
         err,
+        broken: _,
     } = machine;
     Ran {
         status,
         out: out.into_inner(),
         err: err.into_inner(),
     }
+}
+
+/// Runs the program where something is broken.
+fn run_broken<R: Threads + Wait + Clock + Net<Listener = TcpListener, Stream = TcpStream> + Sync>(
+    rt: &R,
+    alloc: Global,
+    words: &[&str],
+    input: &'static str,
+    broken: Broken,
+) -> Ran {
+    let machine = prepared(rt, alloc, words, input, broken);
+    let status = start(&machine);
+    kept_by(machine, status)
+}
+
+/// Runs the program.
+fn run<R: Threads + Wait + Clock + Net<Listener = TcpListener, Stream = TcpStream> + Sync>(
+    rt: &R,
+    alloc: Global,
+    words: &[&str],
+    input: &'static str,
+) -> Ran {
+    run_broken(rt, alloc, words, input, Broken::Nothing)
 }
 
 /// Four leases that have expired, a pass, and the status page.
@@ -243,6 +293,46 @@ fn words_that_are_refused_are_told_on_standard_error(rt: HostRuntime) {
 }
 
 #[test]
+fn words_that_are_no_text_are_refused(rt: HostRuntime) {
+    let words = ["eureka", "script"];
+    let ran = run_broken(&rt, rt.alloc(), words.as_slice(), "open 1\n", Broken::Words);
+    assert!(rt; ran.status == 2);
+    assert!(rt; ran.out.is_empty());
+    assert!(rt; !ran.err.is_empty());
+}
+
+#[test]
+fn output_that_is_not_taken_is_told_by_its_fault(rt: HostRuntime) {
+    let words = ["eureka", "script"];
+    let ran = run_broken(
+        &rt,
+        rt.alloc(),
+        words.as_slice(),
+        "open 1\n",
+        Broken::Output,
+    );
+    assert!(rt; ran.status == 3);
+    assert!(rt; ran.err.as_slice() == b"fault 41\n".as_slice());
+}
+
+#[test]
+fn served_that_is_not_taken_is_told_by_its_fault(rt: HostRuntime) {
+    let words = ["eureka", "serve", "--port", "0", "--sessions", "0"];
+    let ran = run_broken(&rt, rt.alloc(), words.as_slice(), "", Broken::Output);
+    assert!(rt; ran.status == 3);
+    assert!(rt; ran.err.ends_with(b"\nfault 41\n"));
+}
+
+#[test]
+fn connections_that_are_not_accepted_are_told_by_their_fault(rt: HostRuntime) {
+    let words = ["eureka", "serve", "--port", "0", "--sessions", "1"];
+    let ran = run_broken(&rt, rt.alloc(), words.as_slice(), "", Broken::Accept);
+    assert!(rt; ran.status == 3);
+    assert!(rt; ran.out.is_empty());
+    assert!(rt; ran.err.ends_with(b"\nfault 40\n"));
+}
+
+#[test]
 fn help_is_told_on_standard_output(rt: HostRuntime) {
     let words = ["eureka", "--help"];
     let ran = run(&rt, rt.alloc(), words.as_slice(), "");
@@ -257,9 +347,10 @@ fn a_port_that_is_taken_is_told_by_its_fault(rt: HostRuntime) -> Result<(), Fail
     let port = format!(in rt.alloc(); "{}", taken.local_addr()?.port())?;
     let words = ["eureka", "serve", "--port", &port, "--sessions", "0"];
     let ran = run(&rt, rt.alloc(), words.as_slice(), "");
+    let told = format!(in rt.alloc(); "127.0.0.1:{port}: ")?;
     assert!(rt; ran.status == 3);
     assert!(rt; ran.out.is_empty());
-    assert!(rt; ran.err.ends_with(b"\nfault 40\n"));
+    assert!(rt; ran.err.starts_with(told.as_bytes()) && ran.err.ends_with(b"\nfault 40\n"));
     Ok(())
 }
 
@@ -284,18 +375,24 @@ fn connect<R: Net<Stream = TcpStream> + Clock>(
     TcpStream::connect(rt, address)
 }
 
+/// What a client reads of its connection that sends a request.
+fn answered(alloc: Global, stream: TcpStream, request: &str) -> io::Result<Vec<u8>> {
+    let mut stream = stream;
+    stream.set_read_timeout(Some(Duration::from_secs(20)))?;
+    stream.write_all(request.as_bytes())?;
+    let mut answer = Vec::new(alloc);
+    stream.read_to_end(&mut answer)?;
+    Ok(answer)
+}
+
 /// What a client reads that asks for the status page.
 fn look<R: Net<Stream = TcpStream> + Clock>(
     rt: &R,
     alloc: Global,
     address: SocketAddr,
 ) -> io::Result<Vec<u8>> {
-    let mut stream = connect(rt, address)?;
-    stream.set_read_timeout(Some(Duration::from_secs(20)))?;
-    stream.write_all(LOOK.as_bytes())?;
-    let mut answer = Vec::new(alloc);
-    stream.read_to_end(&mut answer)?;
-    Ok(answer)
+    let stream = connect(rt, address)?;
+    answered(alloc, stream, LOOK)
 }
 
 /// A run of a server for one client, and what that reads.
@@ -341,5 +438,133 @@ fn a_server_goes_by_its_options(rt: HostRuntime) -> Result<(), Fail> {
     assert!(rt; ran.out.as_slice() == b"served 1\n".as_slice());
     let told = format!(in alloc; "listening on 127.0.0.1:{port}\n")?;
     assert!(rt; ran.err.as_slice() == told.as_bytes());
+    Ok(())
+}
+
+/// The port of the line that a server writes once it listens.
+fn port_of(told: &[u8]) -> Option<u16> {
+    let line = str::from_utf8(told).ok()?;
+    let port = line.strip_prefix("listening on 127.0.0.1:")?;
+    port.strip_suffix("\n")?.parse().ok()
+}
+
+/// The address at which a machine's server tells to listen, once it does.
+fn address_told<R: Wait + Clock>(machine: &Machine<'_, R>) -> io::Result<SocketAddr> {
+    for _turn in 0..1_000 {
+        if let Some(port) = port_of(&machine.err.lock(machine.rt)) {
+            return Ok(SocketAddr::from((Ipv4Addr::LOCALHOST, port)));
+        }
+        thread::sleep(machine.rt, Duration::from_millis(10));
+    }
+    Err(Error::from(ErrorKind::TimedOut))
+}
+
+/// Whether a new client that sends a request is answered at once, by an answer of that status.
+fn is_told<R: Net<Stream = TcpStream> + Clock>(
+    rt: &R,
+    alloc: Global,
+    address: SocketAddr,
+    request: &str,
+    status: &str,
+) -> io::Result<bool> {
+    let began = Instant::now(rt)?;
+    let stream = TcpStream::connect(rt, address)?;
+    let answer = answered(alloc, stream, request)?;
+    let soon = began.elapsed(rt)? < Duration::from_secs(5);
+    Ok(soon && answer.starts_with(status.as_bytes()))
+}
+
+/// Whether a client registers for a second.
+fn is_registered<R: Net<Stream = TcpStream> + Clock>(
+    rt: &R,
+    alloc: Global,
+    address: SocketAddr,
+    id: &str,
+) -> io::Result<bool> {
+    let body = format!(in alloc;
+        "{{\"instance\":{{\"instanceId\":\"{id}\",\"hostName\":\"h\",\"app\":\"a\",\"ipAddr\":\"10.0.0.1\",\"status\":\"UP\",\"lastDirtyTimestamp\":\"5\",\"dataCenterInfo\":{{\"name\":\"MyOwn\"}},\"leaseInfo\":{{\"durationInSecs\":1}}}}}}"
+    )?;
+    let length = body.len();
+    let request = format!(in alloc;
+        "POST /eureka/apps/a HTTP/1.1\r\nHost: x\r\nConnection: close\r\nContent-Length: {length}\r\n\r\n{body}"
+    )?;
+    is_told(rt, alloc, address, &request, "HTTP/1.1 204 ")
+}
+
+/// Whether nothing of that id is held.
+fn is_gone<R: Net<Stream = TcpStream> + Clock>(
+    rt: &R,
+    alloc: Global,
+    address: SocketAddr,
+    id: &str,
+) -> io::Result<bool> {
+    let request = format!(in alloc;
+        "GET /eureka/apps/A/{id} HTTP/1.1\r\nHost: x\r\nConnection: close\r\n\r\n"
+    )?;
+    is_told(rt, alloc, address, &request, "HTTP/1.1 404 ")
+}
+
+/// The page of that server, where two of four leases have gone.
+const TWO_LEFT: &str =
+    "HTTP/1.1 200 OK\r\nContent-Type: text/plain; charset=utf-8\r\nContent-Length: 85\r\nConnection: close\r\n\r\nheld 2\nexpected 11\nthreshold 16\nlast 0\npreservation off\npermitted yes\nstatuses UP_2_\n";
+
+/// What clients of a server see, while one keeps a worker: whether four register, and six seconds later two of them are gone, those that
+/// the words of the seed 3 draw; and then the first one is answered.
+fn visit<R: Wait + Clock + Net<Stream = TcpStream>>(machine: &Machine<'_, R>) -> io::Result<bool> {
+    let (rt, alloc) = (machine.rt, machine.alloc);
+    let address = address_told(machine)?;
+    let silent = TcpStream::connect(rt, address)?;
+    let mut as_told = true;
+    for id in ["i0", "i1", "i2", "i3"] {
+        as_told = is_registered(rt, alloc, address, id)? && as_told;
+    }
+    thread::sleep(rt, Duration::from_millis(6_000));
+    for id in ["i1", "i3"] {
+        as_told = is_gone(rt, alloc, address, id)? && as_told;
+    }
+    let page = answered(alloc, silent, LOOK)?;
+    Ok(as_told && page.as_slice() == TWO_LEFT.as_bytes())
+}
+
+/// The words of a server of seven sessions, two at once, which evicts after four seconds, by the words of the seed 3.
+const SERVE: [&str; 20] = [
+    "eureka",
+    "serve",
+    "--port",
+    "0",
+    "--sessions",
+    "7",
+    "--workers",
+    "2",
+    "--expected",
+    "7",
+    "--preservation",
+    "off",
+    "--percent",
+    "50",
+    "--interval",
+    "20",
+    "--evict-ms",
+    "4000",
+    "--seed",
+    "3",
+];
+
+/// A run of that server, and whether its clients see what they are to.
+fn run_visited<R: Threads + Wait + Clock + Net<Listener = TcpListener, Stream = TcpStream> + Sync>(
+    rt: &R,
+    alloc: Global,
+) -> (Ran, io::Result<bool>) {
+    let machine = prepared(rt, alloc, SERVE.as_slice(), "", Broken::Nothing);
+    let (status, seen) = thread::join(rt, || start(&machine), || visit(&machine));
+    (kept_by(machine, status), seen)
+}
+
+#[test]
+fn a_server_evicts_by_its_seed(rt: HostRuntime) -> Result<(), Fail> {
+    let (ran, seen) = run_visited(&rt, rt.alloc());
+    assert!(rt; seen?);
+    assert!(rt; ran.status == 0);
+    assert!(rt; ran.out.as_slice() == b"served 7\n".as_slice());
     Ok(())
 }

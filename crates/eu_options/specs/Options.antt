@@ -7,7 +7,7 @@ use Rattle.clap.specs.declared.parser.matches.ArgMatches.{ArgMatches}
 use Rattle.clap.specs.declared.builder.value_parser.ValueParser.{ValueParser}
 use Rattle.clap.specs.declared.builder.value_parser.ValueParser.TheVariants.{Names, Signed, Unsigned}
 use Rattle.eu_base.specs.declared.settings.Config.{Config}
-use Rattle.eureka.specs.declared.serving.Serving.{Serving}
+use Rattle.eu_options.specs.declared.serving.Serving.{Serving}
 
 -- ---- the command line
 

@@ -2,7 +2,7 @@
 use Rattle.std.proofs.Common.{rules, ap, ap₂, codes, true, ◌≡◌, ◌∙◌}
 use Rattle.std.proofs.lemmas.Result.{IfOk-weaker}
 use Rattle.clap.specs.Words.{App, app_of, new_app, with_subcommand}
-use Rattle.eureka.proofs.options.command.Goals as goal
+use Rattle.eu_options.proofs.options.command.Goals as goal
 
 pub returns : goal.returns
 returns c =

@@ -1,6 +1,6 @@
 -- Where an option has no number, no settings hold what the options give
 use Rattle.std.proofs.Common.{rules, arith}
-use Rattle.eureka.proofs.options.config_of.Goals as goal
+use Rattle.eu_options.proofs.options.config_of.Goals as goal
 
 pub returns-in_err-percent-clause-none : goal.returns-in_err-percent-clause-none
 returns-in_err-percent-clause-none c = λ d _ h.

@@ -3,8 +3,8 @@ use Rattle.std.proofs.Common.{refl, ap₂, codes, pos, ◌≡◌, ◌∙◌, ◌
 use Rattle.std.proofs.lemmas.Result.{IfOk-weaker}
 use Rattle.clap.specs.Words.{rule_of, with_rule}
 use Rattle.clap.specs.declared.builder.value_parser.ValueParser.TheVariants.{Signed}
-use Rattle.eureka.specs.Options.{needed_rule, option_rule}
-use Rattle.eureka.proofs.options.with_server.Goals as goal
+use Rattle.eu_options.specs.Options.{needed_rule, option_rule}
+use Rattle.eu_options.proofs.options.with_server.Goals as goal
 
 pub returns-clause-app : goal.returns-clause-app
 returns-clause-app c =

@@ -1,6 +1,6 @@
 -- Where an option has no number, no server is what the options give
 use Rattle.std.proofs.Common.{rules, arith}
-use Rattle.eureka.proofs.options.serving_of.Goals as goal
+use Rattle.eu_options.proofs.options.serving_of.Goals as goal
 
 pub returns-in_err-port-clause-none : goal.returns-in_err-port-clause-none
 returns-in_err-port-clause-none c = λ s small _ _ h.

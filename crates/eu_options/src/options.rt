@@ -2,14 +2,14 @@
 ghost use Rattle.std.specs.Prelude.{ℕ, ◌≡◌, ◌≤◌, ◌<◌, ◌^◌, false, codes, IfOk, IfSome, IsSome};
 ghost use Rattle.clap.specs.Words.{rule_of, app_of, new_app};
 ghost use Rattle.clap.specs.declared.builder.command.Command.TheViews.{out-Command};
-ghost use Rattle.eureka.specs.declared.serving.Serving.{Serving};
-ghost use Rattle.eureka.specs.Options.{option_rule, needed_rule, with_options, with_server_options, seed_rule, program_app, IsSwitchParser, IsNumber, IsConfig, IsServing};
+ghost use Rattle.eu_options.specs.declared.serving.Serving.{Serving};
+ghost use Rattle.eu_options.specs.Options.{option_rule, needed_rule, with_options, with_server_options, seed_rule, program_app, IsSwitchParser, IsNumber, IsConfig, IsServing};
 
 use crate::serving::Serving;
 use clap::builder::ValueParser;
 use clap::{Arg, ArgMatches, Command, value_parser};
 use eu_base::Config;
-use eu_serve::MOST_WORKERS;
+use eu_gate::MOST_WORKERS;
 use std::alloc::{AllocError, Global};
 
 /// The words of an option that is on or off.

@@ -1,6 +1,6 @@
 #!/usr/bin/env bash
 # Times the leases by themselves: renewals of drawn leases, and passes that look for the expired ones, each less the time in which the leases
-# are put. Prints nanoseconds of processor time for each. BEFORE may name another build of the program, to be timed in turn.
+# are put. Prints nanoseconds of processor time for each. BEFORE may name another build of the program, which is timed in turn with it.
 set -euo pipefail
 top=$(cd "$(dirname "${BASH_SOURCE[0]}")/.." && pwd)
 cd "$top/crates/eu_store_bench"
@@ -12,25 +12,28 @@ timed() {
     { time "$@" > /dev/null; } 2>&1 | awk '{ print $1 + $2 }'
 }
 
-# one turn of a task, by a program, five times: each time of so many turns that they take half a second, since times come in milliseconds
+programs=("$PWD/out/eu_store_bench" ${BEFORE:+"$BEFORE"})
+
+# one turn of a task, by each program in turn, eleven times: so many turns that they take half a second, since times come in milliseconds.
+# Prints of each program the median, the least and the most
 each() {
-    local program=$1 turns=1
-    shift
-    while awk -v all="$(timed "$program" "$@" "$turns")" -v none="$(timed "$program" "$@" 0)" 'BEGIN { exit all - none > 0.5 }'; do
+    local turns=1
+    while awk -v all="$(timed "${programs[0]}" "$@" "$turns")" -v none="$(timed "${programs[0]}" "$@" 0)" 'BEGIN { exit all - none > 0.5 }'; do
         turns=$((turns * 8))
     done
-    for _ in 1 2 3 4 5; do
-        echo "$(timed "$program" "$@" "$turns") $(timed "$program" "$@" 0)"
-    done | awk -v turns="$turns" '{ printf " %.1f", ($1 - $2) / turns * 1e9 } END { print " ns" }'
+    for _ in {1..11}; do
+        for place in "${!programs[@]}"; do
+            echo "$place $(timed "${programs[place]}" "$@" "$turns") $(timed "${programs[place]}" "$@" 0)"
+        done
+    done | awk -v turns="$turns" '{ print $1, ($2 - $3) / turns * 1e9 }' | sort -k1,1n -k2,2n |
+        awk '{ all[$1, ++count[$1]] = $2 }
+            END { for (place = 0; place in count; place++) printf "%s %.1f ns (%.1f to %.1f)", place ? ", before" : "", all[place, 6], all[place, 1], all[place, 11]; print "" }'
 }
 
-for program in "$PWD/out/eu_store_bench" ${BEFORE:+"$BEFORE"}; do
-    echo "$program"
-    for count in 50 1000 10000 60000; do
-        echo "renewal of one of $count:$(each "$program" renew "$count")"
-    done
-    for task in "1000 0" "60000 0" "60000 10" "60000 100" "60000 1000" "60000 10000" "60000 60000"; do
-        read -r count expired <<< "$task"
-        echo "pass over $count, of which $expired have expired:$(each "$program" pass "$count" "$expired")"
-    done
+for count in 50 1000 10000 60000; do
+    echo "renewal of one of $count:$(each renew "$count")"
+done
+for task in "1000 0" "60000 0" "60000 10" "60000 100" "60000 1000" "60000 10000" "60000 60000"; do
+    read -r count expired <<< "$task"
+    echo "pass over $count, of which $expired have expired:$(each pass "$count" "$expired")"
 done

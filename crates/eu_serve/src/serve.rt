@@ -1,5 +1,5 @@
 //! A server.
-ghost use Rattle.std.specs.Prelude.{◌≡◌, ◌≤◌, ◌<◌, ◌⊎◌, ℕ, Err, IfOk, IfErr, OnOk};
+ghost use Rattle.std.specs.Prelude.{◌≡◌, ◌≤◌, ◌<◌, ◌⊎◌, ℕ, Ok, Err, IfOk, IfErr, OnOk};
 ghost use Rattle.std.specs.Io.KnownBytes.{Appends};
 ghost use Rattle.eu_serve.specs.Served.{served_text};
 ghost use Rattle.eu_serve.specs.Unlimited.{IsUnlimited};
@@ -141,10 +141,11 @@ fn work_all<'a, K: Label + Send + Sync, R: Threads + Wait + Clock + Sync, H: Cho
     Ok((passes, served))
 }
 
-/// Judges a book that was to be closed: the fault of the close where it wasn't, `Mismatch` where a worker didn't log its part of it.
-fn judge<K: Label>(closed: Result<Closed, Unclosed<K>>) -> Result<(), Fault>
+/// Gives a book back that was closed and is settled: the fault of the close where it wasn't closed, `Mismatch` where a worker didn't
+/// log its part of it.
+fn judge<K: Label>(closed: Result<Closed, Unclosed<K>>) -> Result<Closed, Fault>
     ensures unclosed { IfErr closed (λ u. result ≡ Err u.fault) }
-    ensures settled { IfOk closed (λ c. OnOk result (IsSettled c.first c.logs.items c.entries.items)) }
+    ensures settled { IfOk result (λ c. (closed ≡ Ok c) × IsSettled c.first c.logs.items c.entries.items) }
     ensures mismatch { IfOk closed (λ c. IfErr result (λ f. (f ≡ Fault.Mismatch) × ((m : Mismatch) × IsMismatch c.first c.logs.items c.entries.items m.pass m.place))) }
 {
     let closed = match closed {
@@ -152,12 +153,21 @@ fn judge<K: Label>(closed: Result<Closed, Unclosed<K>>) -> Result<(), Fault>
         Err(unclosed) => return Err(unclosed.fault),
     };
     match settle(&closed) {
-        Ok(()) => Ok(()),
+        Ok(()) => Ok(closed),
         Err(_) => Err(Fault::Mismatch),
     }
 }
 
-/// Opens a book, serves it, closes it and settles it. Tells how many connections were served.
+/// What a server did that came to a good end.
+#[derive(Drop)]
+struct Outcome {
+    /// How many connections were served.
+    served: u64,
+    /// The book, closed and settled.
+    closed: Closed,
+}
+
+/// Opens a book, serves it, closes it and settles it.
 fn serve_book<K: Label + Send + Sync, R: Threads + Wait + Clock + Sync, H: Chooser + Send + Drop>(
     rt: &R,
     alloc: Global,
@@ -165,9 +175,10 @@ fn serve_book<K: Label + Send + Sync, R: Threads + Wait + Clock + Sync, H: Choos
     plan: &Plan,
     chooser: H,
     blanks: Blanks,
-) -> Result<u64, Fault>
+) -> Result<Outcome, Fault>
     requires names { (blanks.steps.name ≡ K.steps) × (blanks.counted.name ≡ K.counted) × (blanks.added.name ≡ K.added) × (blanks.removed.name ≡ K.removed) }
     requires parts { (blanks.steps.parts ≡ K.parts) × (blanks.counted.parts ≡ K.parts) × (blanks.added.parts ≡ K.parts) × (blanks.removed.parts ≡ K.parts) × (K.parts ≡ 1025) }
+    ensures settled { IfOk result (λ o. IsSettled o.closed.first o.closed.logs.items o.closed.entries.items) }
 {
     let shared: Shared<K> = Shared::open(alloc, plan.config, plan.expected, 0, blanks)?;
     let entrance = Entrance::new(plan.sessions, plan.workers);
@@ -175,11 +186,11 @@ fn serve_book<K: Label + Send + Sync, R: Threads + Wait + Clock + Sync, H: Choos
         return Err(Fault::Read);
     };
     let (passes, served) = work_all(rt, alloc, &shared, &hall, plan.workers, chooser)?;
-    judge(close(shared, alloc, passes))?;
+    let closed = judge(close(shared, alloc, passes))?;
     if hall.has_failed() {
         return Err(Fault::Read);
     }
-    Ok(served)
+    Ok(Outcome { served, closed })
 }
 
 /// Writes how many connections were served. `Write` where that fails.
@@ -205,8 +216,8 @@ pub(crate) fn serve<R: Threads + Wait + Clock + Sync, H: Chooser + Send + Drop, 
     ensures told { OnOk result ((n : ℕ) × Appends (W.contents writer.old) (W.contents writer.new) (served_text n)) }
     ensures untold { IfErr result (λ f. (f ≡ Fault.Write) ⊎ (writer.new ≡ writer.old)) }
 {
-    let served = serve_book::<Brand, R, H>(rt, alloc, listener, plan, chooser, Blanks::new())?;
-    tell(writer, served)
+    let outcome = serve_book::<Brand, R, H>(rt, alloc, listener, plan, chooser, Blanks::new())?;
+    tell(writer, outcome.served)
 }
 
 /// Serves so many connections of a listener, by so many workers, and then writes `served N`, N being how many there were.

@@ -100,6 +100,19 @@ fn listen<R: Net<Listener = TcpListener, Stream = TcpStream>>(
     Ok((listener, address))
 }
 
+/// What a server by a plan writes, and what a client gets that runs beside it.
+fn beside<R: Threads + Wait + Clock + Sync, T: Send + Drop, F: FnOnce() -> T + Send + Drop>(
+    rt: &R,
+    alloc: Global,
+    listener: &TcpListener,
+    plan: &Plan,
+    client: F,
+) -> (Result<Vec<u8>, Fault>, T)
+    requires { F.IsAlwaysCallable client }
+{
+    thread::join(rt, || written(rt, alloc, listener, plan), client)
+}
+
 /// What a server of two sessions writes, and whether two clients at once read what they are to.
 fn serve_two<R: Threads + Wait + Clock + Sync + Net<Listener = TcpListener, Stream = TcpStream>>(
     rt: &R,
@@ -144,25 +157,14 @@ fn is_answered_among_silent<R: Net<Stream = TcpStream>>(
     Ok(is_answered(rt, alloc, address, REGISTRATION, REGISTERED))
 }
 
-fn serve_three<R: Threads + Wait + Clock + Sync + Net<Listener = TcpListener, Stream = TcpStream>>(
-    rt: &R,
-    alloc: Global,
-    listener: &TcpListener,
-    address: SocketAddr,
-    plan: &Plan,
-) -> (Result<Vec<u8>, Fault>, io::Result<bool>) {
-    thread::join(
-        rt,
-        || written(rt, alloc, listener, plan),
-        || is_answered_among_silent(rt, alloc, address),
-    )
-}
-
 #[test]
 fn silent_clients_are_given_up(rt: HostRuntime) -> Result<(), Fail> {
     let (listener, address) = listen(&rt)?;
     let plan = plan(3, 100)?;
-    let (out, answered) = serve_three(&rt, rt.alloc(), &listener, address, &plan);
+    let (alloc, machine) = (rt.alloc(), &rt);
+    let (out, answered) = beside(machine, alloc, &listener, &plan, move || {
+        is_answered_among_silent(machine, alloc, address)
+    });
     assert!(rt; answered?);
     assert!(rt; out?.as_slice() == b"served 3\n".as_slice());
     Ok(())
@@ -247,29 +249,15 @@ fn are_all_answered<R: Net<Stream = TcpStream>>(
     true
 }
 
-/// What a server by a plan writes, and whether 1,100 clients are answered.
-fn serve_on_and_on<
-    R: Threads + Wait + Clock + Sync + Net<Listener = TcpListener, Stream = TcpStream>,
->(
-    rt: &R,
-    alloc: Global,
-    listener: &TcpListener,
-    address: SocketAddr,
-    plan: &Plan,
-) -> (Result<Vec<u8>, Fault>, bool) {
-    thread::join(
-        rt,
-        || written(rt, alloc, listener, plan),
-        || are_all_answered(rt, alloc, address),
-    )
-}
-
 #[test]
 fn one_worker_serves_on(rt: HostRuntime) -> Result<(), Fail> {
     let (listener, address) = listen(&rt)?;
     let mut plan = plan(1_100, 10_000)?;
     plan.workers = 1;
-    let (out, answered) = serve_on_and_on(&rt, rt.alloc(), &listener, address, &plan);
+    let (alloc, machine) = (rt.alloc(), &rt);
+    let (out, answered) = beside(machine, alloc, &listener, &plan, move || {
+        are_all_answered(machine, alloc, address)
+    });
     assert!(rt; answered);
     assert!(rt; out?.as_slice() == b"served 1100\n".as_slice());
     Ok(())
@@ -374,23 +362,6 @@ fn is_evicted<R: Net<Stream = TcpStream> + Clock>(
     Ok(registered && renewed && is_answered_on(alloc, last, LOOK, EVICTED))
 }
 
-/// What a server by a plan writes, and whether a client is evicted by its timers.
-fn serve_and_evict<
-    R: Threads + Wait + Clock + Sync + Net<Listener = TcpListener, Stream = TcpStream>,
->(
-    rt: &R,
-    alloc: Global,
-    listener: &TcpListener,
-    address: SocketAddr,
-    plan: &Plan,
-) -> (Result<Vec<u8>, Fault>, io::Result<bool>) {
-    thread::join(
-        rt,
-        || written(rt, alloc, listener, plan),
-        || is_evicted(rt, alloc, address),
-    )
-}
-
 #[test]
 fn timers_evict_and_count_anew(rt: HostRuntime) -> Result<(), Fail> {
     let (listener, address) = listen(&rt)?;
@@ -399,26 +370,13 @@ fn timers_evict_and_count_anew(rt: HostRuntime) -> Result<(), Fail> {
     plan.expected = 7;
     // The client looks in the middle of the second minute, which lasts as short as this.
     plan.periods.bucket = 4_000;
-    let (out, evicted) = serve_and_evict(&rt, rt.alloc(), &listener, address, &plan);
+    let (alloc, machine) = (rt.alloc(), &rt);
+    let (out, evicted) = beside(machine, alloc, &listener, &plan, move || {
+        is_evicted(machine, alloc, address)
+    });
     assert!(rt; evicted?);
     assert!(rt; out?.as_slice() == b"served 3\n".as_slice());
     Ok(())
-}
-
-/// What a server by a plan writes, and whether a client that is connected reads that answer to its request.
-fn serve_one<R: Threads + Wait + Clock + Sync>(
-    rt: &R,
-    alloc: Global,
-    listener: &TcpListener,
-    stream: TcpStream,
-    plan: &Plan,
-    request: &str,
-) -> (Result<Vec<u8>, Fault>, bool) {
-    thread::join(
-        rt,
-        || written(rt, alloc, listener, plan),
-        || is_answered_on(alloc, stream, request, REGISTERED),
-    )
 }
 
 #[test]
@@ -427,7 +385,10 @@ fn a_failed_accept_ends_the_server(rt: HostRuntime) -> Result<(), Fail> {
     let stream = TcpStream::connect(&rt, address)?;
     listener.set_nonblocking(true)?;
     let plan = plan(2, 10_000)?;
-    let (out, answered) = serve_one(&rt, rt.alloc(), &listener, stream, &plan, REGISTRATION);
+    let alloc = rt.alloc();
+    let (out, answered) = beside(&rt, alloc, &listener, &plan, move || {
+        is_answered_on(alloc, stream, REGISTRATION, REGISTERED)
+    });
     assert!(rt; answered);
     assert!(rt; out == Err(Fault::Read));
     Ok(())
@@ -447,9 +408,12 @@ fn registration_and_more(alloc: Global) -> Result<String, AllocError> {
 fn a_client_that_sends_more_has_its_answer(rt: HostRuntime) -> Result<(), Fail> {
     let (listener, address) = listen(&rt)?;
     let stream = TcpStream::connect(&rt, address)?;
-    let request = registration_and_more(rt.alloc())?;
+    let alloc = rt.alloc();
+    let request = registration_and_more(alloc)?;
     let plan = plan(1, 10_000)?;
-    let (out, answered) = serve_one(&rt, rt.alloc(), &listener, stream, &plan, &request);
+    let (out, answered) = beside(&rt, alloc, &listener, &plan, move || {
+        is_answered_on(alloc, stream, &request, REGISTERED)
+    });
     assert!(rt; answered);
     assert!(rt; out?.as_slice() == b"served 1\n".as_slice());
     Ok(())
@@ -578,23 +542,6 @@ fn dribble<R: Clock>(rt: &R, stream: &mut TcpStream) -> io::Result<()> {
     Ok(())
 }
 
-/// What a server by a plan writes, and whether what a client sends behind its last request was all taken.
-fn serve_behind<R: Threads + Wait + Clock + Sync, F: FnOnce() -> io::Result<()> + Send + Drop>(
-    rt: &R,
-    alloc: Global,
-    listener: &TcpListener,
-    plan: &Plan,
-    client: F,
-) -> (Result<Vec<u8>, Fault>, bool)
-    requires { F.IsAlwaysCallable client }
-{
-    thread::join(
-        rt,
-        || written(rt, alloc, listener, plan),
-        move || client().is_ok(),
-    )
-}
-
 #[test]
 fn a_client_that_sends_on_is_cut_off(rt: HostRuntime) -> Result<(), Fail> {
     let (listener, address) = listen(&rt)?;
@@ -602,10 +549,10 @@ fn a_client_that_sends_on_is_cut_off(rt: HostRuntime) -> Result<(), Fail> {
     let alloc = rt.alloc();
     let mut plan = plan(1, 10_000)?;
     plan.timeouts.linger = 40_000;
-    let (out, all_taken) = serve_behind(&rt, alloc, &listener, &plan, move || {
+    let (out, taken) = beside(&rt, alloc, &listener, &plan, move || {
         send_on(alloc, &mut stream)
     });
-    assert!(rt; !all_taken);
+    assert!(rt; taken.is_err());
     assert!(rt; out?.as_slice() == b"served 1\n".as_slice());
     Ok(())
 }
@@ -616,10 +563,10 @@ fn a_client_that_dribbles_on_is_cut_off(rt: HostRuntime) -> Result<(), Fail> {
     let mut stream = TcpStream::connect(&rt, address)?;
     let plan = plan(1, 10_000)?;
     let machine = &rt;
-    let (out, all_taken) = serve_behind(&rt, rt.alloc(), &listener, &plan, move || {
+    let (out, taken) = beside(&rt, rt.alloc(), &listener, &plan, move || {
         dribble(machine, &mut stream)
     });
-    assert!(rt; !all_taken);
+    assert!(rt; taken.is_err());
     assert!(rt; out?.as_slice() == b"served 1\n".as_slice());
     Ok(())
 }
@@ -662,35 +609,15 @@ fn is_answered_beside_one_who_does_not_read<R: Net<Stream = TcpStream>>(
     Ok(registered && answered)
 }
 
-/// What a server of one worker writes, and whether a client is answered while another doesn't read.
-fn serve_beside_one_who_does_not_read<
-    R: Threads + Wait + Clock + Sync + Net<Listener = TcpListener, Stream = TcpStream>,
->(
-    rt: &R,
-    alloc: Global,
-    listener: &TcpListener,
-    address: SocketAddr,
-    plan: &Plan,
-) -> (Result<Vec<u8>, Fault>, io::Result<bool>) {
-    thread::join(
-        rt,
-        || written(rt, alloc, listener, plan),
-        || is_answered_beside_one_who_does_not_read(rt, alloc, address),
-    )
-}
-
 #[test]
 fn a_client_that_does_not_read_is_given_up(rt: HostRuntime) -> Result<(), Fail> {
     let (listener, address) = listen(&rt)?;
     let mut plan = plan(3, 10_000)?;
     plan.workers = 1;
-    let (out, answered) = serve_beside_one_who_does_not_read(
-        &rt,
-        rt.alloc(),
-        &listener,
-        address,
-        &plan,
-    );
+    let (alloc, machine) = (rt.alloc(), &rt);
+    let (out, answered) = beside(machine, alloc, &listener, &plan, move || {
+        is_answered_beside_one_who_does_not_read(machine, alloc, address)
+    });
     assert!(rt; answered?);
     assert!(rt; out?.as_slice() == b"served 3\n".as_slice());
     Ok(())

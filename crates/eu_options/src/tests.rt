@@ -1,5 +1,5 @@
 //! The command line, from words to settings.
-use crate::{command, config_of, serving_of};
+use crate::{command, config_of, seed_of, serving_of};
 use clap::error::ErrorKind;
 use std::alloc::{AllocError, Global};
 use std::test::Fail;
@@ -71,6 +71,27 @@ fn values_out_of_range_are_refused(rt: HostRuntime) -> Result<(), Fail> {
             "{option} {value}"
         );
     }
+    Ok(())
+}
+
+/// The seed that words for a script give, if they do.
+fn read_seed<'a>(alloc: Global, words: &'a [&'a str]) -> Result<Option<u64>, Fail> {
+    let matches = match command(alloc)?.try_get_matches_from(words) {
+        Ok(matches) => matches,
+        Err(_) => return Err(Fail::from(AllocError)),
+    };
+    Ok(match matches.subcommand() {
+        Some(("script", found)) => seed_of(found),
+        _ => None,
+    })
+}
+
+#[test]
+fn a_seed_is_read_where_it_is_given(rt: HostRuntime) -> Result<(), Fail> {
+    let greatest = ["eureka", "script", "--seed", "18446744073709551615"];
+    assert!(rt; read_seed(rt.alloc(), greatest.as_slice())? == Some(u64::MAX));
+    let none = ["eureka", "script"];
+    assert!(rt; read_seed(rt.alloc(), none.as_slice())?.is_none());
     Ok(())
 }
 

@@ -163,7 +163,7 @@ fn judge<K: Label>(closed: Result<Closed, Unclosed<K>>) -> Result<Closed, Fault>
 struct Outcome {
     /// How many connections were served.
     served: u64,
-    /// The book, closed and settled. No code reads it: contracts do.
+    /// The book, closed and settled.
     closed: Closed,
 }
 

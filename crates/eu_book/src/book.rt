@@ -75,7 +75,7 @@ impl Model for Book {
 
 impl Book {
     /// The book of a registry that is opened now, and expects so many clients to renew (`Registry::open`), with so many peers, for
-    /// whom nothing waits. No more than 8 are handed in. `OutOfMemory`.
+    /// whom nothing waits. No more than 8 are handed in. `AllocError` where no memory is left.
     pub fn open(
         alloc: Global,
         config: Config,

@@ -6,7 +6,8 @@ use crate::{Keys, Tasks};
 use eu_base::{Codes, Instance, Key, Moment, Stamp, Status};
 use std::alloc::{AllocError, Global};
 
-/// What changes a registry. Each is one step of the lease machine.
+/// What changes a registry, or a server with peers. Each is one step of the lease machine, but for `Drain`, `Landed` and `Lost`, which
+/// are steps of a peer's queue.
 #[derive(Debug, Drop)]
 pub enum Command {
     /// An instance comes, or comes again (`AbstractInstanceRegistry.register`).

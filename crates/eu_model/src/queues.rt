@@ -7,9 +7,9 @@ use std::marker::Model;
 /// What a peer is to be told.
 #[derive(Debug, Drop)]
 pub struct Queue {
-    /// The tasks that wait, first to last. No two of them have one name.
+    /// The tasks that wait, first to last. In a book no two of them have one name.
     pub waiting: Tasks,
-    /// The tasks in flight, as one batch. No two of them have one name.
+    /// The tasks in flight, as one batch. In a book no two of them have one name.
     pub flight: Tasks,
 }
 

@@ -1,1 +1,2 @@
 mod TurnLemmas
+mod LawLemmas

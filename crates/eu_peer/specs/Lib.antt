@@ -1,3 +1,4 @@
 pub mod Commands
 pub mod Delivery
 pub mod Turns
+pub mod Law

@@ -3,10 +3,12 @@
 
 mod commands;
 mod delivery;
+mod law;
 mod peer;
 mod turn;
 
 pub use delivery::InProcess;
 pub use eu_json::ItemAnswer;
+pub use law::tasks_ask_what_is_written;
 pub use peer::{Lost, Peer};
 pub use turn::{Turn, replicate_turn};

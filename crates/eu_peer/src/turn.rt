@@ -17,7 +17,7 @@ use std::alloc::{AllocError, Global};
 pub enum Turn {
     /// Nothing waits that is worth sending.
     Idle,
-    /// A batch of an earlier turn was still in flight; its tasks wait again.
+    /// A batch of an earlier turn was still in flight, and was taken for lost: what isn't too old of its tasks waits again.
     Waiting,
     /// A batch was sent and answered.
     Sent {
@@ -26,7 +26,8 @@ pub enum Turn {
         /// How many newer instances of the peer's were adopted.
         adopted: usize,
     },
-    /// A batch was sent and not answered, or not with one answer a task; its tasks wait again.
+    /// A batch was sent and not answered, or not with one answer a task: what isn't too old of its tasks waits again, but where a
+    /// newer one of its name does.
     Lost {
         /// Its tasks.
         tasks: usize,
@@ -168,8 +169,8 @@ fn batch_of(answer: Answer) -> Option<Tasks>
 /// codes, or for `Lost` where no answer came or not one a task, and then for `Adopt` of each instance that came with a 409 to a
 /// heartbeat, in order. An adoption that is refused is dropped, and not counted.
 ///
-/// `Waiting` where a batch was in flight already: it is taken for lost, as the turn that sent it found no memory for its end. So two
-/// turns for one peer must not run at once.
+/// `Waiting` where a batch was in flight already: it is taken for lost, as the turn that sent it found no memory for its end, or its
+/// end was refused. So two turns for one peer must not run at once.
 ///
 /// Faults: those of the asks, but for `EmptyBatch` and `Busy` of the drain; after one nothing more is asked. `OutOfMemory` also where
 /// no memory is left between the drain and its end; the batch may then stay in flight until the next turn.

@@ -27,23 +27,29 @@ pub const LINGER_BYTES: usize = 65_536;
 /// The bytes that are dropped at once.
 const PIECE: usize = 4_096;
 
-/// For how long a connection is waited for, in milliseconds, above 0.
+/// For how long a connection is waited for, in milliseconds, above 0; and how much of it is dropped at its end.
 #[derive(Clone, Copy, Debug, PartialEq, Eq)]
 pub struct Timeouts {
+    /// A read.
     pub read: u64,
+    /// A write.
     pub write: u64,
+    /// All reads after the last response.
     pub linger: u64,
+    /// The most bytes that these drop.
+    pub linger_bytes: usize,
 }
 
 impl Timeouts {
     /// Those of a server.
     pub fn of_server() -> Timeouts
-        ensures { (result.read ≡ 10000) × (result.write ≡ 10000) × (result.linger ≡ 1000) }
+        ensures { result ≡ record { read = 10000; write = 10000; linger = 1000; linger_bytes = 65536 } }
     {
         Timeouts {
             read: READ_TIMEOUT_MS,
             write: WRITE_TIMEOUT_MS,
             linger: LINGER_MS,
+            linger_bytes: LINGER_BYTES,
         }
     }
 }
@@ -150,10 +156,11 @@ pub(crate) fn accept<R: Wait>(
 }
 
 /// Reads what still comes and drops it, until the client closes, a read fails, the time is up, or enough has come.
-fn drain<R: Clock>(rt: &R, stream: &mut TcpStream, time: Duration) -> io::Result<()> {
+fn drain<R: Clock>(rt: &R, stream: &mut TcpStream, timeouts: Timeouts) -> io::Result<()> {
     let began = Instant::now(rt)?;
+    let time = Duration::from_millis(timeouts.linger);
     let mut buffer = [0u8; PIECE];
-    let mut room = LINGER_BYTES;
+    let mut room = timeouts.linger_bytes;
     while room > 0 {
         let left = time.saturating_sub(began.elapsed(rt)?);
         stream.set_read_timeout(Some(left))?;
@@ -191,8 +198,7 @@ impl<R: Wait + Clock> Source for Door<'_, R> {
     fn end(&mut self, reader: TcpStream, writer: TcpStream) {
         let mut reader = reader;
         if writer.shutdown(Shutdown::Write).is_ok() {
-            let time = Duration::from_millis(self.hall.timeouts.linger);
-            let _ = drain(self.hall.rt, &mut reader, time);
+            let _ = drain(self.hall.rt, &mut reader, self.hall.timeouts);
         }
     }
 }

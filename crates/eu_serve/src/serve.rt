@@ -42,7 +42,7 @@ impl Plan {
     fn of_server(config: Config, expected: u32, workers: u32, sessions: u32) -> Plan
         ensures settings { (result.config ≡ config) × (result.expected ≡ expected) × (result.workers ≡ workers) × (result.sessions ≡ sessions) }
         ensures periods { result.periods ≡ record { evictor = config.evict_ms; bucket = 60000; threshold = 900000 } }
-        ensures timeouts { (result.timeouts.read ≡ 10000) × (result.timeouts.write ≡ 10000) × (result.timeouts.linger ≡ 1000) }
+        ensures timeouts { result.timeouts ≡ record { read = 10000; write = 10000; linger = 1000; linger_bytes = 65536 } }
     {
         Plan {
             config,
@@ -96,22 +96,20 @@ fn hire<'a, K: Label, R: Wait + Clock, H: Chooser + Drop>(
     Ok(workers)
 }
 
-/// Takes the passes back, and tells how many connections the first workers, so many, served in all.
+/// Takes the passes back, and tells how many connections the workers of sessions served in all.
 fn gather<K: Label, R: Wait + Clock, H: Chooser + Drop>(
     workers: Vec<Hand<'_, K, R, H>>,
-    count: u32,
     passes: &mut Vec<Pass<K>>,
 ) -> Result<u64, Fault> {
     let mut served = 0u64;
-    let mut left = count;
     for worker in workers {
-        let Worker::Done(pass, ended) = worker else {
+        let Worker::Done(pass, ended, work) = worker else {
             continue;
         };
-        if left > 0 {
-            left -= 1;
+        if matches!(work, Work::Sessions { .. }) {
             served = served.saturating_add(ended.turns);
         }
+        drop(work);
         passes.push(pass)?;
     }
     Ok(served)
@@ -137,7 +135,7 @@ fn work_all<'a, K: Label + Send + Sync, R: Threads + Wait + Clock + Sync, H: Cho
         gate: &hall.pace,
     };
     run_all(&site, workers.as_mut_slice());
-    let served = gather(workers, count, &mut passes)?;
+    let served = gather(workers, &mut passes)?;
     Ok((passes, served))
 }
 
@@ -160,15 +158,19 @@ fn judge<K: Label>(closed: Result<Closed, Unclosed<K>>) -> Result<Closed, Fault>
 
 /// What a server did that came to a good end.
 #[derive(Drop)]
-struct Outcome {
+pub(crate) struct Outcome {
     /// How many connections were served.
-    served: u64,
+    pub served: u64,
     /// The book, closed and settled.
-    closed: Closed,
+    pub closed: Closed,
 }
 
 /// Opens a book, serves it, closes it and settles it.
-fn serve_book<K: Label + Send + Sync, R: Threads + Wait + Clock + Sync, H: Chooser + Send + Drop>(
+pub(crate) fn serve_book<
+    K: Label + Send + Sync,
+    R: Threads + Wait + Clock + Sync,
+    H: Chooser + Send + Drop,
+>(
     rt: &R,
     alloc: Global,
     listener: &TcpListener,
@@ -220,7 +222,7 @@ pub(crate) fn serve<R: Threads + Wait + Clock + Sync, H: Chooser + Send + Drop, 
     tell(writer, outcome.served)
 }
 
-/// Serves so many connections of a listener, by so many workers, and then writes `served N`, N being how many there were.
+/// Serves so many connections of a listener, by so many workers, 1 to 16, and then writes `served N`, N being how many there were.
 ///
 /// A book is opened with the settings and the number expected, without peers. Each accepted connection is one session of
 /// HTTP/1.1 (`eu_session::serve_session`), at the machine's time, of a worker that is free; while none is, connections wait in the

@@ -2,12 +2,14 @@
 
 use crate::door::{Timeouts, accept};
 use crate::pace::Pace;
-use crate::serve::{Plan, serve, serve_on};
+use crate::serve::{Plan, serve, serve_book, serve_on};
 use eu_base::{Config, Fault};
 use eu_clock::FirstChooser;
 use eu_gate::{BUCKET, EVICTOR, Gate, Go, Periods, Point, THRESHOLD};
+use eu_shared::Blanks;
 use std::alloc::{AllocError, Global};
 use std::io::{ErrorKind, Read, Write};
+use std::marker::Brand;
 use std::net::{Net, SocketAddr, TcpListener, TcpStream};
 use std::sync::Wait;
 use std::sync::atomic::{AtomicU64, Ordering};
@@ -43,6 +45,7 @@ fn plan(sessions: u32, read: u64) -> Result<Plan, Fault> {
             read,
             write: 1_000,
             linger: 100,
+            linger_bytes: 65_536,
         },
     })
 }
@@ -283,6 +286,33 @@ fn no_session_is_served_at_once(rt: HostRuntime) -> Result<(), Fail> {
     Ok(())
 }
 
+/// How many peers a server has that serves nobody.
+fn peers<R: Threads + Wait + Clock + Sync>(
+    rt: &R,
+    alloc: Global,
+    listener: &TcpListener,
+) -> Result<usize, Fault> {
+    let plan = plan(0, 10_000)?;
+    let outcome = serve_book::<Brand, R, FirstChooser>(
+        rt,
+        alloc,
+        listener,
+        &plan,
+        FirstChooser,
+        Blanks::new(),
+    )?;
+    let peers = outcome.closed.end.queues.as_slice().len();
+    drop(outcome);
+    Ok(peers)
+}
+
+#[test]
+fn a_server_has_no_peers(rt: HostRuntime) -> Result<(), Fail> {
+    let (listener, _) = listen(&rt)?;
+    assert!(rt; peers(&rt, rt.alloc(), &listener)? == 0);
+    Ok(())
+}
+
 /// A request for the status page, and the page of a server at which nothing is held that expects 70,007 clients (more than it may
 /// hold), each to renew every 20 s, of which half may go.
 const LOOK: &str = "GET /eureka/status HTTP/1.1\r\nHost: x\r\nConnection: close\r\n\r\n";
@@ -449,10 +479,11 @@ fn a_turn_that_was_missed_is_not_caught_up(rt: HostRuntime) -> Result<(), Fail> 
     };
     let pace = Pace::new(&rt, periods)?;
     thread::sleep(&rt, Duration::from_millis(130));
-    assert!(rt; pace.pass(BUCKET, Point::Turn) == Go::On);
     let began = Instant::now(&rt)?;
-    assert!(rt; pace.pass(BUCKET, Point::Turn) == Go::On);
-    assert!(rt; began.elapsed(&rt)? >= Duration::from_millis(35));
+    assert!(rt;
+        pace.pass(BUCKET, Point::Turn) == Go::On && pace.pass(BUCKET, Point::Turn) == Go::On
+    );
+    assert!(rt; began.elapsed(&rt)? >= Duration::from_millis(40));
     Ok(())
 }
 
@@ -494,14 +525,15 @@ fn a_turn_is_due_a_period_after_the_last_one_began(rt: HostRuntime) -> Result<()
         ahead: AtomicU64::new(0),
     };
     let pace = Pace::new(&machine, Periods::of_server(900_000))?;
+    let mut began = Instant::now(&rt)?;
     for late in [900_000, 5_000_000, 900_000] {
         machine.ahead.fetch_add(late, Ordering::SeqCst);
+        began = Instant::now(&rt)?;
         assert!(rt; pace.pass(EVICTOR, Point::Turn) == Go::On);
     }
     machine.ahead.fetch_add(899_900, Ordering::SeqCst);
-    let began = Instant::now(&rt)?;
     assert!(rt; pace.pass(EVICTOR, Point::Turn) == Go::On);
-    assert!(rt; began.elapsed(&rt)? >= Duration::from_millis(50));
+    assert!(rt; began.elapsed(&rt)? >= Duration::from_millis(99));
     Ok(())
 }
 

@@ -46,7 +46,8 @@ impl<K: Label> Model for Held<K> {
 }
 
 impl<K: Label> Held<K> {
-    /// A book that is opened now (`Book::open`), over four new ledgers, and no pass. `AllocError` where no memory is left.
+    /// A book that is opened now (`Book::open`) for no more than 8 peers, over four new ledgers of 1,025 parts each (`Blanks::new`),
+    /// and no pass. `AllocError` where no memory is left.
     pub fn open(
         alloc: Global,
         config: Config,
@@ -234,7 +235,8 @@ impl<K: Label> Held<K> {
     }
 
     /// Begins the journal anew (`Book::checkpoint`), for a pass, which has seen then where it begins. Registry, queues, totals, and
-    /// the pass's log and tallies stay. `AllocError` where no memory is left, which changes neither the book nor the pass.
+    /// the pass's log and tallies stay; it keeps the journal as it was until it is answered again. `AllocError` where no memory is
+    /// left, which changes neither the book nor the pass.
     pub fn checkpoint(&mut self, alloc: Global, pass: &mut Pass<K>) -> Result<(), AllocError>
         ensures book { OnOk result (self.new ≡ record { book = cleared self.old.book; made = self.old.made }) }
         ensures pass { OnOk result (pass.new ≡ shown pass.old self.old.book.totals.steps) }

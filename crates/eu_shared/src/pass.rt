@@ -24,7 +24,8 @@ pub struct Pass<K: Label> {
     pub(crate) seen: u64,
     /// Whether its log may have what is numbered below that.
     pub(crate) is_stale: bool,
-    /// The journal as it was before its last call, where that had it begin anew: let go once the lock is free.
+    /// The journal as it was before its last call, where that had it begin anew: a call that takes the lock lets go of it once the lock
+    /// is free.
     pub(crate) retired: Option<Journal>,
     pub(crate) shares: Shares<K>,
 }

@@ -35,7 +35,8 @@ pub struct Shared<K: Label> {
 }
 
 impl<K: Label> Shared<K> {
-    /// As `Held::open`, behind a lock.
+    /// As `Held::open`, behind a lock: for no more than 8 peers, over four new ledgers of 1,025 parts each. `AllocError` where no
+    /// memory is left.
     pub fn open(
         alloc: Global,
         config: Config,

@@ -11,7 +11,7 @@ pub ended : {K S C H P : Type 0} (u v w : Worker K S C H P) → IsNumbered u v �
 ended (Ready job) v w n r = subst (λ x. HasRun x w) n.1 r
 ended (Numbered k job) v w n r = subst (λ x. HasRun x w) n r
 ended Working v w n r = subst (λ x. HasRun x w) n r
-ended (Done q e) v w n r = subst (λ x. HasRun x w) n r
+ended (Done q e left) v w n r = subst (λ x. HasRun x w) n r
 
 -- one more element of a list is changed by a relation
 module _ {X : Type 0} (R : X → X → Type 0) (old now : List X) (i : ℕ) (d₀ y : X) where

@@ -1,3 +1,4 @@
 pub mod TimerLemmas
 pub mod Crossing
 pub mod AllLemmas
+pub mod TrimLemmas

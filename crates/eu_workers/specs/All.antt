@@ -24,9 +24,9 @@ module _ {K S C H P : Type 0} where
   abbrev pub IsDoneBy : Job K S C H P → Caller → Ended → Type 0
   IsDoneBy job q e = IsWorked job.work job.limit job.pass q e
 
-  -- a worker that did its job
+  -- a worker that did its job, and gives back with what it worked
   abbrev pub DidJob : Job K S C H P → Worker K S C H P → Type 0
-  DidJob job w = (q : Caller) × (e : Ended) × (w ≡ Done q e) × IsDoneBy job q e
+  DidJob job w = (q : Caller) × (e : Ended) × (left : Work S H P) × (w ≡ Done q e left) × IsDoneBy job q e
 
   -- a worker is numbered, if it is ready
   abbrev pub IsNumbered : Worker K S C H P → Worker K S C H P → Type 0

@@ -1,3 +1,4 @@
 pub mod Ended
+pub mod Trims
 pub mod Timers
 pub mod All

@@ -1,6 +1,6 @@
 //! All workers of a server, each in a thread of its own.
 ghost use Rattle.std.specs.Prelude.{◌≡◌, ℕ, ◌<◌, length, slice_index_or};
-ghost use Rattle.eu_workers.specs.All.{HasRun, IsDoneBy, IsEnded, IsNumbered};
+ghost use Rattle.eu_workers.specs.All.{HasRun, IsEnded, IsNumbered, IsWorked};
 
 use crate::ended::Ended;
 use crate::replicator::run_replicator;
@@ -63,8 +63,9 @@ pub enum Worker<K: Label, S, C, H, P> {
     Numbered(u32, Job<K, S, C, H, P>),
     /// It works.
     Working,
-    /// It ended, and gave its pass back.
-    Done(Pass<K>, Ended),
+    /// It ended, and gave its pass back, and with it what it worked with: where its connections came from, what drew the victims, or
+    /// the way to its peer.
+    Done(Pass<K>, Ended, Work<S, H, P>),
 }
 
 /// Counts a worker that serves sessions, and gives its number; 0 of any other, which passes the gate by the number of its kind.
@@ -105,35 +106,24 @@ fn number_all<K: Label, S: Drop, C: Drop, H: Drop, P: Drop>(workers: &mut [Worke
     }
 }
 
-/// Does a job to its end.
-fn work_off<
-    K: Label,
-    R: Wait,
-    G: Gate,
-    S: Source + Drop,
-    C: Clock + Drop,
-    H: Chooser + Drop,
-    P: Peer + Drop,
->(site: &Site<'_, K, R, G>, who: u32, job: Job<K, S, C, H, P>) -> (Pass<K>, Ended)
-    ensures { IsDoneBy job result.0 result.1 }
+/// Does a work, turn after turn, to its end.
+fn work_off<K: Label, R: Wait, G: Gate, S: Source, C: Clock, H: Chooser, P: Peer>(
+    site: &Site<'_, K, R, G>,
+    who: u32,
+    work: &mut Work<S, H, P>,
+    pass: Pass<K>,
+    clock: &mut C,
+    limit: u64,
+) -> (Pass<K>, Ended)
+    ensures { IsWorked work.old limit pass result.0 result.1 }
 {
-    let Job {
-        pass,
-        mut clock,
-        limit,
-        work,
-    } = job;
     match work {
-        Work::Sessions { mut source } => {
-            run_sessions(site, who, pass, &mut source, &mut clock, limit)
-        }
-        Work::Evictor { mut chooser } => {
-            run_evictor(site, pass, &mut clock, &mut chooser, limit)
-        }
-        Work::Bucket => run_bucket(site, pass, &mut clock, limit),
-        Work::Threshold => run_threshold(site, pass, &mut clock, limit),
-        Work::Replicator { number, mut peer } => {
-            run_replicator(site, number, pass, &mut peer, &mut clock, limit)
+        Work::Sessions { source } => run_sessions(site, who, pass, source, clock, limit),
+        Work::Evictor { chooser } => run_evictor(site, pass, clock, chooser, limit),
+        Work::Bucket => run_bucket(site, pass, clock, limit),
+        Work::Threshold => run_threshold(site, pass, clock, limit),
+        Work::Replicator { number, peer } => {
+            run_replicator(site, *number, pass, peer, clock, limit)
         }
     }
 }
@@ -152,8 +142,14 @@ fn run_worker<
 {
     match mem::replace(worker, Worker::Working) {
         Worker::Numbered(who, job) => {
-            let (pass, ended) = work_off(site, who, job);
-            *worker = Worker::Done(pass, ended);
+            let Job {
+                pass,
+                mut clock,
+                limit,
+                mut work,
+            } = job;
+            let (pass, ended) = work_off(site, who, &mut work, pass, &mut clock, limit);
+            *worker = Worker::Done(pass, ended, work);
         }
         other => *worker = other,
     }

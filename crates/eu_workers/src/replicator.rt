@@ -1,5 +1,6 @@
 //! Workers that tell a peer what waits for it.
 ghost use Rattle.eu_workers.specs.Ended.{IsWithin};
+ghost use Rattle.eu_workers.specs.Trims.{IsTrimmed};
 
 use crate::ended::Ended;
 use crate::site::Site;
@@ -8,6 +9,21 @@ use eu_gate::{FIRST_REPLICATOR, Gate, Go, Point};
 use eu_peer::{Peer, replicate_turn};
 use eu_shared::{Label, Pass, Seat};
 use std::sync::Wait;
+
+/// A turn for the peer of that number, behind which the log of the pass is trimmed. Tells whether it ended by a fault.
+fn turn<K: Label, R: Wait, G: Gate, P: Peer, C: Clock>(
+    site: &Site<'_, K, R, G>,
+    number: u32,
+    seat: &mut Seat<'_, K, R>,
+    peer: &mut P,
+    clock: &mut C,
+) -> bool
+    ensures { IsTrimmed seat.new.pass }
+{
+    let sent = replicate_turn(site.alloc, seat, number, peer, clock);
+    seat.pass.trim();
+    sent.is_err()
+}
 
 /// The replicator of the peer of that number (`ReplicationTaskProcessor` in Eureka): sends what waits for it, turn after turn, until the
 /// gate stops it or it had so many turns, and gives its pass back.
@@ -35,9 +51,7 @@ pub fn run_replicator<K: Label, R: Wait, G: Gate, P: Peer, C: Clock>(
         if site.gate.pass(who, Point::Turn) == Go::Stop {
             break;
         }
-        let turn = replicate_turn(site.alloc, &mut seat, number, peer, clock);
-        ended.count(turn.is_err());
-        seat.pass.trim();
+        ended.count(turn(site, number, &mut seat, peer, clock));
     }
     let Seat {
         pass,

@@ -1,6 +1,7 @@
 //! Workers that serve sessions.
 ghost use Rattle.std.specs.Prelude.{◌≡◌};
 ghost use Rattle.eu_workers.specs.Ended.{IsWithin};
+ghost use Rattle.eu_workers.specs.Trims.{IsTrimmed};
 
 use crate::ended::Ended;
 use crate::gated::{GatedSink, GatedSource};
@@ -41,6 +42,24 @@ fn serve<K: Label, R: Wait, G: Gate, C: Clock, I: Read, O: Write>(
     serve_session(site.alloc, site.routes, seat, clock, &mut source, &mut sink)
 }
 
+/// A turn with a connection: serves its session, ends it, and trims the log of the pass. Tells whether the session ended by a fault.
+fn turn<K: Label, R: Wait, G: Gate, S: Source, C: Clock>(
+    site: &Site<'_, K, R, G>,
+    who: u32,
+    seat: &mut Seat<'_, K, R>,
+    clock: &mut C,
+    source: &mut S,
+    connection: (S::Reader, S::Writer),
+) -> bool
+    ensures { IsTrimmed seat.new.pass }
+{
+    let (mut reader, mut writer) = connection;
+    let served = serve(site, who, seat, clock, &mut reader, &mut writer);
+    source.end(reader, writer);
+    seat.pass.trim();
+    served.is_err()
+}
+
 /// Serves the sessions of one connection after the other, with the worker's number, until there is none, the gate stops it or it had so
 /// many turns, and gives its pass back.
 ///
@@ -68,13 +87,10 @@ pub fn run_sessions<K: Label, R: Wait, G: Gate, S: Source, C: Clock>(
         if site.gate.pass(who, Point::Turn) == Go::Stop {
             break;
         }
-        let Some((mut reader, mut writer)) = source.next() else {
+        let Some(connection) = source.next() else {
             break;
         };
-        let served = serve(site, who, &mut seat, clock, &mut reader, &mut writer);
-        ended.count(served.is_err());
-        source.end(reader, writer);
-        seat.pass.trim();
+        ended.count(turn(site, who, &mut seat, clock, source, connection));
     }
     let Seat {
         pass,

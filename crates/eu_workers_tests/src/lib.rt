@@ -1,4 +1,4 @@
-//! Tests of peers and workers.
+//! Tests of workers.
 #![tactic(auto)]
 
 #[cfg(test)]

@@ -1,9 +1,7 @@
 //! The tests, by what they are of.
 mod points;
 mod replicas;
-mod servers;
 mod sessions;
 mod timers;
 mod trims;
-mod turns;
 mod victims;

@@ -27,6 +27,25 @@ fn batches_fly_land_and_are_lost(rt: HostRuntime) {
     assert!(rt; prints(rt.alloc(), FLIGHTS.as_slice()) == Ok(true));
 }
 
+const EIGHT: [(&str, &str); 11] = [
+    ("open 0 8", "opened"),
+    ("register 0 A i1 90 UP UNKNOWN 0 c", "204"),
+    ("drain 1 0", "batch 1 Register A i1"),
+    ("drain 1 1", "batch 1 Register A i1"),
+    ("drain 1 2", "batch 1 Register A i1"),
+    ("drain 1 3", "batch 1 Register A i1"),
+    ("drain 1 4", "batch 1 Register A i1"),
+    ("drain 1 5", "batch 1 Register A i1"),
+    ("drain 1 6", "batch 1 Register A i1"),
+    ("drain 1 7", "batch 1 Register A i1"),
+    ("drain 1 8", "refused 15"),
+];
+
+#[test]
+fn each_of_eight_peers_is_told(rt: HostRuntime) {
+    assert!(rt; prints(rt.alloc(), EIGHT.as_slice()) == Ok(true));
+}
+
 const RENEWED: [(&str, &str); 11] = [
     ("open 0 1", "opened"),
     ("register 0 A i1 90 UP UNKNOWN 0 c", "204"),

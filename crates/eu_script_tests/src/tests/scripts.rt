@@ -346,7 +346,7 @@ fn clients_are_counted_anew(rt: HostRuntime) {
     }
 }
 
-const SETTINGS: [(bool, u32, &[u8], &[u8]); 2] = [
+const SETTINGS: [(bool, u32, &[u8], &[u8]); 3] = [
     (
         false,
         85,
@@ -358,6 +358,13 @@ const SETTINGS: [(bool, u32, &[u8], &[u8]); 2] = [
         0,
         b"open 5\nregister 0 A i1 90 UP UNKNOWN - c\nrenew 1 A i1 - - c\nroll 2\ncounts 2\n",
         b"opened\n204\n200\nlast 1\nheld 1 expected 6 threshold 0 last 1 permitted no\n",
+    ),
+    // at 100 percent none may go, also where eviction is permitted
+    (
+        false,
+        100,
+        b"open 1\nregister 0 A i1 1 UP UNKNOWN - c\nevict 10000\ncounts 10000\n",
+        b"opened\n204\nevicted 0\nheld 1 expected 2 threshold 4 last 0 permitted yes\n",
     ),
 ];
 

@@ -1,9 +1,9 @@
 //! A book that is opened with settings, clients expected and peers.
 ghost use Rattle.std.specs.Prelude.{◌≡◌};
 
-use crate::tests::asks::{close_for, drain, only};
+use crate::tests::asks::{ask, close_for, drain, key, only, registration};
 use crate::tests::passes::number;
-use crate::tests::reads::{Seen, see};
+use crate::tests::reads::{Seen, see, see_at};
 use crate::tests::states::{are_eight_idle, counts_only, is_same};
 use eu_base::{Config, Fault};
 use eu_model::{Counts, Query, State};
@@ -95,5 +95,49 @@ fn a_book_is_opened_as_it_is_told(rt: HostRuntime) -> Result<(), Fail> {
     assert!(rt; opening.next == 1);
     assert!(rt; opening.known == (9, "refused") && opening.unknown == (15, "refused"));
     assert!(rt; opening.untouched);
+    Ok(())
+}
+
+/// What is seen of i1, which was registered at 0 for 90 seconds, at the moment of so many milliseconds.
+fn see_first<K: Label, R: Wait>(
+    rt: &R,
+    shared: &Shared<K>,
+    alloc: Global,
+    ms: u64,
+) -> Result<Seen, Fault> {
+    let mut pass = shared.pass(rt, alloc)?;
+    let first = key(alloc, "i1")?;
+    let seen = see_at(rt, shared, alloc, &mut pass, Query::One(first), ms);
+    drop(pass);
+    seen
+}
+
+/// What is seen of it where its lease ends, and a millisecond later, without preservation.
+fn see_it_end<K: Label, R: Wait>(
+    rt: &R,
+    alloc: Global,
+    blanks: Blanks,
+) -> Result<(Seen, Seen), Fault>
+    requires names { (blanks.steps.name ≡ K.steps) × (blanks.counted.name ≡ K.counted) × (blanks.added.name ≡ K.added) × (blanks.removed.name ≡ K.removed) }
+    requires parts { (blanks.steps.parts ≡ K.parts) × (blanks.counted.parts ≡ K.parts) × (blanks.added.parts ≡ K.parts) × (blanks.removed.parts ≡ K.parts) × (K.parts ≡ 1025) }
+{
+    let shared: Shared<K> = Shared::open(alloc, Config::new(false, 85, 30, 60_000)?, 0, 0, blanks)?;
+    let mut pass = shared.pass(rt, alloc)?;
+    let command = registration(alloc, "i1");
+    ask(rt, &shared, alloc, &mut pass, command, 0);
+    drop(pass);
+    let at_end = see_first(rt, &shared, alloc, 90_000)?;
+    let later = see_first(rt, &shared, alloc, 90_001)?;
+    Ok((at_end, later))
+}
+
+fn seen_to_end<R: Wait>(rt: &R, alloc: Global) -> Result<(Seen, Seen), Fault> {
+    see_it_end::<Brand, R>(rt, alloc, Blanks::new())
+}
+
+#[test]
+fn a_lease_is_seen_until_it_has_expired(rt: HostRuntime) -> Result<(), Fail> {
+    let (at_end, later) = seen_to_end(&rt, rt.alloc())?;
+    assert!(rt; matches!(at_end, Seen::Lease(0)) && matches!(later, Seen::NoLease));
     Ok(())
 }

@@ -62,7 +62,19 @@ pub fn see<K: Label, R: Wait>(
     pass: &mut Pass<K>,
     query: Query,
 ) -> Result<Seen, Fault> {
-    let Some(now) = Moment::new(6) else {
+    see_at(rt, shared, alloc, pass, query, 6)
+}
+
+/// What a pass sees at the moment of so many milliseconds.
+pub fn see_at<K: Label, R: Wait>(
+    rt: &R,
+    shared: &Shared<K>,
+    alloc: Global,
+    pass: &mut Pass<K>,
+    query: Query,
+    ms: u64,
+) -> Result<Seen, Fault> {
+    let Some(now) = Moment::new(ms) else {
         drop(query);
         return Err(Fault::BadValue);
     };

@@ -79,6 +79,35 @@ fn nobody_is_renewed_in_an_empty_registry(rt: HostRuntime) {
     assert!(rt; renews_nobody(rt.alloc()) == Ok(true));
 }
 
+/// A list of 250 times the same item.
+fn repeated(alloc: Global, before: &str, item: &str, after: &str) -> Result<String, AllocError> {
+    let mut text = joined(alloc, &[before, item])?;
+    for _ in 1..250 {
+        text.push(',')?;
+        text.push_str(item)?;
+    }
+    text.push_str(after)?;
+    Ok(text)
+}
+
+/// Whether a book that is just opened answers a batch of that renewal, 250 times, in as many steps.
+fn renews_as_often_as_can_be(alloc: Global) -> Result<bool, Fault> {
+    let item = r#"{"action":"Heartbeat","appName":"A","id":"zz"}"#;
+    let body = repeated(alloc, r#"{"replicationList":["#, item, "]}")?;
+    let head =
+        "HTTP/1.1 200 OK\r\nContent-Type: application/json\r\nContent-Length: 4768\r\n\r\n{\"responseList\":[";
+    let response = repeated(alloc, head, r#"{"statusCode":404}"#, "]}")?;
+    let mut book = opened(alloc)?;
+    let replies = replies_by(alloc, &mut book, &body, &response, 250);
+    drop(book);
+    replies
+}
+
+#[test]
+fn a_full_batch_is_answered_item_by_item(rt: HostRuntime) {
+    assert!(rt; renews_as_often_as_can_be(rt.alloc()) == Ok(true));
+}
+
 #[test]
 fn an_older_stamp_is_told_what_is_held(rt: HostRuntime) {
     let older =

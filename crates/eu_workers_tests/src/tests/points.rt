@@ -10,6 +10,7 @@ use eu_routes::Routes;
 use eu_shared::{Blanks, Label, Pass, Shared};
 use eu_workers::{Ended, Gate, Go, Job, Point, Site, Source, Work, Worker, run_all};
 use std::alloc::Global;
+use std::io::{self, Write};
 use std::marker::Brand;
 use std::sync::Wait;
 use std::sync::atomic::{AtomicU64, Ordering};
@@ -60,24 +61,44 @@ impl Gate for Counting {
     }
 }
 
+/// A writer that keeps what it is given until it is flushed.
+#[derive(Drop)]
+struct Keeping {
+    kept: Vec<u8>,
+    is_flushed: bool,
+}
+
+impl Write for Keeping {
+    fn write(&mut self, bytes: &[u8]) -> io::Result<usize> {
+        self.kept.extend_from_slice(bytes)?;
+        self.is_flushed = false;
+        Ok(bytes.len())
+    }
+
+    fn flush(&mut self) -> io::Result<()> {
+        self.is_flushed = true;
+        Ok(())
+    }
+}
+
 /// One connection, on which a listing is asked for; a count of those that were answered.
 #[derive(Drop)]
 struct Once<'a> {
-    connection: Option<(&'static [u8], Vec<u8>)>,
+    connection: Option<(&'static [u8], Keeping)>,
     answered: &'a AtomicU64,
 }
 
 impl Source for Once<'_> {
     type Reader = &'static [u8];
 
-    type Writer = Vec<u8>;
+    type Writer = Keeping;
 
-    fn next(&mut self) -> Option<(&'static [u8], Vec<u8>)> {
+    fn next(&mut self) -> Option<(&'static [u8], Keeping)> {
         self.connection.take()
     }
 
-    fn end(&mut self, _reader: &'static [u8], writer: Vec<u8>) {
-        if writer.as_slice().starts_with(b"HTTP/1.1 200 OK") {
+    fn end(&mut self, _reader: &'static [u8], writer: Keeping) {
+        if writer.is_flushed && writer.kept.starts_with(b"HTTP/1.1 200 OK") {
             self.answered.fetch_add(1, Ordering::SeqCst);
         }
     }
@@ -162,8 +183,12 @@ fn hands<'a, K: Label, R: Wait>(
 ) -> Result<Vec<Hand<'a, K>>, Fault> {
     let mut hands = Vec::new(alloc);
     push_timers(rt, alloc, shared, &mut hands)?;
+    let writer = Keeping {
+        kept: Vec::new(alloc),
+        is_flushed: false,
+    };
     let source = Once {
-        connection: Some((LISTING, Vec::new(alloc))),
+        connection: Some((LISTING, writer)),
         answered: &counts.answered,
     };
     push(rt, alloc, shared, &mut hands, Work::Sessions { source })?;
@@ -192,7 +217,8 @@ fn drained<K: Label>(pass: &Pass<K>) -> Option<u32> {
 /// Adds what a worker did.
 fn tell<K: Label>(told: &mut Told, hand: Hand<'_, K>) {
     match hand {
-        Worker::Done(pass, ended) => {
+        Worker::Done(pass, ended, work) => {
+            drop(work);
             told.all.turns = told.all.turns.saturating_add(ended.turns);
             told.all.refused = told.all.refused.saturating_add(ended.refused);
             told.drained = told.drained.or(drained(&pass));
@@ -346,5 +372,85 @@ fn a_read_that_is_stopped_ends_the_session(rt: HostRuntime) -> Result<(), Fail> 
 fn a_flush_is_not_stopped(rt: HostRuntime) -> Result<(), Fail> {
     let told = ran(&rt, rt.alloc(), Some(Point::Replied))?;
     assert!(rt; told == ALL);
+    Ok(())
+}
+
+/// A gate that lets nobody through, and keeps who came, a bit for each number.
+#[derive(Drop)]
+struct Register {
+    came: AtomicU64,
+}
+
+impl Gate for Register {
+    fn pass(&self, who: u32, _point: Point) -> Go {
+        let bit = 1u64.checked_shl(who).unwrap_or(0);
+        self.came.fetch_add(bit, Ordering::SeqCst);
+        Go::Stop
+    }
+}
+
+/// As many session workers as a server may have, to which no connection comes.
+fn sixteen<'a, K: Label, R: Wait>(
+    rt: &R,
+    alloc: Global,
+    shared: &Shared<K>,
+    answered: &'a AtomicU64,
+) -> Result<Vec<Hand<'a, K>>, Fault> {
+    let mut hands = Vec::new(alloc);
+    for _worker in 0..16 {
+        let source = Once {
+            connection: None,
+            answered,
+        };
+        push(rt, alloc, shared, &mut hands, Work::Sessions { source })?;
+    }
+    Ok(hands)
+}
+
+/// By which numbers they come to the gate, a bit for each.
+fn come<K: Label + Send + Sync, R: Threads + Wait + Sync>(
+    rt: &R,
+    alloc: Global,
+    shared: &Shared<K>,
+) -> Result<u64, Fault> {
+    let routes = Routes::new(alloc)?;
+    let gate = Register {
+        came: AtomicU64::new(0),
+    };
+    let answered = AtomicU64::new(0);
+    let mut workers = sixteen(rt, alloc, shared, &answered)?;
+    let site = Site {
+        rt,
+        alloc,
+        shared,
+        routes: &routes,
+        gate: &gate,
+    };
+    run_all(&site, workers.as_mut_slice());
+    drop(site);
+    drop(workers);
+    Ok(gate.came.load(Ordering::SeqCst))
+}
+
+/// The same of a server that was just opened.
+fn come_to<K: Label + Send + Sync, R: Threads + Wait + Sync>(
+    rt: &R,
+    alloc: Global,
+    blanks: Blanks,
+) -> Result<u64, Fault>
+    requires names { (blanks.steps.name ≡ K.steps) × (blanks.counted.name ≡ K.counted) × (blanks.added.name ≡ K.added) × (blanks.removed.name ≡ K.removed) }
+    requires parts { (blanks.steps.parts ≡ K.parts) × (blanks.counted.parts ≡ K.parts) × (blanks.added.parts ≡ K.parts) × (blanks.removed.parts ≡ K.parts) × (K.parts ≡ 1025) }
+{
+    let shared: Shared<K> = Shared::open(alloc, Config::new(true, 85, 30, 60_000)?, 0, 0, blanks)?;
+    come(rt, alloc, &shared)
+}
+
+fn came<R: Threads + Wait + Sync>(rt: &R, alloc: Global) -> Result<u64, Fault> {
+    come_to::<Brand, R>(rt, alloc, Blanks::new())
+}
+
+#[test]
+fn session_workers_are_numbered_from_1_to_16(rt: HostRuntime) -> Result<(), Fail> {
+    assert!(rt; came(&rt, rt.alloc())? == 0b1_1111_1111_1111_1110);
     Ok(())
 }

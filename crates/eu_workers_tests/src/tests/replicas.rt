@@ -1,11 +1,10 @@
 //! A replicator, over a book of another server.
 ghost use Rattle.std.specs.Prelude.{◌≡◌};
 
-use crate::tests::turns::registration;
-use eu_base::{Config, Fault, Moment};
+use eu_base::{App, Config, Fault, Id, Instance, Key, Moment, Rest, Status};
 use eu_book::Book;
 use eu_clock::{FirstChooser, ListClock};
-use eu_model::{Query, View};
+use eu_model::{Command, Query, View};
 use eu_peer::InProcess;
 use eu_routes::Routes;
 use eu_shared::{Blanks, Label, Pass, Shared};
@@ -25,23 +24,23 @@ impl Gate for Open {
     }
 }
 
-/// Whether a client registers the instance of that id of A at the moment 0.
-pub fn registers_as<K: Label, R: Wait>(
-    rt: &R,
-    shared: &Shared<K>,
-    alloc: Global,
-    pass: &mut Pass<K>,
-    id: &str,
-) -> bool {
-    let Some(moment) = Moment::new(0) else {
-        return false;
-    };
-    match registration(alloc, id) {
-        Ok(command) => pass
-            .ask(rt, shared, alloc, command, moment, &mut FirstChooser)
-            .is_ok(),
-        Err(_) => false,
-    }
+/// A client that is UP registers, of that id of A, for 90 seconds.
+pub fn registration(alloc: Global, id: &str) -> Result<Command, Fault> {
+    let app = App::read(alloc, "A")?;
+    let id = Id::read(alloc, id)?;
+    let rest = Rest::of_host(alloc, "h")?;
+    Ok(Command::Register {
+        instance: Instance {
+            key: Key { app, id },
+            status: Status::Up,
+            overridden: Status::Unknown,
+            dirty: 5,
+            secs: 90,
+            interval: 30,
+            rest,
+        },
+        replicated: false,
+    })
 }
 
 /// Whether a client registers A/i1 at the moment 0.
@@ -51,7 +50,15 @@ pub fn registers<K: Label, R: Wait>(
     alloc: Global,
     pass: &mut Pass<K>,
 ) -> bool {
-    registers_as(rt, shared, alloc, pass, "i1")
+    let Some(moment) = Moment::new(0) else {
+        return false;
+    };
+    match registration(alloc, "i1") {
+        Ok(command) => pass
+            .ask(rt, shared, alloc, command, moment, &mut FirstChooser)
+            .is_ok(),
+        Err(_) => false,
+    }
 }
 
 /// The leases that a view of counts tells.
@@ -82,7 +89,7 @@ pub fn server(alloc: Global, config: Config) -> Result<InProcess<Book, ListClock
     })
 }
 
-/// What a replicator with two turns for the peer of that number does after a registration.
+/// What a replicator with three turns for the peer of that number does after a registration.
 fn replicate<K: Label, R: Wait>(
     site: &Site<'_, K, R, Open>,
     number: u32,
@@ -93,7 +100,7 @@ fn replicate<K: Label, R: Wait>(
         return Err(Fault::OutOfMemory);
     }
     let mut clock = ListClock::new(Vec::new(site.alloc));
-    let (pass, ended) = run_replicator(site, number, pass, peer, &mut clock, 2);
+    let (pass, ended) = run_replicator(site, number, pass, peer, &mut clock, 3);
     drop(pass);
     Ok(ended)
 }
@@ -130,7 +137,7 @@ fn send_from<K: Label, R: Wait>(
     reach(&site, number, config)
 }
 
-/// What a replicator with two turns for the peer of that number did after a registration, and how many leases the other server holds
+/// What a replicator with three turns for the peer of that number did after a registration, and how many leases the other server holds
 /// then. The server has one peer, of the number 0.
 fn send<K: Label, R: Wait>(
     rt: &R,
@@ -154,11 +161,11 @@ fn sent<R: Wait>(rt: &R, alloc: Global, number: u32) -> Result<(Ended, u64), Fau
 #[test]
 fn a_replicator_sends_what_waits(rt: HostRuntime) -> Result<(), Fail> {
     let (ended, held) = sent(&rt, rt.alloc(), 0)?;
-    let two = Ended {
-        turns: 2,
+    let three = Ended {
+        turns: 3,
         refused: 0,
     };
-    assert!(rt; ended == two && held == 1);
+    assert!(rt; ended == three && held == 1);
     Ok(())
 }
 
@@ -166,8 +173,8 @@ fn a_replicator_sends_what_waits(rt: HostRuntime) -> Result<(), Fail> {
 fn a_replicator_goes_on_after_a_refused_turn(rt: HostRuntime) -> Result<(), Fail> {
     let (ended, held) = sent(&rt, rt.alloc(), 1)?;
     let refused = Ended {
-        turns: 2,
-        refused: 2,
+        turns: 3,
+        refused: 3,
     };
     assert!(rt; ended == refused && held == 0);
     Ok(())

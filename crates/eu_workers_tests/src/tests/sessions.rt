@@ -229,7 +229,8 @@ fn keep<K: Label>(
     hand: Hand<'_, K>,
 ) -> Result<(), Fault> {
     match hand {
-        Worker::Done(pass, ended) => {
+        Worker::Done(pass, ended, work) => {
+            drop(work);
             all.turns = all.turns.saturating_add(ended.turns);
             all.refused = all.refused.saturating_add(ended.refused);
             passes.push(pass)?;

@@ -1,29 +1,60 @@
-//! After each turn a worker trims the log of its pass.
+//! Before each turn a worker passes the gate, and after it the log of its pass is trimmed.
 ghost use Rattle.std.specs.Prelude.{◌≡◌};
 
-use crate::tests::replicas::{Open, registers, server};
+use crate::tests::replicas::{registers, server};
 use crate::tests::timers::begins;
 use eu_base::{Config, Fault};
 use eu_clock::{FirstChooser, ListClock};
 use eu_routes::Routes;
 use eu_shared::{Blanks, Label, Pass, Shared};
 use eu_workers::{
-    Site, Source, run_bucket, run_evictor, run_replicator, run_sessions, run_threshold,
+    Ended, Gate, Go, Point, Site, Source, run_bucket, run_evictor, run_replicator, run_sessions,
+    run_threshold,
 };
 use std::alloc::Global;
 use std::marker::Brand;
 use std::sync::Wait;
+use std::sync::atomic::{AtomicU64, Ordering};
 use std::test::Fail;
 
-/// How many entries a log has, and whether it has those of the turn alone.
+/// A gate that lets each worker have two turns.
+#[derive(Drop)]
+struct Twice {
+    turns: AtomicU64,
+}
+
+impl Twice {
+    /// Lets the next worker have its two turns.
+    fn renew(&self) {
+        self.turns.store(0, Ordering::SeqCst);
+    }
+}
+
+impl Gate for Twice {
+    fn pass(&self, _who: u32, point: Point) -> Go {
+        if point == Point::Turn && self.turns.fetch_add(1, Ordering::SeqCst) >= 2 {
+            Go::Stop
+        } else {
+            Go::On
+        }
+    }
+}
+
+/// The turns that a worker may have, of which the gate lets it have two.
+const LIMIT: u64 = 9;
+
+/// How many turns a worker had, how many entries its log has then, and whether it has those of the turns alone.
 #[derive(Clone, Copy, PartialEq, Eq)]
 struct Left {
+    turns: u64,
     logged: usize,
     is_trimmed: bool,
 }
 
-/// A pass by which A/i1 was registered, and by which the journal began anew then; and the number of the registration's entry.
-fn stale<K: Label, R: Wait>(site: &Site<'_, K, R, Open>) -> Result<(Pass<K>, u64), Fault> {
+/// A pass by which A/i1 was registered, and by which the journal began anew then; and the number of the registration's entry. The gate
+/// lets its worker have two turns.
+fn stale<K: Label, R: Wait>(site: &Site<'_, K, R, Twice>) -> Result<(Pass<K>, u64), Fault> {
+    site.gate.renew();
     let mut pass = site.shared.pass(site.rt, site.alloc)?;
     if !registers(site.rt, site.shared, site.alloc, &mut pass) {
         return Err(Fault::OutOfMemory);
@@ -35,29 +66,33 @@ fn stale<K: Label, R: Wait>(site: &Site<'_, K, R, Open>) -> Result<(Pass<K>, u64
     }
 }
 
-/// What is left in the log of a pass, where the entry of that number was made before the turn.
-fn what_is_left<K: Label>(pass: Pass<K>, before: u64) -> Left {
+/// What is left in the log of a worker's pass, where the entry of that number was made before its turns.
+fn what_is_left<K: Label>(worked: (Pass<K>, Ended), before: u64) -> Left {
+    let (pass, ended) = worked;
     let logged = pass.log().len();
     let is_trimmed = match begins(&pass) {
         Some(number) => number > before,
         None => true,
     };
     drop(pass);
-    Left { logged, is_trimmed }
+    Left {
+        turns: ended.turns,
+        logged,
+        is_trimmed,
+    }
 }
 
 fn clock(alloc: Global) -> ListClock {
     ListClock::new(Vec::new(alloc))
 }
 
-/// Connections, so many, by each of which A/i1 is renewed, and before each of which the journal begins anew.
+/// Connections, by each of which A/i1 is renewed, and before each of which the journal begins anew.
 #[derive(Drop)]
 struct Renewing<'a, K: Label, R: Wait> {
     rt: &'a R,
     shared: &'a Shared<K>,
     alloc: Global,
     other: Pass<K>,
-    left: u32,
 }
 
 impl<K: Label, R: Wait> Source for Renewing<'_, K, R> {
@@ -66,10 +101,6 @@ impl<K: Label, R: Wait> Source for Renewing<'_, K, R> {
     type Writer = Vec<u8>;
 
     fn next(&mut self) -> Option<(&'static [u8], Vec<u8>)> {
-        if self.left == 0 {
-            return None;
-        }
-        self.left -= 1;
         self.other
             .checkpoint(self.rt, self.shared, self.alloc)
             .ok()?;
@@ -81,53 +112,54 @@ impl<K: Label, R: Wait> Source for Renewing<'_, K, R> {
 
 const RENEWAL: &str = "PUT /eureka/apps/A/i1 HTTP/1.1\r\nHost: x\r\n\r\n";
 
-/// What three sessions leave.
-fn after_sessions<K: Label, R: Wait>(site: &Site<'_, K, R, Open>) -> Result<Left, Fault> {
+/// What sessions leave.
+fn after_sessions<K: Label, R: Wait>(site: &Site<'_, K, R, Twice>) -> Result<Left, Fault> {
     let (pass, before) = stale(site)?;
     let mut source = Renewing {
         rt: site.rt,
         shared: site.shared,
         alloc: site.alloc,
         other: site.shared.pass(site.rt, site.alloc)?,
-        left: 3,
     };
-    let (pass, _) = run_sessions(site, 1, pass, &mut source, &mut clock(site.alloc), 4);
-    Ok(what_is_left(pass, before))
+    let worked = run_sessions(site, 1, pass, &mut source, &mut clock(site.alloc), LIMIT);
+    drop(source);
+    Ok(what_is_left(worked, before))
 }
 
 /// What the evictor leaves.
-fn after_eviction<K: Label, R: Wait>(site: &Site<'_, K, R, Open>) -> Result<Left, Fault> {
+fn after_eviction<K: Label, R: Wait>(site: &Site<'_, K, R, Twice>) -> Result<Left, Fault> {
     let (pass, before) = stale(site)?;
-    let (pass, _) = run_evictor(site, pass, &mut clock(site.alloc), &mut FirstChooser, 1);
-    Ok(what_is_left(pass, before))
+    let worked = run_evictor(site, pass, &mut clock(site.alloc), &mut FirstChooser, LIMIT);
+    Ok(what_is_left(worked, before))
 }
 
 /// What the bucket's worker leaves.
-fn after_roll<K: Label, R: Wait>(site: &Site<'_, K, R, Open>) -> Result<Left, Fault> {
+fn after_roll<K: Label, R: Wait>(site: &Site<'_, K, R, Twice>) -> Result<Left, Fault> {
     let (pass, before) = stale(site)?;
-    let (pass, _) = run_bucket(site, pass, &mut clock(site.alloc), 1);
-    Ok(what_is_left(pass, before))
+    let worked = run_bucket(site, pass, &mut clock(site.alloc), LIMIT);
+    Ok(what_is_left(worked, before))
 }
 
 /// What the threshold's worker leaves.
-fn after_update<K: Label, R: Wait>(site: &Site<'_, K, R, Open>) -> Result<Left, Fault> {
+fn after_update<K: Label, R: Wait>(site: &Site<'_, K, R, Twice>) -> Result<Left, Fault> {
     let (pass, before) = stale(site)?;
-    let (pass, _) = run_threshold(site, pass, &mut clock(site.alloc), 1);
-    Ok(what_is_left(pass, before))
+    let worked = run_threshold(site, pass, &mut clock(site.alloc), LIMIT);
+    Ok(what_is_left(worked, before))
 }
 
 /// What the replicator leaves.
 fn after_batch<K: Label, R: Wait>(
-    site: &Site<'_, K, R, Open>,
+    site: &Site<'_, K, R, Twice>,
     config: Config,
 ) -> Result<Left, Fault> {
     let (pass, before) = stale(site)?;
     let mut peer = server(site.alloc, config)?;
-    let (pass, _) = run_replicator(site, 0, pass, &mut peer, &mut clock(site.alloc), 1);
-    Ok(what_is_left(pass, before))
+    let worked = run_replicator(site, 0, pass, &mut peer, &mut clock(site.alloc), LIMIT);
+    drop(peer);
+    Ok(what_is_left(worked, before))
 }
 
-/// What each worker leaves after a turn.
+/// What each worker leaves after two turns.
 #[derive(Clone, Copy, PartialEq, Eq)]
 struct Leaving {
     sessions: Left,
@@ -138,7 +170,7 @@ struct Leaving {
 }
 
 fn work_at<K: Label, R: Wait>(
-    site: &Site<'_, K, R, Open>,
+    site: &Site<'_, K, R, Twice>,
     config: Config,
 ) -> Result<Leaving, Fault> {
     Ok(Leaving {
@@ -163,7 +195,9 @@ fn work_on<K: Label, R: Wait>(
         alloc,
         shared,
         routes: &routes,
-        gate: &Open,
+        gate: &Twice {
+            turns: AtomicU64::new(0),
+        },
     };
     work_at(&site, config)
 }
@@ -187,22 +221,23 @@ fn worked<R: Wait>(rt: &R, alloc: Global) -> Result<Leaving, Fault> {
     work::<Brand, R>(rt, alloc, Blanks::new(), config)
 }
 
-/// What is left of so many entries of the turn.
+/// What is left of two turns, with so many entries of theirs.
 fn trimmed(logged: usize) -> Left {
     Left {
+        turns: 2,
         logged,
         is_trimmed: true,
     }
 }
 
 #[test]
-fn each_worker_trims_its_log(rt: HostRuntime) -> Result<(), Fail> {
+fn each_worker_has_two_turns_and_trims_its_log(rt: HostRuntime) -> Result<(), Fail> {
     let left = worked(&rt, rt.alloc())?;
     let wanted = Leaving {
         sessions: trimmed(1),
-        evictor: trimmed(1),
-        bucket: trimmed(1),
-        threshold: trimmed(1),
+        evictor: trimmed(2),
+        bucket: trimmed(2),
+        threshold: trimmed(2),
         replicator: trimmed(2),
     };
     assert!(rt; left == wanted);

@@ -1,8 +1,7 @@
 //! Whom the evictor evicts: at the moment of its clock, by the words of its chooser.
 ghost use Rattle.std.specs.Prelude.{◌≡◌};
 
-use crate::tests::replicas::Open;
-use crate::tests::turns::registration;
+use crate::tests::replicas::{Open, registration};
 use eu_base::{Config, Fault, Key, Moment};
 use eu_clock::{FirstChooser, ListChooser, ListClock};
 use eu_model::Reply;

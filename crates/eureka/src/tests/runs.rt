@@ -20,6 +20,8 @@ enum Broken {
     Words,
     /// No connection can be accepted.
     Accept,
+    /// The monotonic clock can't be read.
+    Clock,
     /// Standard output takes no bytes.
     Output,
 }
@@ -57,6 +59,9 @@ impl<R: Wait> Wait for Machine<'_, R> {}
 
 impl<R: Clock> Clock for Machine<'_, R> {
     fn monotonic(&self) -> io::Result<Duration> {
+        if self.broken == Broken::Clock {
+            return Err(Error::from(ErrorKind::Unsupported));
+        }
         self.rt.monotonic()
     }
 
@@ -230,25 +235,27 @@ const REGISTERED: &str = "opened\n204\n204\n204\n204\n";
 const PAGE: &str =
     "held 2\nexpected 8\nthreshold 12\nlast 0\npreservation off\npermitted yes\nstatuses UP_2_\n";
 
-/// Whether a run of that script by such a seed evicts these two.
+/// The words of such a run.
+const WORDS: [&str; 8] = [
+    "eureka",
+    "script",
+    "--preservation",
+    "off",
+    "--percent",
+    "50",
+    "--interval",
+    "20",
+];
+
+/// Whether a run of that script with these words more evicts these two.
 fn evicts<R: Threads + Wait + Clock + Net<Listener = TcpListener, Stream = TcpStream> + Sync>(
     rt: &R,
     alloc: Global,
-    seed: &str,
+    more: &[&'static str],
     victims: &str,
 ) -> Result<bool, Fail> {
-    let words = [
-        "eureka",
-        "script",
-        "--preservation",
-        "off",
-        "--percent",
-        "50",
-        "--interval",
-        "20",
-        "--seed",
-        seed,
-    ];
+    let mut words = Vec::from_slice(alloc, WORDS.as_slice())?;
+    words.extend_from_slice(more)?;
     let ran = run(rt, alloc, words.as_slice(), SCRIPT);
     let wanted = format!(in alloc; "{REGISTERED}evicted 2 {victims}\n{PAGE}")?;
     Ok(ran.status == 0 && ran.out.as_slice() == wanted.as_bytes() && ran.err.is_empty())
@@ -257,10 +264,33 @@ fn evicts<R: Threads + Wait + Clock + Net<Listener = TcpListener, Stream = TcpSt
 /// The words of PCG XSH RR 64/32 for these seeds, as another program computes them, draw these victims.
 #[test]
 fn a_script_goes_by_its_options(rt: HostRuntime) -> Result<(), Fail> {
-    assert!(rt; evicts(&rt, rt.alloc(), "3", "A i3 A i1")?);
-    assert!(rt; evicts(&rt, rt.alloc(), "42", "A i0 A i2")?);
-    assert!(rt; evicts(&rt, rt.alloc(), "7", "A i1 A i3")?);
+    assert!(rt; evicts(&rt, rt.alloc(), ["--seed", "3"].as_slice(), "A i3 A i1")?);
+    assert!(rt; evicts(&rt, rt.alloc(), ["--seed", "42"].as_slice(), "A i0 A i2")?);
+    assert!(rt; evicts(&rt, rt.alloc(), ["--seed", "7"].as_slice(), "A i1 A i3")?);
     Ok(())
+}
+
+#[test]
+fn without_a_seed_the_first_are_evicted(rt: HostRuntime) -> Result<(), Fail> {
+    assert!(rt; evicts(&rt, rt.alloc(), [].as_slice(), "A i0 A i1")?);
+    Ok(())
+}
+
+/// A pass that comes later after the one before than `--evict-ms` says gives each lease as much time more.
+#[test]
+fn a_script_has_the_interval_of_its_passes(rt: HostRuntime) {
+    let words = [
+        "eureka",
+        "script",
+        "--preservation",
+        "off",
+        "--evict-ms",
+        "500",
+    ];
+    let script = "open 1\nevict 0\nregister 0 A i0 1 UP UNKNOWN 0 c\nevict 10000\n";
+    let ran = run(&rt, rt.alloc(), words.as_slice(), script);
+    assert!(rt; ran.status == 0);
+    assert!(rt; ran.out.as_slice() == b"opened\nevicted 0\n204\nevicted 0\n".as_slice());
 }
 
 #[test]
@@ -327,6 +357,15 @@ fn served_that_is_not_taken_is_told_by_its_fault(rt: HostRuntime) {
 fn connections_that_are_not_accepted_are_told_by_their_fault(rt: HostRuntime) {
     let words = ["eureka", "serve", "--port", "0", "--sessions", "1"];
     let ran = run_broken(&rt, rt.alloc(), words.as_slice(), "", Broken::Accept);
+    assert!(rt; ran.status == 3);
+    assert!(rt; ran.out.is_empty());
+    assert!(rt; ran.err.ends_with(b"\nfault 40\n"));
+}
+
+#[test]
+fn a_clock_that_is_not_read_is_told_by_its_fault(rt: HostRuntime) {
+    let words = ["eureka", "serve", "--port", "0", "--sessions", "0"];
+    let ran = run_broken(&rt, rt.alloc(), words.as_slice(), "", Broken::Clock);
     assert!(rt; ran.status == 3);
     assert!(rt; ran.out.is_empty());
     assert!(rt; ran.err.ends_with(b"\nfault 40\n"));
@@ -508,34 +547,38 @@ fn is_gone<R: Net<Stream = TcpStream> + Clock>(
 const TWO_LEFT: &str =
     "HTTP/1.1 200 OK\r\nContent-Type: text/plain; charset=utf-8\r\nContent-Length: 85\r\nConnection: close\r\n\r\nheld 2\nexpected 11\nthreshold 16\nlast 0\npreservation off\npermitted yes\nstatuses UP_2_\n";
 
-/// What clients of a server see, while one keeps a worker: whether four register, and six seconds later two of them are gone, those that
-/// the words of the seed 3 draw; and then the first one is answered.
-fn visit<R: Wait + Clock + Net<Stream = TcpStream>>(machine: &Machine<'_, R>) -> io::Result<bool> {
+/// What clients of a server see, while two keep a worker each: whether four register, and six seconds later these two are gone; and then
+/// the first one is answered.
+fn visit<R: Wait + Clock + Net<Stream = TcpStream>>(
+    machine: &Machine<'_, R>,
+    gone: [&str; 2],
+) -> io::Result<bool> {
     let (rt, alloc) = (machine.rt, machine.alloc);
     let address = address_told(machine)?;
     let silent = TcpStream::connect(rt, address)?;
+    let _other = TcpStream::connect(rt, address)?;
     let mut as_told = true;
     for id in ["i0", "i1", "i2", "i3"] {
         as_told = is_registered(rt, alloc, address, id)? && as_told;
     }
     thread::sleep(rt, Duration::from_millis(6_000));
-    for id in ["i1", "i3"] {
+    for id in gone {
         as_told = is_gone(rt, alloc, address, id)? && as_told;
     }
     let page = answered(alloc, silent, LOOK)?;
     Ok(as_told && page.as_slice() == TWO_LEFT.as_bytes())
 }
 
-/// The words of a server of seven sessions, two at once, which evicts after four seconds, by the words of the seed 3.
+/// The words of a server of eight sessions, three at once, which evicts after four seconds, by the words of the seed 3.
 const SERVE: [&str; 20] = [
     "eureka",
     "serve",
     "--port",
     "0",
     "--sessions",
-    "7",
+    "8",
     "--workers",
-    "2",
+    "3",
     "--expected",
     "7",
     "--preservation",
@@ -550,21 +593,32 @@ const SERVE: [&str; 20] = [
     "3",
 ];
 
-/// A run of that server, and whether its clients see what they are to.
+/// A run of a server with these words, and whether its clients see that these two are gone.
 fn run_visited<R: Threads + Wait + Clock + Net<Listener = TcpListener, Stream = TcpStream> + Sync>(
     rt: &R,
     alloc: Global,
+    words: &[&str],
+    gone: [&str; 2],
 ) -> (Ran, io::Result<bool>) {
-    let machine = prepared(rt, alloc, SERVE.as_slice(), "", Broken::Nothing);
-    let (status, seen) = thread::join(rt, || start(&machine), || visit(&machine));
+    let machine = prepared(rt, alloc, words, "", Broken::Nothing);
+    let (status, seen) = thread::join(rt, || start(&machine), || visit(&machine, gone));
     (kept_by(machine, status), seen)
 }
 
 #[test]
 fn a_server_evicts_by_its_seed(rt: HostRuntime) -> Result<(), Fail> {
-    let (ran, seen) = run_visited(&rt, rt.alloc());
+    let (ran, seen) = run_visited(&rt, rt.alloc(), SERVE.as_slice(), ["i1", "i3"]);
     assert!(rt; seen?);
     assert!(rt; ran.status == 0);
-    assert!(rt; ran.out.as_slice() == b"served 7\n".as_slice());
+    assert!(rt; ran.out.as_slice() == b"served 8\n".as_slice());
+    Ok(())
+}
+
+#[test]
+fn a_server_without_a_seed_evicts_the_first(rt: HostRuntime) -> Result<(), Fail> {
+    let (ran, seen) = run_visited(&rt, rt.alloc(), &SERVE[..18], ["i0", "i1"]);
+    assert!(rt; seen?);
+    assert!(rt; ran.status == 0);
+    assert!(rt; ran.out.as_slice() == b"served 8\n".as_slice());
     Ok(())
 }

@@ -43,9 +43,9 @@ pub fn registration(alloc: Global, id: &str) -> Result<Command, Fault> {
     })
 }
 
-/// A peer registers i1 with this stamp.
-fn replicated(alloc: Global, dirty: u32) -> Result<Command, Fault> {
-    let mut instance = instance(alloc, "i1")?;
+/// A peer registers the instance of that id with this stamp.
+fn replicated(alloc: Global, id: &str, dirty: u32) -> Result<Command, Fault> {
+    let mut instance = instance(alloc, id)?;
     instance.dirty = u64::from(dirty);
     Ok(Command::Register {
         instance,
@@ -53,10 +53,10 @@ fn replicated(alloc: Global, dirty: u32) -> Result<Command, Fault> {
     })
 }
 
-/// A client renews i1, and gives no stamp.
-fn renewal(alloc: Global) -> Result<Command, Fault> {
+/// A client renews the instance of that id, and gives no stamp.
+fn renewal(alloc: Global, id: &str) -> Result<Command, Fault> {
     Ok(Command::Renew {
-        key: key(alloc, "i1")?,
+        key: key(alloc, id)?,
         dirty: None,
         overridden: None,
         replicated: false,
@@ -71,22 +71,22 @@ fn cancel(alloc: Global) -> Result<Command, Fault> {
     })
 }
 
-/// A client overrides the status of i1, with the stamp 7.
-fn out_of_service(alloc: Global) -> Result<Command, Fault> {
+/// The status of i1 is overridden, with the stamp 7, by a client or a peer.
+fn out_of_service(alloc: Global, replicated: bool) -> Result<Command, Fault> {
     Ok(Command::SetStatus {
         key: key(alloc, "i1")?,
         status: Status::OutOfService,
         dirty: Stamp::new(7),
-        replicated: false,
+        replicated,
     })
 }
 
-/// A client takes that back.
+/// A client takes that back, with the stamp 9.
 fn in_service(alloc: Global) -> Result<Command, Fault> {
     Ok(Command::UnsetStatus {
         key: key(alloc, "i1")?,
         status: Some(Status::Up),
-        dirty: None,
+        dirty: Stamp::new(9),
         replicated: false,
     })
 }
@@ -260,7 +260,7 @@ fn a_registration_is_told(rt: HostRuntime) {
 fn loses(alloc: Global, pair: &mut Pair) -> bool {
     tells(alloc, pair);
     tell(alloc, &mut pair.there.desk, cancel(alloc), at(1))
-        && tell(alloc, &mut pair.here, renewal(alloc), at(2))
+        && tell(alloc, &mut pair.here, renewal(alloc, "i1"), at(2))
 }
 
 /// A turn at a moment, and how many leases the other server holds then.
@@ -294,16 +294,16 @@ fn what_a_peer_lost_is_registered_again(rt: HostRuntime) {
     assert!(rt; found == Ok((true, first, second, Some(Turn::Idle))));
 }
 
-/// The peer holds i1 with a later stamp, and the client renews it.
-fn differs(alloc: Global, pair: &mut Pair) -> bool {
-    tell(alloc, &mut pair.here, replicated(alloc, 5), at(0))
-        && tell(alloc, &mut pair.there.desk, replicated(alloc, 9), at(0))
-        && tell(alloc, &mut pair.here, renewal(alloc), at(1))
+/// The peer holds the instance of that id with a later stamp, and the client renews it.
+fn differs(alloc: Global, pair: &mut Pair, id: &str) -> bool {
+    tell(alloc, &mut pair.here, replicated(alloc, id, 5), at(0))
+        && tell(alloc, &mut pair.there.desk, replicated(alloc, id, 9), at(0))
+        && tell(alloc, &mut pair.here, renewal(alloc, id), at(1))
 }
 
 /// Whether that is done, what a turn does then, and how the one server holds i1 after it.
 fn adopts(alloc: Global, pair: &mut Pair) -> (bool, Option<Turn>, Option<(u64, Status)>) {
-    let differs = differs(alloc, pair);
+    let differs = differs(alloc, pair, "i1");
     let sent = sends(alloc, pair, at(2));
     (differs, sent, seen(alloc, &pair.here))
 }
@@ -312,6 +312,57 @@ fn adopts(alloc: Global, pair: &mut Pair) -> (bool, Option<Turn>, Option<(u64, S
 fn a_newer_instance_is_adopted(rt: HostRuntime) {
     let adopted = on_pair(rt.alloc(), adopts);
     assert!(rt; adopted == Ok((true, sent(1, 1), Some((9, Status::Up)))));
+}
+
+/// What a turn does where that is so of two instances, and what the next one does.
+fn adopts_both(alloc: Global, pair: &mut Pair) -> (Option<Turn>, Option<Turn>) {
+    differs(alloc, pair, "i1");
+    differs(alloc, pair, "i2");
+    let sent = sends(alloc, pair, at(2));
+    (sent, sends(alloc, pair, at(3)))
+}
+
+#[test]
+fn two_newer_instances_are_adopted(rt: HostRuntime) {
+    let adopted = on_pair(rt.alloc(), adopts_both);
+    assert!(rt; adopted == Ok((sent(2, 2), Some(Turn::Idle))));
+}
+
+/// The status by which the lease that a view shows is overridden.
+fn overridden(view: &View) -> Option<Status> {
+    match view {
+        View::One(Some(listed)) => Some(listed.instance.overridden),
+        _ => None,
+    }
+}
+
+/// The status by which i1 is overridden where a book holds it.
+fn overridden_at(alloc: Global, book: &Book) -> Option<Status> {
+    let key = key(alloc, "i1").ok()?;
+    let view = book.read(alloc, &Query::One(key), at(0)).ok()?;
+    overridden(&view)
+}
+
+/// The one server knows of an override of which the other wasn't told, and the client renews i1: by what it is overridden at the other
+/// server after a turn.
+fn is_brought(alloc: Global, pair: &mut Pair) -> (Option<Turn>, Option<Status>) {
+    tell(alloc, &mut pair.here, replicated(alloc, "i1", 5), at(0));
+    tell(
+        alloc,
+        &mut pair.there.desk,
+        replicated(alloc, "i1", 5),
+        at(0),
+    );
+    tell(alloc, &mut pair.here, out_of_service(alloc, true), at(1));
+    tell(alloc, &mut pair.here, renewal(alloc, "i1"), at(2));
+    let sent = sends(alloc, pair, at(3));
+    (sent, overridden_at(alloc, &pair.there.desk))
+}
+
+#[test]
+fn a_heartbeat_brings_the_override(rt: HostRuntime) {
+    let brought = on_pair(rt.alloc(), is_brought);
+    assert!(rt; brought == Ok((sent(1, 0), Some(Status::OutOfService))));
 }
 
 /// A client does that to i1, and a turn tells the other server.
@@ -328,7 +379,7 @@ fn changes(
 /// How the other server holds i1 after its status was overridden, and after that was taken back.
 fn overrides(alloc: Global, pair: &mut Pair) -> (Option<(u64, Status)>, Option<(u64, Status)>) {
     tells(alloc, pair);
-    let out = changes(alloc, pair, out_of_service(alloc));
+    let out = changes(alloc, pair, out_of_service(alloc, false));
     (out, changes(alloc, pair, in_service(alloc)))
 }
 
@@ -336,7 +387,7 @@ fn overrides(alloc: Global, pair: &mut Pair) -> (Option<(u64, Status)>, Option<(
 fn an_override_is_told_and_taken_back(rt: HostRuntime) {
     let seen = on_pair(rt.alloc(), overrides);
     let out = Some((7, Status::OutOfService));
-    assert!(rt; seen == Ok((out, Some((7, Status::Up)))));
+    assert!(rt; seen == Ok((out, Some((9, Status::Up)))));
 }
 
 /// Three clients register at 0.

@@ -1,9 +1,9 @@
 //! Two servers, each with its book behind a lock, of which each is the other's peer.
 ghost use Rattle.std.specs.Prelude.{◌≡◌};
 
-use crate::tests::replicas::registers_as;
+use crate::tests::turns::registration;
 use eu_base::{Config, Fault, Moment};
-use eu_clock::ListClock;
+use eu_clock::{FirstChooser, ListClock};
 use eu_model::{Query, View};
 use eu_peer::{InProcess, Turn, replicate_turn};
 use eu_shared::{Blanks, Label, Pass, Seat, Shared};
@@ -58,6 +58,25 @@ fn held<K: Label, R: Wait>(rt: &R, shared: &Shared<K>, alloc: Global, pass: &mut
     }
 }
 
+/// Whether a client registers the instance of that id of A at the moment 0.
+fn registers<K: Label, R: Wait>(
+    rt: &R,
+    shared: &Shared<K>,
+    alloc: Global,
+    pass: &mut Pass<K>,
+    id: &str,
+) -> bool {
+    let Some(moment) = Moment::new(0) else {
+        return false;
+    };
+    match registration(alloc, id) {
+        Ok(command) => pass
+            .ask(rt, shared, alloc, command, moment, &mut FirstChooser)
+            .is_ok(),
+        Err(_) => false,
+    }
+}
+
 /// Whether 250 clients register at the moment 0: as many as a batch has tasks.
 fn all_register<K: Label, R: Wait>(
     rt: &R,
@@ -67,7 +86,7 @@ fn all_register<K: Label, R: Wait>(
 ) -> Result<bool, Fault> {
     for number in 0..250 {
         let id = format!(in alloc; "j{number}")?;
-        if !registers_as(rt, shared, alloc, pass, &id) {
+        if !registers(rt, shared, alloc, pass, &id) {
             return Ok(false);
         }
     }

@@ -1,4 +1,4 @@
-use Rattle.eu_workers_tests.proofs.tests.servers.met.Given as goal
+use Rattle.eu_peer_tests.proofs.tests.servers.met.Given as goal
 
 abbrev pub ghosts-open_both-K-Label : goal.ghosts-open_both-K-Label
 ghosts-open_both-K-Label g a = record { steps = a.blanks.steps.name; counted = a.blanks.counted.name; added = a.blanks.added.name; removed = a.blanks.removed.name; parts = a.blanks.steps.parts }

@@ -1,0 +1,5 @@
+//! Tests of peers.
+#![tactic(auto)]
+
+#[cfg(test)]
+mod tests;

@@ -1,0 +1,5 @@
+use Rattle.eu_workers.proofs.TrimLemmas.{trims}
+use Rattle.eu_workers.proofs.replicator.turn.Goals as goal
+
+pub returns : goal.returns
+returns g c = trims _ _ c.trim.ensures

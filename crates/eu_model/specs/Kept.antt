@@ -1,4 +1,4 @@
--- The steps, taken on what is kept: no rule stands here a second time
+-- The steps, taken on what is kept: changes of one lease by the rules of `Change`; expiry, visibility, faults and passes as `Law` shows them to be those of the machine
 use Rattle.std.specs.Prelude.{◌≡◌, ℕ, ◌+◌, ◌^◌, ◌==◌, Bool, ◌&&◌, nat_lt, if◌then◌else◌, Option, Some, None, List, [], ◌∷◌, length, map, filter, All, Contains}
 use Rattle.std.specs.Option.{option_map}
 use Rattle.std.specs.List.{IsDistinct}

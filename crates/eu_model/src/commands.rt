@@ -1,6 +1,6 @@
 //! Commands and replies.
 ghost use Rattle.std.specs.Prelude.{◌≡◌, ◌↔◌, true, IfOk, IsOk, IsTrue};
-ghost use Rattle.eu_model.specs.Owned.{owns_nothing};
+ghost use Rattle.eu_model.specs.Owned.{names_nothing, owns_nothing};
 
 use crate::{Keys, Tasks};
 use eu_base::{Codes, Instance, Key, Moment, Stamp, Status};
@@ -130,7 +130,8 @@ impl Command {
 
     /// The same command once more. Takes memory for its key, its instance or its codes alone; `AllocError` where none is left.
     pub fn copy(&self, alloc: Global) -> Result<Command, AllocError>
-        ensures { IfOk result (λ c. c ≡ self.now) }
+        ensures same { IfOk result (λ c. c ≡ self.now) }
+        ensures memory { names_nothing self.now ≡ true → IsOk result }
     {
         match self {
             Command::Register {
@@ -392,7 +393,7 @@ pub enum Reply {
     },
     /// It is done.
     Done,
-    /// No lease is there, or it isn't to be renewed.
+    /// No lease is there; or it isn't to be renewed, or, for a change of status, it isn't visible.
     NotFound,
     /// The sender knows a newer instance than the registry, and is to register it.
     Stale,

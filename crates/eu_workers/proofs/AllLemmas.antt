@@ -1,5 +1,5 @@
 -- All workers, place by place
-use Rattle.std.proofs.Common.{◌≡◌, ◌<◌, ◌≤◌, ◌+◌, ◌∙◌, ℕ, List, set, get_or, length, arith, subst, sym, ⊎_elim, get_or-set_same, get_or-set_other}
+use Rattle.std.proofs.Common.{◌≡◌, ◌<◌, ◌≤◌, ◌+◌, ◌-◌, ◌∙◌, ℕ, List, set, get_or, length, arith, subst, sym, ap, ⊎_elim, get_or-set_same, get_or-set_other}
 use Rattle.std.proofs.lemmas.Bool.{cases_lt}
 use Rattle.std.proofs.lemmas.List.{get_or_default}
 use Rattle.eu_workers.specs.declared.all.Worker.{Worker}
@@ -12,6 +12,21 @@ ended (Ready job) v w n r = subst (λ x. HasRun x w) n.1 r
 ended (Numbered k job) v w n r = subst (λ x. HasRun x w) n r
 ended Working v w n r = subst (λ x. HasRun x w) n r
 ended (Done q e left) v w n r = subst (λ x. HasRun x w) n r
+
+-- what a relation does to each element of a list that is turned round, turned back
+pub turned : {X : Type 0} (R : X → X → Type 0) (old mid now new : List X)
+    → length mid ≡ length old → length now ≡ length old
+    → ((k : ℕ) (d : X) → k < length old → get_or mid k d ≡ get_or old (length old - 1 - k) d)
+    → ((k : ℕ) (d : X) → k < length now → get_or new k d ≡ get_or now (length now - 1 - k) d)
+    → ((i : ℕ) (d : X) → i < length mid → R (get_or mid i d) (get_or now i d))
+    → (i : ℕ) (d : X) → i < length old → R (get_or old i d) (get_or new i d)
+turned {X} R old mid now new mids nows there back each i d below =
+    let j = length old - 1 - i in
+    let few : j < length old = omega (arith, below) in
+    let twice : length old - 1 - j ≡ i = omega (arith, below) in
+    let from : get_or mid j d ≡ get_or old i d = there j d few ∙ ap (λ (k : ℕ). get_or old k d) twice in
+    let at : get_or new i d ≡ get_or now j d = back i d (subst (λ (n : ℕ). i < n) (sym nows) below) ∙ ap (λ (n : ℕ). get_or now (n - 1 - i) d) nows in
+    subst (λ (v : X). R v (get_or new i d)) from (subst (λ (v : X). R (get_or mid j d) v) (sym at) (each j d (subst (λ (n : ℕ). j < n) (sym mids) few)))
 
 -- one more element of a list is changed by a relation
 module _ {X : Type 0} (R : X → X → Type 0) (old now : List X) (i : ℕ) (d₀ y : X) where

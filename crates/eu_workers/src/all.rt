@@ -155,8 +155,8 @@ fn run_worker<
     }
 }
 
-/// Has each worker that has its number do its job, in a thread of its own where one can be made.
-fn run_each<
+/// Has each worker that has its number do its job, in a thread of its own where one can be made, else after those behind it.
+fn run_backwards<
     K: Label + Send + Sync,
     R: Threads + Wait + Sync,
     G: Gate + Sync,
@@ -176,11 +176,29 @@ fn run_each<
     );
 }
 
+/// The same, but where no thread can be made after those before it.
+fn run_each<
+    K: Label + Send + Sync,
+    R: Threads + Wait + Sync,
+    G: Gate + Sync,
+    S: Source + Send + Drop,
+    C: Clock + Send + Drop,
+    H: Chooser + Send + Drop,
+    P: Peer + Send + Drop,
+>(site: &Site<'_, K, R, G>, workers: &mut [Worker<K, S, C, H, P>])
+    ensures { (i : ℕ) (d : _) → i < length workers.old → HasRun (slice_index_or workers.old i d) (slice_index_or workers.new i d) }
+{
+    workers.reverse();
+    run_backwards(site, workers);
+    workers.reverse();
+}
+
 /// Has each worker that is ready, or has its number already, do its job, in a thread of its own, and returns when all have ended. Where no thread can be made the
-/// jobs are done one after another, in their order. Takes no memory.
+/// jobs are done one after another, in their order; where some can, those that have none are done after those before them. Takes no memory.
 ///
-/// Session workers are numbered from 1, in their order. Workers that are at work, or done, stay as they are. The caller hands in at most 16
-/// jobs of sessions and one of each timer, and no two replicators of one peer: more would share a number at the gate.
+/// Session workers that are ready are numbered from 1, in their order. Workers that are at work, or done, stay as they are. The caller hands in at most 16
+/// jobs of sessions and one of each timer, no two replicators of one peer, and no session worker that has its number beside one that is ready: else two would
+/// share a number at the gate.
 pub fn run_all<
     K: Label + Send + Sync,
     R: Threads + Wait + Sync,

@@ -1,9 +1,7 @@
-use denote.Param.Send.{sendable}
-use Rattle.eu_workers.proofs.Crossing.{Site-sync, Worker-send}
+use Rattle.std.proofs.Common.{◌∙◌}
+use Rattle.eu_workers.specs.All.{HasRun}
+use Rattle.eu_workers.proofs.AllLemmas.{turned}
 use Rattle.eu_workers.proofs.all.run_each.Goals as goal
 
-pub for_each_mut-requires-send-T : goal.for_each_mut-requires-send-T
-for_each_mut-requires-send-T g c κs within = search (Worker-send, sendable)
-
-pub for_each_mut-requires-sync-F : goal.for_each_mut-requires-sync-F
-for_each_mut-requires-sync-F g c κs within = search (Site-sync, sendable) depth 12
+pub returns : goal.returns
+returns g c = turned HasRun _ _ _ _ c.reverse.ensures.len (c.before.run_backwards.auto.workers ∙ c.reverse.ensures.len) c.reverse.ensures.by_index c.reverse-2.ensures.by_index c.run_backwards.ensures

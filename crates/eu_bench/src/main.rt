@@ -7,23 +7,23 @@
 //! - `eu_bench leases N` has a book hold N leases, and `eu_bench checkpoints N` has it begin its journal anew 20 times then; each prints how
 //!   many leases the bases had in all that were dropped.
 //! - `eu_bench asks N` has N threads (1, 2 or 4) ask 20 shared books, one after the other, and prints how many steps were accepted.
+//! - `eu_bench check` prints what each of these comes to at a small size, of the requests of standard input.
 #![tactic(auto)]
 
 mod asks;
+mod check;
 mod checkpoints;
 mod heartbeats;
 mod listing;
 mod pieces;
-#[cfg(test)]
-mod tests;
 
 use anyhow::{Context, bail};
 use asks::count_accepted;
+use check::{check, print_totals};
 use checkpoints::count_based;
-use eu_base::Fault;
 use heartbeats::count_routed;
 use listing::listing_text;
-use pieces::{Pieces, Totals, count_requests};
+use pieces::{Pieces, count_requests};
 use std::io::Read;
 use std::rt::Env;
 use std::sync::Wait;
@@ -32,7 +32,7 @@ use std::{env, io};
 
 /// The words that the program takes.
 const USAGE: &str =
-    "eu_bench heartbeats N | pieces K | listing N | leases N | checkpoints N | asks 1|2|4, with K above 0";
+    "eu_bench heartbeats N | pieces K | listing N | leases N | checkpoints N | asks 1|2|4 | check, with K above 0";
 
 /// How often the journal begins anew.
 const CHECKPOINTS: u32 = 20;
@@ -42,20 +42,6 @@ fn input<R: Input + AllocGlobal>(rt: &R) -> io::Result<Vec<u8>> {
     let mut text = Vec::new(rt.alloc());
     rt.reader().read_to_end(&mut text)?;
     Ok(text)
-}
-
-/// Prints what the reading of requests came to.
-fn print_totals(rt: &impl Print, totals: Result<Totals, Fault>) -> io::Result<()> {
-    match totals {
-        Ok(totals) => {
-            let Totals { requests, bytes } = totals;
-            println!(rt; "{requests} requests with bodies of {bytes} bytes")
-        }
-        Err(fault) => {
-            let number = fault.number();
-            println!(rt; "fault {number}")
-        }
-    }
 }
 
 /// Does what the words say.
@@ -99,6 +85,7 @@ fn main(rt: HostRuntime) -> anyhow::Result<()> {
             let number = number.parse::<u32>().context(USAGE)?;
             run(&rt, task.as_str(), number)
         }
+        [_, task] if task.as_str() == "check" => check(&rt, input(&rt)?.as_slice()),
         _ => bail!("{USAGE}"),
     }
 }

@@ -3,7 +3,7 @@
 //!
 //! Each command that is accepted is one entry of the journal, and a step of the lease machine; the entries are at any time a
 //! run from the journal's base to the registry and the outboxes as they are. A journal that is full begins anew: what they are becomes
-//! its base, and its entries are dropped. So a book never ends, and keeps no more than so many entries.
+//! its base, and its entries are dropped. So a book goes on for 2^62 steps, and keeps no more than so many entries.
 #![tactic(auto)]
 
 mod book;

@@ -407,7 +407,7 @@ impl Registry {
     /// Everything that is held of an application, or of all where none is given, in key order: also what has expired
     /// (`AbstractInstanceRegistry.getApplication` and `getApplications` in Eureka).
     ///
-    /// Empty where the application holds no lease. `OutOfMemory` alone.
+    /// Empty where the application holds no lease. `AllocError` where no memory is left.
     pub fn list(&self, alloc: Global, app: Option<&App>) -> Result<Vec<Listed>, AllocError>
         ensures { IfOk result (λ leases. Shows self.now (listing (option_copied app.entry)) leases.items) }
     {

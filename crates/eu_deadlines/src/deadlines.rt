@@ -13,7 +13,7 @@ use std::marker::Model;
 /// The deadlines of positions 0, 1, 2 and so on, seen as their list, with the room that is left.
 ///
 /// They stand in a binary heap, the earliest at the top, beside the position of each entry; and each position knows the place of its
-/// entry. So a deadline is set in a logarithm of their number, and those before a limit are found without a look at the others.
+/// entry. So a deadline is set in a logarithm of their number, and n that are before a limit are found by a look at no more than n + 1 others.
 #[derive(Debug, Drop)]
 pub struct Deadlines {
     deadlines: Vec<u64>,

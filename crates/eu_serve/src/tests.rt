@@ -149,15 +149,17 @@ fn two_clients_are_served(rt: HostRuntime) -> Result<(), Fail> {
     Ok(())
 }
 
-/// Whether a client is answered while two others are connected that say nothing.
-fn is_answered_among_silent<R: Net<Stream = TcpStream>>(
+/// Whether a client is answered, and soon, while two others are connected that say nothing.
+fn is_answered_among_silent<R: Net<Stream = TcpStream> + Clock>(
     rt: &R,
     alloc: Global,
     address: SocketAddr,
 ) -> io::Result<bool> {
+    let began = Instant::now(rt)?;
     let _first = TcpStream::connect(rt, address)?;
     let _second = TcpStream::connect(rt, address)?;
-    Ok(is_answered(rt, alloc, address, REGISTRATION, REGISTERED))
+    let answered = is_answered(rt, alloc, address, REGISTRATION, REGISTERED);
+    Ok(answered && began.elapsed(rt)? < Duration::from_secs(5))
 }
 
 #[test]
@@ -286,6 +288,30 @@ fn no_session_is_served_at_once(rt: HostRuntime) -> Result<(), Fail> {
     Ok(())
 }
 
+/// A writer that takes all that it is given, and can't be flushed.
+#[derive(Drop)]
+struct Unflushed;
+
+impl Write for Unflushed {
+    fn write(&mut self, bytes: &[u8]) -> io::Result<usize> {
+        Ok(bytes.len())
+    }
+
+    fn flush(&mut self) -> io::Result<()> {
+        Err(io::Error::from(ErrorKind::BrokenPipe))
+    }
+}
+
+#[test]
+fn served_that_is_not_flushed_is_a_failed_write(rt: HostRuntime) -> Result<(), Fail> {
+    let (listener, _) = listen(&rt)?;
+    let plan = plan(0, 10_000)?;
+    let mut writer = Unflushed;
+    let ended = serve(&rt, rt.alloc(), &listener, &plan, FirstChooser, &mut writer);
+    assert!(rt; ended == Err(Fault::Write));
+    Ok(())
+}
+
 /// How many peers a server has that serves nobody.
 fn peers<R: Threads + Wait + Clock + Sync>(
     rt: &R,
@@ -378,8 +404,12 @@ const RENEWED: &str = "HTTP/1.1 200 OK\r\nContent-Length: 0\r\nConnection: close
 const EVICTED: &str =
     "HTTP/1.1 200 OK\r\nContent-Type: text/plain; charset=utf-8\r\nContent-Length: 78\r\nConnection: close\r\n\r\nheld 0\nexpected 0\nthreshold 0\nlast 1\npreservation off\npermitted yes\nstatuses \n";
 
-/// Whether a client registers for a second and renews once, and then finds by a connection that was kept, after the other worker has
-/// left, that it was evicted.
+/// The page before: the clients were counted anew, and the minute hasn't ended.
+const COUNTED: &str =
+    "HTTP/1.1 200 OK\r\nContent-Type: text/plain; charset=utf-8\r\nContent-Length: 83\r\nConnection: close\r\n\r\nheld 1\nexpected 1\nthreshold 1\nlast 0\npreservation off\npermitted yes\nstatuses UP_1_\n";
+
+/// Whether a client registers for a second and renews once, is counted soon, and then finds by a connection that was kept, after two of
+/// three workers have left, that it was evicted.
 fn is_evicted<R: Net<Stream = TcpStream> + Clock>(
     rt: &R,
     alloc: Global,
@@ -387,17 +417,21 @@ fn is_evicted<R: Net<Stream = TcpStream> + Clock>(
 ) -> io::Result<bool> {
     let registered = is_answered(rt, alloc, address, FOR_A_SECOND, REGISTERED);
     let renewed = is_answered(rt, alloc, address, RENEWAL_OF_IT, RENEWED);
+    thread::sleep(rt, Duration::from_millis(100));
+    let counted = is_answered(rt, alloc, address, LOOK, COUNTED);
     let last = TcpStream::connect(rt, address)?;
     thread::sleep(rt, Duration::from_millis(6_000));
-    Ok(registered && renewed && is_answered_on(alloc, last, LOOK, EVICTED))
+    let evicted = is_answered_on(alloc, last, LOOK, EVICTED);
+    Ok(registered && renewed && counted && evicted)
 }
 
 #[test]
 fn timers_evict_and_count_anew(rt: HostRuntime) -> Result<(), Fail> {
     let (listener, address) = listen(&rt)?;
-    let mut plan = plan(3, 10_000)?;
+    let mut plan = plan(4, 10_000)?;
     plan.config = Config::new(false, 85, 30, 1)?;
     plan.expected = 7;
+    plan.workers = 3;
     // The client looks in the middle of the second minute, which lasts as short as this.
     plan.periods.bucket = 4_000;
     let (alloc, machine) = (rt.alloc(), &rt);
@@ -405,7 +439,45 @@ fn timers_evict_and_count_anew(rt: HostRuntime) -> Result<(), Fail> {
         is_evicted(machine, alloc, address)
     });
     assert!(rt; evicted?);
-    assert!(rt; out?.as_slice() == b"served 3\n".as_slice());
+    assert!(rt; out?.as_slice() == b"served 4\n".as_slice());
+    Ok(())
+}
+
+/// The page of a server that holds nothing, and expects one client and the one that registered.
+const EMPTY: &str =
+    "HTTP/1.1 200 OK\r\nContent-Type: text/plain; charset=utf-8\r\nContent-Length: 78\r\nConnection: close\r\n\r\nheld 0\nexpected 2\nthreshold 3\nlast 0\npreservation off\npermitted yes\nstatuses \n";
+
+/// Whether a client that registers for a second between the first pass and the second, three seconds apart, is evicted by the second.
+fn is_evicted_by_the_second<R: Net<Stream = TcpStream> + Clock>(
+    rt: &R,
+    alloc: Global,
+    address: SocketAddr,
+) -> io::Result<bool> {
+    thread::sleep(rt, Duration::from_millis(3_500));
+    let registered = is_answered(rt, alloc, address, FOR_A_SECOND, REGISTERED);
+    let last = TcpStream::connect(rt, address)?;
+    thread::sleep(rt, Duration::from_millis(4_000));
+    Ok(registered && is_answered_on(alloc, last, LOOK, EMPTY))
+}
+
+/// A pass that comes in time, by the settings, grants no lease any time. (Where it granted what lies between two passes, the lease would
+/// be there until the third.)
+#[test]
+fn a_pass_in_time_grants_nothing(rt: HostRuntime) -> Result<(), Fail> {
+    let (listener, address) = listen(&rt)?;
+    let mut plan = plan(2, 10_000)?;
+    plan.config = Config::new(false, 85, 30, 60_000)?;
+    plan.periods = Periods {
+        evictor: 3_000,
+        bucket: 900_000,
+        threshold: 900_000,
+    };
+    let (alloc, machine) = (rt.alloc(), &rt);
+    let (out, evicted) = beside(machine, alloc, &listener, &plan, move || {
+        is_evicted_by_the_second(machine, alloc, address)
+    });
+    assert!(rt; evicted?);
+    assert!(rt; out?.as_slice() == b"served 2\n".as_slice());
     Ok(())
 }
 
@@ -564,10 +636,10 @@ fn send_on(alloc: Global, stream: &mut TcpStream) -> io::Result<()> {
     Ok(())
 }
 
-/// Sends a byte each 20 ms behind a last request, for five seconds, or until the connection is closed.
+/// Sends a byte each 20 ms behind a last request, 80 of them, or until the connection is closed.
 fn dribble<R: Clock>(rt: &R, stream: &mut TcpStream) -> io::Result<()> {
     stream.write_all(RENEWAL.as_bytes())?;
-    for _ in 0..250 {
+    for _ in 0..80 {
         thread::sleep(rt, Duration::from_millis(20));
         stream.write_all(b"x")?;
     }

@@ -19,7 +19,7 @@ pub struct Mismatch {
 /// Judges whether each pass logged its part of the entries: from the number `first` on, its log is the entries of that pass, in
 /// order. A number with entries and no log counts as one with an empty log; of two logs of one number the first is looked at.
 ///
-/// Takes no memory, and for each number a time in proportion to the entries, and to the logs until that of the number is found.
+/// Takes no memory, and for each number a time in proportion to the entries, to how many logs there are, and to the items of its own log.
 ///
 /// # Errors
 ///

@@ -8,4 +8,5 @@ mod passes;
 mod reads;
 mod sessions;
 mod states;
+mod tails;
 mod threads;

@@ -62,7 +62,7 @@ impl Held {
         self.lease.times()
     }
 
-    /// Both once more, as they are listed. `OutOfMemory`.
+    /// Both once more, as they are listed. `AllocError` where no memory is left.
     pub fn listed(&self, alloc: Global) -> Result<Listed, AllocError>
         ensures { IfOk result (λ l. l ≡ self.now) }
     {

@@ -22,8 +22,8 @@ pub const MOST_LEASES: usize = 65_536;
 /// The leases that are held. Contracts see a finite map from keys to what is listed, and how many more can be put without
 /// taking memory.
 ///
-/// Beside them stands an index of their deadlines, in the order of the table, so that those which have expired are found without a
-/// look at the others.
+/// Beside them stands an index of their deadlines, in the order of the table, so that of those which have expired n are found
+/// by a look at no more than n + 1 others.
 #[derive(Debug, Drop)]
 pub struct Leases {
     table: IndexMap<Key, Held>,
@@ -235,7 +235,8 @@ impl Leases {
         true
     }
 
-    /// The keys of the leases that have expired, if each is granted some extra milliseconds, in key order. `OutOfMemory`.
+    /// The keys of the leases that have expired, if each is granted some extra milliseconds, in key order. `AllocError`
+    /// where no memory is left.
     pub fn expired_keys(
         &self,
         alloc: Global,
@@ -249,7 +250,7 @@ impl Leases {
     }
 
     /// The same, and how many entries of the index of deadlines were looked at: that of each key, and at most one more than two for
-    /// each in all. `OutOfMemory`.
+    /// each in all. `AllocError` where no memory is left.
     pub fn expired_counted(
         &self,
         alloc: Global,
@@ -273,7 +274,8 @@ impl Leases {
         Ok((keys, readings))
     }
 
-    /// What is held of an application, or everything where none is given: expired or not, in key order. `OutOfMemory`.
+    /// What is held of an application, or everything where none is given: expired or not, in key order. `AllocError` where no memory is
+    /// left.
     pub fn listed(&self, alloc: Global, app: Option<&App>) -> Result<Vec<Listed>, AllocError>
         ensures { IfOk result (λ leases. leases.items ≡ listing_of (option_copied app.entry) self.now.held) }
     {

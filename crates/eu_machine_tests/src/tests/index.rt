@@ -224,37 +224,88 @@ impl Drawn {
     }
 }
 
-/// A call on both that changes a lease, if it is held. Tells whether they answer alike.
+/// Puts a lease of that number, made at that moment, in the place of the one that is held. Tells whether one is.
+fn replace(
+    alloc: Global,
+    leases: &mut Leases,
+    number: u64,
+    ms: u64,
+    term: Term,
+) -> Result<bool, Fault> {
+    let held = held(alloc, number, ms, term)?;
+    let before = leases.replace(held);
+    let was_held = before.is_some();
+    drop(before);
+    Ok(was_held)
+}
+
+/// Takes a lease out. Tells whether it was held.
+fn take(leases: &mut Leases, key: &Key) -> bool {
+    let taken = leases.take(key);
+    let was_held = taken.is_some();
+    drop(taken);
+    was_held
+}
+
+/// A call on both that changes the lease of that key, if it is held, and takes no memory. Tells whether they answer alike.
+fn changes_held_alike(
+    leases: &mut Leases,
+    slow: &mut Slow,
+    key: &Key,
+    moment: Moment,
+    drawn: Drawn,
+) -> bool {
+    let (down, none) = (Status::Down, Status::Unknown);
+    match drawn.call {
+        0 => take(leases, key) == slow.take(drawn.number),
+        1 => leases.renew(key, moment) == slow.renew(drawn.number, drawn.ms),
+        2 => {
+            leases.renew_as(key, moment, down, none, None) == slow.renew(drawn.number, drawn.ms)
+        }
+        5 => leases.amend(key, down, none, None) == slow.has(drawn.number),
+        _ => leases.mark_up(key, moment) == slow.has(drawn.number),
+    }
+}
+
+/// The same, with the key of its number.
 fn changes_alike(
     alloc: Global,
     leases: &mut Leases,
     slow: &mut Slow,
     drawn: Drawn,
 ) -> Result<bool, Fault> {
-    let Drawn {
-        call,
-        number,
-        ms,
-        term,
-    } = drawn;
-    let key = key(alloc, number)?;
-    let moment = at(ms)?;
-    let answer = match call {
-        0 => leases.take(&key).is_some() == slow.take(number),
-        1 => leases.renew(&key, moment) == slow.renew(number, ms),
-        2 => {
-            let (status, row) = (Status::Down, Status::Unknown);
-            leases.renew_as(&key, moment, status, row, None) == slow.renew(number, ms)
-        }
-        3 => rejoin(alloc, leases, number, ms, term)? == slow.replace(number, ms, term),
-        4 => {
-            let held = held(alloc, number, ms, term)?;
-            leases.replace(held).is_some() == slow.replace(number, ms, term)
-        }
-        5 => leases.amend(&key, Status::Down, Status::Unknown, None) == slow.has(number),
-        _ => leases.mark_up(&key, moment) == slow.has(number),
+    let moment = at(drawn.ms)?;
+    let key = key(alloc, drawn.number)?;
+    let alike = changes_held_alike(leases, slow, &key, moment, drawn);
+    drop(key);
+    Ok(alike)
+}
+
+/// One of two calls on both that put a lease in the place of the one that is held. Tells whether they answer alike.
+fn replaces_alike(
+    alloc: Global,
+    leases: &mut Leases,
+    slow: &mut Slow,
+    drawn: Drawn,
+) -> Result<bool, Fault> {
+    let was_held = match drawn.call {
+        3 => rejoin(alloc, leases, drawn.number, drawn.ms, drawn.term)?,
+        _ => replace(alloc, leases, drawn.number, drawn.ms, drawn.term)?,
     };
-    Ok(answer)
+    Ok(was_held == slow.replace(drawn.number, drawn.ms, drawn.term))
+}
+
+/// Looks for what has expired of both. Tells whether they answer alike.
+fn expires_alike(
+    alloc: Global,
+    leases: &Leases,
+    slow: &Slow,
+    ms: u64,
+    extra: u64,
+) -> Result<bool, Fault> {
+    let numbers = slow.expired(alloc, ms, extra)?;
+    let wanted = ids_of(alloc, &numbers)?;
+    are_expired(alloc, leases, ms, extra, wanted.as_str())
 }
 
 /// One drawn call on both. Tells whether they answer alike.
@@ -266,17 +317,13 @@ fn answers_alike(
 ) -> Result<bool, Fault> {
     let drawn = Drawn::of(chooser);
     match drawn.call {
+        3 | 4 => replaces_alike(alloc, leases, slow, drawn),
         7 => {
             put(alloc, leases, drawn.number, drawn.ms, drawn.term)?;
             slow.put(drawn.number, drawn.ms, drawn.term)?;
             Ok(true)
         }
-        8 => {
-            let extra = chooser.below(5_000);
-            let numbers = slow.expired(alloc, drawn.ms, extra)?;
-            let wanted = ids_of(alloc, &numbers)?;
-            are_expired(alloc, leases, drawn.ms, extra, wanted.as_str())
-        }
+        8 => expires_alike(alloc, leases, slow, drawn.ms, chooser.below(5_000)),
         _ => changes_alike(alloc, leases, slow, drawn),
     }
 }
@@ -316,7 +363,21 @@ fn numbered(alloc: Global, count: u64) -> Result<Leases, Fault> {
     Ok(leases)
 }
 
-/// Whether these have expired of so many leases, and so many deadlines were read.
+/// Whether these have expired, and so many deadlines were read.
+fn are_read(
+    alloc: Global,
+    leases: &Leases,
+    ms: u64,
+    wanted: &str,
+    wanted_read: u64,
+) -> Result<bool, Fault> {
+    let moment = at(ms)?;
+    let (keys, read) = leases.expired_counted(alloc, moment, 0)?;
+    let text = ids(alloc, &keys)?;
+    Ok(text.as_str() == wanted && read == wanted_read)
+}
+
+/// The same of so many leases.
 fn are_expired_of(
     alloc: Global,
     count: u64,
@@ -325,8 +386,26 @@ fn are_expired_of(
     wanted_read: u64,
 ) -> Result<bool, Fault> {
     let leases = numbered(alloc, count)?;
-    let (keys, read) = leases.expired_counted(alloc, at(ms)?, 0)?;
-    Ok(ids(alloc, &keys)?.as_str() == wanted && read == wanted_read)
+    let read = are_read(alloc, &leases, ms, wanted, wanted_read);
+    drop(leases);
+    read
+}
+
+/// Leases j0 to j3, of which the second and the fourth are registered much later.
+fn two_late(alloc: Global) -> Result<Leases, Fault> {
+    let mut leases = Leases::new(alloc);
+    for (number, ms) in [(0, 0), (1, 5_000), (2, 1), (3, 6_000)] {
+        put(alloc, &mut leases, number, ms, Term::Short)?;
+    }
+    Ok(leases)
+}
+
+/// Whether the other two have expired, and so many deadlines were read.
+fn are_expired_of_late(alloc: Global, wanted_read: u64) -> Result<bool, Fault> {
+    let leases = two_late(alloc)?;
+    let read = are_read(alloc, &leases, 10_002, " j0 j2", wanted_read);
+    drop(leases);
+    read
 }
 
 #[test]
@@ -341,4 +420,10 @@ fn as_many_deadlines_are_read_as_there_are(rt: HostRuntime) {
     assert!(rt; are_expired_of(rt.alloc(), 0, 10_003, "", 0) == Ok(true));
     assert!(rt; are_expired_of(rt.alloc(), 1, 10_003, " j0", 1) == Ok(true));
     assert!(rt; are_expired_of(rt.alloc(), 4, 10_003, " j0 j1 j2", 4) == Ok(true));
+}
+
+/// What lies below a deadline that hasn't passed isn't read.
+#[test]
+fn what_lies_below_a_later_deadline_is_not_read(rt: HostRuntime) {
+    assert!(rt; are_expired_of_late(rt.alloc(), 3) == Ok(true));
 }

@@ -154,9 +154,35 @@ fn is_conflict_copied(alloc: Global, dirty: u64) -> Result<bool, Fault> {
     copied
 }
 
+/// Whether the copy of a reply is the same.
+fn is_same_copy(alloc: Global, reply: &Reply) -> Result<bool, Fault> {
+    let copy = reply.copy(alloc)?;
+    let same = copy.same(reply);
+    drop(copy);
+    Ok(same)
+}
+
+/// Whether that is so of a pass that took a lease out.
+fn is_pass_copied(alloc: Global) -> Result<bool, Fault> {
+    let pass = Reply::Evicted(two_keys(alloc)?);
+    let copied = is_same_copy(alloc, &pass);
+    drop(pass);
+    copied
+}
+
+/// Whether that is so of a batch.
+fn is_batch_copied(alloc: Global) -> Result<bool, Fault> {
+    let batch = Reply::Batch(tasks(alloc, Status::Up)?);
+    let copied = is_same_copy(alloc, &batch);
+    drop(batch);
+    copied
+}
+
 #[test]
 fn replies_are_copied(rt: HostRuntime) {
     assert!(rt; is_conflict_copied(rt.alloc(), 7) == Ok(true));
+    assert!(rt; is_pass_copied(rt.alloc()) == Ok(true));
+    assert!(rt; is_batch_copied(rt.alloc()) == Ok(true));
     let fresh = is_reply_copied(rt.alloc(), &Reply::Registered { fresh: true }, ("fresh", 0));
     assert!(rt; fresh == Ok(true));
     let last = is_reply_copied(rt.alloc(), &Reply::Last(4), ("last", 4));

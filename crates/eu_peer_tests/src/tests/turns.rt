@@ -490,3 +490,31 @@ fn a_task_without_its_instance_is_answered_400(rt: HostRuntime) {
     let answered = on_pair(rt.alloc(), lacks);
     assert!(rt; answered == Ok((Some(400), Some(200), Some(0))));
 }
+
+/// Whether that many clients register, and a turn sends them all.
+fn sends_batch(alloc: Global, pair: &mut Pair, size: usize) -> bool {
+    for number in 0..size {
+        let Ok(id) = format!(in alloc; "j{number}") else {
+            return false;
+        };
+        if !tell(alloc, &mut pair.here, registration(alloc, &id), at(0)) {
+            return false;
+        }
+    }
+    sends(alloc, pair, at(0)) == sent(size, 0)
+}
+
+/// The same of each size that a batch may have.
+fn sends_each(alloc: Global, pair: &mut Pair) -> bool {
+    for size in 1..251 {
+        if !sends_batch(alloc, pair, size) {
+            return false;
+        }
+    }
+    true
+}
+
+#[test]
+fn batches_of_each_size_are_sent(rt: HostRuntime) {
+    assert!(rt; on_pair(rt.alloc(), sends_each) == Ok(true));
+}

@@ -89,9 +89,10 @@ fn printed_and(alloc: Global, clients: u32, replies: &str) -> Result<String, All
     Ok(text)
 }
 
-/// Whether it prints that.
+/// Whether it prints that, with self-preservation or without.
 fn joined_prints(
     alloc: Global,
+    preserves: bool,
     expected: u32,
     clients: u32,
     lines: &str,
@@ -99,7 +100,7 @@ fn joined_prints(
 ) -> Result<bool, AllocError> {
     let text = joined_and(alloc, expected, clients, lines)?;
     let printed = printed_and(alloc, clients, replies)?;
-    Ok(prints(alloc, true, text.as_bytes(), printed.as_bytes()))
+    Ok(prints(alloc, preserves, text.as_bytes(), printed.as_bytes()))
 }
 
 /// Gives a text one byte at a time.
@@ -340,7 +341,7 @@ const CLIENTS: [(u32, u32, &str, &str); 4] = [
 fn clients_are_counted_anew(rt: HostRuntime) {
     for (expected, clients, lines, replies) in CLIENTS {
         assert!(rt;
-            joined_prints(rt.alloc(), expected, clients, lines, replies) == Ok(true),
+            joined_prints(rt.alloc(), true, expected, clients, lines, replies) == Ok(true),
             "at {clients}"
         );
     }
@@ -449,6 +450,17 @@ const FORBIDDEN: &str =
 #[test]
 fn preservation_forbids_passes(rt: HostRuntime) {
     assert!(rt; waves_print(rt.alloc(), 17, FORBIDDEN) == Ok(true));
+}
+
+/// Of three hundred expired leases 45 go, the first ones by the bytes of their ids.
+const MANY: &str = "evict 100000\ncounts 100000\n";
+
+const MANY_PRINTED: &str =
+    "evicted 45 A i0 A i1 A i10 A i100 A i101 A i102 A i103 A i104 A i105 A i106 A i107 A i108 A i109 A i11 A i110 A i111 A i112 A i113 A i114 A i115 A i116 A i117 A i118 A i119 A i12 A i120 A i121 A i122 A i123 A i124 A i125 A i126 A i127 A i128 A i129 A i13 A i130 A i131 A i132 A i133 A i134 A i135 A i136 A i137 A i138\nheld 255 expected 0 threshold 0 last 0 permitted yes\n";
+
+#[test]
+fn a_pass_evicts_many(rt: HostRuntime) {
+    assert!(rt; joined_prints(rt.alloc(), false, 0, 300, MANY, MANY_PRINTED) == Ok(true));
 }
 
 const BAD: [(&[u8], &[u8], u64); 61] = [
@@ -638,5 +650,5 @@ const FULL_PRINTED: &str =
 
 #[test]
 fn a_full_registry_refuses_and_the_script_goes_on(rt: HostRuntime) {
-    assert!(rt; joined_prints(rt.alloc(), 0, 65_536, FULL, FULL_PRINTED) == Ok(true));
+    assert!(rt; joined_prints(rt.alloc(), true, 0, 65_536, FULL, FULL_PRINTED) == Ok(true));
 }

@@ -47,7 +47,14 @@ pub fn renewal(alloc: Global, id: &str) -> Result<Command, Fault> {
 fn word(reply: &Reply) -> &'static str {
     match reply {
         Reply::Registered { fresh: true } => "new",
+        Reply::Registered { fresh: false } => "again",
         Reply::Done => "done",
+        Reply::Settled => "settled",
+        Reply::Batch(tasks) => match tasks.as_slice() {
+            [_] => "one",
+            [_, _] => "two",
+            _ => "other",
+        },
         _ => "other",
     }
 }

@@ -15,12 +15,13 @@ use std::marker::Brand;
 use std::sync::Wait;
 use std::test::Fail;
 
-/// A registration of i1, its renewal, and a cancel of a lease that isn't there.
+/// A registration of i1; renewals without a stamp, with a newer one, and with an older one by a peer; a status that is set and taken back; the
+/// listing of the application; and cancels of the lease and of one that isn't there.
 const REQUESTS: &str =
-    "POST /eureka/apps/a HTTP/1.1\r\nHost: x\r\nContent-Length: 150\r\n\r\n{\"instance\":{\"instanceId\":\"i1\",\"hostName\":\"h\",\"app\":\"a\",\"ipAddr\":\"10.0.0.1\",\"status\":\"UP\",\"lastDirtyTimestamp\":\"5\",\"dataCenterInfo\":{\"name\":\"MyOwn\"}}}PUT /eureka/apps/A/i1 HTTP/1.1\r\nHost: x\r\n\r\nDELETE /eureka/apps/B/i1 HTTP/1.1\r\nHost: x\r\nConnection: close\r\n\r\n";
+    "POST /eureka/apps/a HTTP/1.1\r\nHost: x\r\nContent-Length: 150\r\n\r\n{\"instance\":{\"instanceId\":\"i1\",\"hostName\":\"h\",\"app\":\"a\",\"ipAddr\":\"10.0.0.1\",\"status\":\"UP\",\"lastDirtyTimestamp\":\"5\",\"dataCenterInfo\":{\"name\":\"MyOwn\"}}}PUT /eureka/apps/A/i1 HTTP/1.1\r\nHost: x\r\n\r\nPUT /eureka/apps/A/i1?lastDirtyTimestamp=6 HTTP/1.1\r\nHost: x\r\n\r\nPUT /eureka/apps/A/i1?lastDirtyTimestamp=4 HTTP/1.1\r\nHost: x\r\nx-netflix-discovery-replication: true\r\n\r\nPUT /eureka/apps/A/i1/status?value=OUT_OF_SERVICE HTTP/1.1\r\nHost: x\r\n\r\nDELETE /eureka/apps/A/i1/status?value=UP HTTP/1.1\r\nHost: x\r\n\r\nGET /eureka/apps/A HTTP/1.1\r\nHost: x\r\n\r\nDELETE /eureka/apps/A/i1 HTTP/1.1\r\nHost: x\r\n\r\nDELETE /eureka/apps/B/i1 HTTP/1.1\r\nHost: x\r\nConnection: close\r\n\r\n";
 
 const RESPONSES: &str =
-    "HTTP/1.1 204 No Content\r\n\r\nHTTP/1.1 200 OK\r\nContent-Length: 0\r\n\r\nHTTP/1.1 404 Not Found\r\nContent-Length: 0\r\nConnection: close\r\n\r\n";
+    "HTTP/1.1 204 No Content\r\n\r\nHTTP/1.1 200 OK\r\nContent-Length: 0\r\n\r\nHTTP/1.1 404 Not Found\r\nContent-Length: 0\r\n\r\nHTTP/1.1 409 Conflict\r\nContent-Type: application/json\r\nContent-Length: 240\r\n\r\n{\"instance\":{\"app\":\"A\",\"dataCenterInfo\":{\"name\":\"MyOwn\"},\"hostName\":\"h\",\"instanceId\":\"i1\",\"ipAddr\":\"10.0.0.1\",\"lastDirtyTimestamp\":\"5\",\"leaseInfo\":{\"durationInSecs\":90,\"renewalIntervalInSecs\":30},\"overriddenStatus\":\"UNKNOWN\",\"status\":\"UP\"}}HTTP/1.1 200 OK\r\nContent-Length: 0\r\n\r\nHTTP/1.1 200 OK\r\nContent-Length: 0\r\n\r\nHTTP/1.1 200 OK\r\nContent-Type: application/json\r\nContent-Length: 369\r\n\r\n{\"application\":{\"instance\":[{\"app\":\"A\",\"dataCenterInfo\":{\"name\":\"MyOwn\"},\"hostName\":\"h\",\"instanceId\":\"i1\",\"ipAddr\":\"10.0.0.1\",\"lastDirtyTimestamp\":\"5\",\"leaseInfo\":{\"durationInSecs\":90,\"evictionTimestamp\":0,\"lastRenewalTimestamp\":90000,\"registrationTimestamp\":0,\"renewalIntervalInSecs\":30,\"serviceUpTimestamp\":0},\"overriddenStatus\":\"UNKNOWN\",\"status\":\"UP\"}],\"name\":\"A\"}}HTTP/1.1 200 OK\r\nContent-Length: 0\r\n\r\nHTTP/1.1 404 Not Found\r\nContent-Length: 0\r\nConnection: close\r\n\r\n";
 
 /// What a session over a pass writes.
 fn written<K: Label, R: Wait>(
@@ -87,10 +88,10 @@ fn served<R: Wait>(rt: &R, alloc: Global) -> Result<(bool, Tally, bool), Fault> 
 fn a_session_asks_through_a_pass(rt: HostRuntime) -> Result<(), Fail> {
     let (written, tally, settled) = served(&rt, rt.alloc())?;
     let sums = Tally {
-        steps: 3,
-        counted: 1,
+        steps: 8,
+        counted: 3,
         added: 1,
-        removed: 0,
+        removed: 1,
     };
     assert!(rt; written && settled);
     assert!(rt; tally == sums);

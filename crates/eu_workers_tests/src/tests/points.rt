@@ -10,7 +10,7 @@ use eu_routes::Routes;
 use eu_shared::{Blanks, Label, Pass, Shared};
 use eu_workers::{Ended, Gate, Go, Job, Point, Site, Source, Work, Worker, run_all};
 use std::alloc::Global;
-use std::io::{self, Write};
+use std::io::{self, ErrorKind, Write};
 use std::marker::Brand;
 use std::sync::Wait;
 use std::sync::atomic::{AtomicU64, Ordering};
@@ -19,13 +19,15 @@ use std::thread::Threads;
 
 const LISTING: &[u8] = b"GET /eureka/apps/ HTTP/1.1\r\nHost: x\r\n\r\n";
 
-/// A gate that says `Stop` at one point, and counts who passes each.
+/// A gate that says `Stop` at one point, and counts who passes each, and the flushes that came before it was passed for them.
 #[derive(Drop)]
-struct Counting {
+struct Counting<'a> {
     stops: Option<Point>,
     turns: AtomicU64,
     reads: AtomicU64,
     replies: AtomicU64,
+    flushes: &'a AtomicU64,
+    early: AtomicU64,
 }
 
 /// A digit for each worker that is expected, so that a sum of them tells who passed and how often.
@@ -40,7 +42,7 @@ fn digit(who: u32) -> u64 {
     }
 }
 
-impl Counting {
+impl Counting<'_> {
     fn count(&self, point: Point) -> &AtomicU64 {
         match point {
             Point::Turn => &self.turns,
@@ -50,9 +52,13 @@ impl Counting {
     }
 }
 
-impl Gate for Counting {
+impl Gate for Counting<'_> {
     fn pass(&self, who: u32, point: Point) -> Go {
         self.count(point).fetch_add(digit(who), Ordering::SeqCst);
+        if point == Point::Replied {
+            let flushes = self.flushes.load(Ordering::SeqCst);
+            self.early.fetch_add(flushes, Ordering::SeqCst);
+        }
         if self.stops == Some(point) {
             Go::Stop
         } else {
@@ -61,43 +67,51 @@ impl Gate for Counting {
     }
 }
 
-/// A writer that keeps what it is given until it is flushed.
+/// A writer that keeps what it is given until it is flushed, or that is broken.
 #[derive(Drop)]
-struct Keeping {
+struct Keeping<'a> {
     kept: Vec<u8>,
     is_flushed: bool,
+    is_broken: bool,
+    flushes: &'a AtomicU64,
 }
 
-impl Write for Keeping {
+impl Write for Keeping<'_> {
     fn write(&mut self, bytes: &[u8]) -> io::Result<usize> {
+        if self.is_broken {
+            return Err(io::Error::from(ErrorKind::BrokenPipe));
+        }
         self.kept.extend_from_slice(bytes)?;
         self.is_flushed = false;
         Ok(bytes.len())
     }
 
     fn flush(&mut self) -> io::Result<()> {
+        self.flushes.fetch_add(1, Ordering::SeqCst);
         self.is_flushed = true;
         Ok(())
     }
 }
 
-/// One connection, on which a listing is asked for; a count of those that were answered.
+/// One connection, on which a listing is asked for; counts of those that were taken and of those that were answered.
 #[derive(Drop)]
 struct Once<'a> {
-    connection: Option<(&'static [u8], Keeping)>,
+    connection: Option<(&'static [u8], Keeping<'a>)>,
+    taken: &'a AtomicU64,
     answered: &'a AtomicU64,
 }
 
-impl Source for Once<'_> {
+impl<'a> Source for Once<'a> {
     type Reader = &'static [u8];
 
-    type Writer = Keeping;
+    type Writer = Keeping<'a>;
 
-    fn next(&mut self) -> Option<(&'static [u8], Keeping)> {
+    fn next(&mut self) -> Option<(&'static [u8], Keeping<'a>)> {
+        self.taken.fetch_add(1, Ordering::SeqCst);
         self.connection.take()
     }
 
-    fn end(&mut self, _reader: &'static [u8], writer: Keeping) {
+    fn end(&mut self, _reader: &'static [u8], writer: Keeping<'a>) {
         if writer.is_flushed && writer.kept.starts_with(b"HTTP/1.1 200 OK") {
             self.answered.fetch_add(1, Ordering::SeqCst);
         }
@@ -124,8 +138,31 @@ impl Peer for Losing<'_> {
 /// What was counted beside the gate.
 #[derive(Drop)]
 struct Counts {
+    taken: AtomicU64,
     answered: AtomicU64,
+    flushes: AtomicU64,
     sent: AtomicU64,
+}
+
+/// What stops or fails: all workers at one point of the gate, or what the session writes to.
+#[derive(Clone, Copy)]
+struct Trouble {
+    stops: Option<Point>,
+    is_broken: bool,
+}
+
+/// Nothing does.
+const NONE: Trouble = Trouble {
+    stops: None,
+    is_broken: false,
+};
+
+/// The gate does, at that point.
+fn stops(point: Point) -> Trouble {
+    Trouble {
+        stops: Some(point),
+        is_broken: false,
+    }
 }
 
 type Hand<'a, K> = Worker<K, Once<'a>, ListClock, FirstChooser, Losing<'a>>;
@@ -136,7 +173,9 @@ struct Told {
     turns: u64,
     reads: u64,
     replies: u64,
+    taken: u64,
     answered: u64,
+    early: u64,
     sent: u64,
     /// The peer whose tasks were drained.
     drained: Option<u32>,
@@ -180,15 +219,19 @@ fn hands<'a, K: Label, R: Wait>(
     alloc: Global,
     shared: &Shared<K>,
     counts: &'a Counts,
+    is_broken: bool,
 ) -> Result<Vec<Hand<'a, K>>, Fault> {
     let mut hands = Vec::new(alloc);
     push_timers(rt, alloc, shared, &mut hands)?;
     let writer = Keeping {
         kept: Vec::new(alloc),
         is_flushed: false,
+        is_broken,
+        flushes: &counts.flushes,
     };
     let source = Once {
         connection: Some((LISTING, writer)),
+        taken: &counts.taken,
         answered: &counts.answered,
     };
     push(rt, alloc, shared, &mut hands, Work::Sessions { source })?;
@@ -233,11 +276,12 @@ fn work<K: Label + Send + Sync, R: Threads + Wait + Sync>(
     rt: &R,
     alloc: Global,
     shared: &Shared<K>,
-    gate: &Counting,
+    gate: &Counting<'_>,
     counts: &Counts,
+    is_broken: bool,
 ) -> Result<Told, Fault> {
     let routes = Routes::new(alloc)?;
-    let mut workers = hands(rt, alloc, shared, counts)?;
+    let mut workers = hands(rt, alloc, shared, counts, is_broken)?;
     let site = Site {
         rt,
         alloc,
@@ -251,6 +295,8 @@ fn work<K: Label + Send + Sync, R: Threads + Wait + Sync>(
         turns: gate.turns.load(Ordering::SeqCst),
         reads: gate.reads.load(Ordering::SeqCst),
         replies: gate.replies.load(Ordering::SeqCst),
+        taken: counts.taken.load(Ordering::SeqCst),
+        early: gate.early.load(Ordering::SeqCst),
         answered: counts.answered.load(Ordering::SeqCst),
         sent: counts.sent.load(Ordering::SeqCst),
         drained: None,
@@ -267,7 +313,7 @@ fn work_after<K: Label + Send + Sync, R: Threads + Wait + Sync>(
     rt: &R,
     alloc: Global,
     shared: &Shared<K>,
-    stops: Option<Point>,
+    trouble: Trouble,
 ) -> Result<Told, Fault> {
     let mut pass = shared.pass(rt, alloc)?;
     let is_registered = registers(rt, shared, alloc, &mut pass);
@@ -275,17 +321,21 @@ fn work_after<K: Label + Send + Sync, R: Threads + Wait + Sync>(
     if !is_registered {
         return Err(Fault::OutOfMemory);
     }
+    let counts = Counts {
+        taken: AtomicU64::new(0),
+        answered: AtomicU64::new(0),
+        flushes: AtomicU64::new(0),
+        sent: AtomicU64::new(0),
+    };
     let gate = Counting {
-        stops,
+        stops: trouble.stops,
         turns: AtomicU64::new(0),
         reads: AtomicU64::new(0),
         replies: AtomicU64::new(0),
+        flushes: &counts.flushes,
+        early: AtomicU64::new(0),
     };
-    let counts = Counts {
-        answered: AtomicU64::new(0),
-        sent: AtomicU64::new(0),
-    };
-    work(rt, alloc, shared, &gate, &counts)
+    work(rt, alloc, shared, &gate, &counts, trouble.is_broken)
 }
 
 /// The same of a server with two peers.
@@ -293,30 +343,28 @@ fn run<K: Label + Send + Sync, R: Threads + Wait + Sync>(
     rt: &R,
     alloc: Global,
     blanks: Blanks,
-    stops: Option<Point>,
+    trouble: Trouble,
 ) -> Result<Told, Fault>
     requires names { (blanks.steps.name ≡ K.steps) × (blanks.counted.name ≡ K.counted) × (blanks.added.name ≡ K.added) × (blanks.removed.name ≡ K.removed) }
     requires parts { (blanks.steps.parts ≡ K.parts) × (blanks.counted.parts ≡ K.parts) × (blanks.added.parts ≡ K.parts) × (blanks.removed.parts ≡ K.parts) × (K.parts ≡ 1025) }
 {
     let shared: Shared<K> = Shared::open(alloc, Config::new(true, 85, 30, 60_000)?, 0, 2, blanks)?;
-    work_after(rt, alloc, &shared, stops)
+    work_after(rt, alloc, &shared, trouble)
 }
 
-fn ran<R: Threads + Wait + Sync>(
-    rt: &R,
-    alloc: Global,
-    stops: Option<Point>,
-) -> Result<Told, Fault> {
-    run::<Brand, R>(rt, alloc, Blanks::new(), stops)
+fn ran<R: Threads + Wait + Sync>(rt: &R, alloc: Global, trouble: Trouble) -> Result<Told, Fault> {
+    run::<Brand, R>(rt, alloc, Blanks::new(), trouble)
 }
 
 /// What they do where nothing stops them: each passes the gate before its turn, the session before each of its two reads, of which the
-/// second finds the end, and once before its response is flushed.
+/// second finds the end, and once before its response is flushed, before which no flush came.
 const ALL: Told = Told {
     turns: 11_111,
     reads: 2,
     replies: 1,
+    taken: 1,
     answered: 1,
+    early: 0,
     sent: 1,
     drained: Some(1),
     all: Ended {
@@ -327,19 +375,21 @@ const ALL: Told = Told {
 
 #[test]
 fn each_passes_the_gate_by_its_number(rt: HostRuntime) -> Result<(), Fail> {
-    let told = ran(&rt, rt.alloc(), None)?;
+    let told = ran(&rt, rt.alloc(), NONE)?;
     assert!(rt; told == ALL);
     Ok(())
 }
 
 #[test]
 fn who_is_stopped_before_a_turn_has_none(rt: HostRuntime) -> Result<(), Fail> {
-    let told = ran(&rt, rt.alloc(), Some(Point::Turn))?;
+    let told = ran(&rt, rt.alloc(), stops(Point::Turn))?;
     let nothing = Told {
         turns: 11_111,
         reads: 0,
         replies: 0,
+        taken: 0,
         answered: 0,
+        early: 0,
         sent: 0,
         drained: None,
         all: Ended {
@@ -353,7 +403,7 @@ fn who_is_stopped_before_a_turn_has_none(rt: HostRuntime) -> Result<(), Fail> {
 
 #[test]
 fn a_read_that_is_stopped_ends_the_session(rt: HostRuntime) -> Result<(), Fail> {
-    let told = ran(&rt, rt.alloc(), Some(Point::Read))?;
+    let told = ran(&rt, rt.alloc(), stops(Point::Read))?;
     let failed = Told {
         reads: 1,
         replies: 0,
@@ -370,8 +420,30 @@ fn a_read_that_is_stopped_ends_the_session(rt: HostRuntime) -> Result<(), Fail> 
 
 #[test]
 fn a_flush_is_not_stopped(rt: HostRuntime) -> Result<(), Fail> {
-    let told = ran(&rt, rt.alloc(), Some(Point::Replied))?;
+    let told = ran(&rt, rt.alloc(), stops(Point::Replied))?;
     assert!(rt; told == ALL);
+    Ok(())
+}
+
+/// A session whose response can't be written has ended by a fault.
+#[test]
+fn a_write_that_fails_is_refused(rt: HostRuntime) -> Result<(), Fail> {
+    let broken = Trouble {
+        stops: None,
+        is_broken: true,
+    };
+    let told = ran(&rt, rt.alloc(), broken)?;
+    let failed = Told {
+        reads: 1,
+        replies: 0,
+        answered: 0,
+        all: Ended {
+            turns: 5,
+            refused: 1,
+        },
+        ..ALL
+    };
+    assert!(rt; told == failed);
     Ok(())
 }
 
@@ -400,6 +472,7 @@ fn sixteen<'a, K: Label, R: Wait>(
     for _worker in 0..16 {
         let source = Once {
             connection: None,
+            taken: answered,
             answered,
         };
         push(rt, alloc, shared, &mut hands, Work::Sessions { source })?;

@@ -89,7 +89,10 @@ pub fn server(alloc: Global, config: Config) -> Result<InProcess<Book, ListClock
     })
 }
 
-/// What a replicator with three turns for the peer of that number does after a registration.
+/// The turns that a replicator has.
+const TURNS: u64 = 12_000;
+
+/// What a replicator does in them for the peer of that number after a registration.
 fn replicate<K: Label, R: Wait>(
     site: &Site<'_, K, R, Open>,
     number: u32,
@@ -100,7 +103,7 @@ fn replicate<K: Label, R: Wait>(
         return Err(Fault::OutOfMemory);
     }
     let mut clock = ListClock::new(Vec::new(site.alloc));
-    let (pass, ended) = run_replicator(site, number, pass, peer, &mut clock, 3);
+    let (pass, ended) = run_replicator(site, number, pass, peer, &mut clock, TURNS);
     drop(pass);
     Ok(ended)
 }
@@ -137,7 +140,7 @@ fn send_from<K: Label, R: Wait>(
     reach(&site, number, config)
 }
 
-/// What a replicator with three turns for the peer of that number did after a registration, and how many leases the other server holds
+/// What a replicator did in these turns for the peer of that number after a registration, and how many leases the other server holds
 /// then. The server has one peer, of the number 0.
 fn send<K: Label, R: Wait>(
     rt: &R,
@@ -161,11 +164,11 @@ fn sent<R: Wait>(rt: &R, alloc: Global, number: u32) -> Result<(Ended, u64), Fau
 #[test]
 fn a_replicator_sends_what_waits(rt: HostRuntime) -> Result<(), Fail> {
     let (ended, held) = sent(&rt, rt.alloc(), 0)?;
-    let three = Ended {
-        turns: 3,
+    let all = Ended {
+        turns: TURNS,
         refused: 0,
     };
-    assert!(rt; ended == three && held == 1);
+    assert!(rt; ended == all && held == 1);
     Ok(())
 }
 
@@ -173,8 +176,8 @@ fn a_replicator_sends_what_waits(rt: HostRuntime) -> Result<(), Fail> {
 fn a_replicator_goes_on_after_a_refused_turn(rt: HostRuntime) -> Result<(), Fail> {
     let (ended, held) = sent(&rt, rt.alloc(), 1)?;
     let refused = Ended {
-        turns: 3,
-        refused: 3,
+        turns: TURNS,
+        refused: TURNS,
     };
     assert!(rt; ended == refused && held == 0);
     Ok(())

@@ -1,7 +1,7 @@
 //! Turns of the timers.
 ghost use Rattle.std.specs.Prelude.{◌≡◌};
 
-use eu_base::{Config, Fault};
+use eu_base::{Config, Fault, Moment};
 use eu_clock::{FirstChooser, ListClock};
 use eu_model::Command;
 use eu_routes::Routes;
@@ -24,11 +24,12 @@ impl Gate for Always {
     }
 }
 
-/// What came of a worker, and what its pass was answered.
+/// What came of a worker, and which command its pass was answered first, and at which moment.
 #[derive(Clone, Copy, PartialEq, Eq)]
 struct Seen {
     ended: Ended,
     logged: &'static str,
+    ms: Option<u64>,
 }
 
 /// Which of the timers' commands a log begins with.
@@ -44,11 +45,20 @@ fn first_logged<K: Label>(pass: &Pass<K>) -> &'static str {
     }
 }
 
+/// The moment of the first entry of a log.
+fn first_moment<K: Label>(pass: &Pass<K>) -> Option<u64> {
+    match pass.log() {
+        [] => None,
+        [first, ..] => Some(first.moment.ms()),
+    }
+}
+
 fn told<K: Label>(worked: (Pass<K>, Ended)) -> Seen {
     let (pass, ended) = worked;
     let logged = first_logged(&pass);
+    let ms = first_moment(&pass);
     drop(pass);
-    Seen { ended, logged }
+    Seen { ended, logged, ms }
 }
 
 /// What the evictor does with so many turns.
@@ -97,6 +107,15 @@ fn work_at<K: Label, R: Wait>(
     Ok((evictor, bucket, threshold))
 }
 
+/// A clock that tells the moments 5, 6 and so on up to 14.
+fn ticking(alloc: Global) -> Result<ListClock, Fault> {
+    let mut moments = Vec::new(alloc);
+    for ms in 5..15 {
+        moments.push(Moment::new(ms).ok_or(Fault::BadStamp)?)?;
+    }
+    Ok(ListClock::new(moments))
+}
+
 /// The same for a book that is shared.
 fn work_on<K: Label, R: Wait>(
     rt: &R,
@@ -113,7 +132,7 @@ fn work_on<K: Label, R: Wait>(
         routes: &routes,
         gate: &Always { go },
     };
-    let mut clock = ListClock::new(Vec::new(alloc));
+    let mut clock = ticking(alloc)?;
     work_at(&site, &mut clock, limits)
 }
 
@@ -141,29 +160,55 @@ fn worked<R: Wait>(
     work::<Brand, R>(rt, alloc, Blanks::new(), go, limits)
 }
 
-fn saw(turns: u64, logged: &'static str) -> Seen {
+/// So many turns, none refused, and what they logged first.
+fn saw(turns: u64, logged: &'static str, ms: Option<u64>) -> Seen {
     let ended = Ended { turns, refused: 0 };
-    Seen { ended, logged }
+    Seen { ended, logged, ms }
 }
 
 #[test]
 fn one_turn(rt: HostRuntime) -> Result<(), Fail> {
     let seen = worked(&rt, rt.alloc(), Go::On, Limits(1, 1, 1))?;
-    assert!(rt; seen == (saw(1, "evict"), saw(1, "roll"), saw(1, "update")));
+    assert!(rt;
+        seen == (
+            saw(1, "evict", Some(5)),
+            saw(1, "roll", Some(6)),
+            saw(1, "update", Some(7))
+        )
+    );
     Ok(())
 }
 
 #[test]
 fn a_gate_that_stops_leaves_no_turn(rt: HostRuntime) -> Result<(), Fail> {
     let seen = worked(&rt, rt.alloc(), Go::Stop, Limits(1, 1, 1))?;
-    assert!(rt; seen == (saw(0, "nothing"), saw(0, "nothing"), saw(0, "nothing")));
+    let nothing = saw(0, "nothing", None);
+    assert!(rt; seen == (nothing, nothing, nothing));
     Ok(())
 }
 
 #[test]
 fn each_takes_all_its_turns(rt: HostRuntime) -> Result<(), Fail> {
     let seen = worked(&rt, rt.alloc(), Go::On, Limits(3, 2, 4))?;
-    assert!(rt; seen == (saw(3, "evict"), saw(2, "roll"), saw(4, "update")));
+    assert!(rt;
+        seen == (
+            saw(3, "evict", Some(5)),
+            saw(2, "roll", Some(8)),
+            saw(4, "update", Some(10))
+        )
+    );
+    Ok(())
+}
+
+#[test]
+fn each_goes_on_for_as_long_as_it_may(rt: HostRuntime) -> Result<(), Fail> {
+    let seen = worked(&rt, rt.alloc(), Go::On, Limits(12_000, 59, 11_000))?;
+    let wanted = (
+        saw(12_000, "evict", Some(5)),
+        saw(59, "roll", Some(14)),
+        saw(11_000, "update", Some(14)),
+    );
+    assert!(rt; seen == wanted);
     Ok(())
 }
 

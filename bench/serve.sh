@@ -1,6 +1,6 @@
 #!/usr/bin/env bash
-# Times heartbeats over connections of 100 each, with 4 workers: the server, a server that answers without looking (the loopback's own
-# speed), and, where BASELINE names its program, a plain Rust server with the same options. Then a million heartbeats (MILLIONS of them) of 1,
+# Times heartbeats over connections of 100 each, with 4 workers: the server, a plain Rust server (bench/serve_plain.rs, or the program that
+# BASELINE names), and a server that answers without looking (the loopback's own speed). Then a million heartbeats (MILLIONS of them) of 1,
 # 1,000 and 60,000 leases, in which the journal begins anew every 65,536 steps. Then a soak: more clients than workers, connections that are
 # cut anywhere, and garbage (EACH connections of each client, 2,500 if it isn't set). Prints heartbeats a second, the median, the 99th and the
 # 99.9th percentile and the longest time in microseconds, and what memory the server had.
@@ -13,6 +13,8 @@ stop() { if [ -n "$started" ]; then kill "$started" 2> /dev/null || true; wait "
 trap 'stop; rm -rf "$work"' EXIT
 "$top/eureka" --help > "$work/help"
 rustc --edition 2021 -O -o "$work/load" "$top/bench/serve_load.rs"
+rustc --edition 2021 -O -o "$work/plain" "$top/bench/serve_plain.rs"
+plain=${BASELINE:-$work/plain}
 connections=${CONNECTIONS:-4}
 sessions=${SESSIONS:-50}
 millions=${MILLIONS:-1}
@@ -70,7 +72,7 @@ memory() {
 
 for run in 1 2 3; do
     echo "eureka: $(beats "$program" "$sessions" 1)"
-    if [ -n "${BASELINE:-}" ]; then echo "plain: $(beats "$BASELINE" "$sessions" 1)"; fi
+    echo "plain: $(beats "$plain" "$sessions" 1)"
     echo "echo: $(beats echo "$sessions" 1)"
 done
 

@@ -5,7 +5,7 @@ use eu_book::Book;
 use eu_clock::FirstChooser;
 use eu_json::read_instance;
 use eu_model::Command;
-use std::alloc::Global;
+use std::alloc::{AllocError, Global};
 
 /// An instance as a client registers it over HTTP, of one of a hundred applications.
 fn client(alloc: Global, number: u32, moment: Moment) -> Result<Instance, Fault> {
@@ -18,31 +18,51 @@ fn client(alloc: Global, number: u32, moment: Moment) -> Result<Instance, Fault>
     read_instance(alloc, text.as_str(), &app, moment)
 }
 
-/// A book that holds so many leases. The faults are those of `Book::apply`.
-fn filled(alloc: Global, leases: u32) -> Result<Book, Fault> {
-    let config = Config::new(true, 85, 30, 60_000)?;
+/// Has a book register a client. The faults are those of `Book::apply`.
+fn register(alloc: Global, book: &mut Book, number: u32, moment: Moment) -> Result<(), Fault> {
+    let instance = client(alloc, number, moment)?;
+    let command = Command::Register {
+        instance,
+        replicated: false,
+    };
+    let receipt = book.apply(alloc, 0, command, moment, &mut FirstChooser)?;
+    drop(receipt);
+    Ok(())
+}
+
+/// The same of so many clients.
+fn fill(alloc: Global, book: &mut Book, leases: u32) -> Result<(), Fault> {
     let moment = Moment::new(0).ok_or(Fault::BadValue)?;
-    let mut book = Book::open(alloc, config, 1, 0)?;
     for number in 0..leases {
-        let instance = client(alloc, number, moment)?;
-        let command = Command::Register {
-            instance,
-            replicated: false,
-        };
-        book.apply(alloc, 0, command, moment, &mut FirstChooser)?;
+        register(alloc, book, number, moment)?;
     }
-    Ok(book)
+    Ok(())
+}
+
+/// Has a book begin its journal anew, and lets go of the journal that it was; how many leases its base had.
+fn renew(alloc: Global, book: &mut Book) -> Result<u64, AllocError> {
+    let journal = book.checkpoint(alloc)?;
+    let leases = journal.base.leases.as_slice().len() as u64;
+    drop(journal);
+    Ok(leases)
+}
+
+/// Fills a book, and has it do that so many times; how many leases the bases had in all.
+fn fill_and_renew(alloc: Global, book: &mut Book, leases: u32, times: u32) -> Result<u64, Fault> {
+    fill(alloc, book, leases)?;
+    let mut based = 0u64;
+    for _ in 0..times {
+        based = based.saturating_add(renew(alloc, book)?);
+    }
+    Ok(based)
 }
 
 /// Has a book of so many leases begin its journal anew so many times, and lets go of each journal that it was; how many leases their
 /// bases had in all. `Full` where the leases are more than a registry holds; `OutOfMemory`.
 pub fn count_based(alloc: Global, leases: u32, times: u32) -> Result<u64, Fault> {
-    let mut book = filled(alloc, leases)?;
-    let mut based = 0u64;
-    for _ in 0..times {
-        let journal = book.checkpoint(alloc)?;
-        based = based.saturating_add(journal.base.leases.as_slice().len() as u64);
-        drop(journal);
-    }
-    Ok(based)
+    let config = Config::new(true, 85, 30, 60_000)?;
+    let mut book = Book::open(alloc, config, 1, 0)?;
+    let based = fill_and_renew(alloc, &mut book, leases, times);
+    drop(book);
+    based
 }

@@ -7,6 +7,7 @@ ghost use Rattle.eu_model.specs.declared.views.Listed.{Listed};
 use eu_base::{App, Config, Fault, Id, Instance, Key, Moment, Rest, Status};
 use eu_core::Registry;
 use eu_json::applications_value;
+use eu_model::Listed;
 use std::alloc::Global;
 
 /// The instance that the script's line `register 0 APP ID 90 UP UNKNOWN 0 c` registers, of one of a hundred applications.
@@ -26,23 +27,48 @@ fn newcomer(alloc: Global, number: u32) -> Result<Instance, Fault> {
     })
 }
 
-/// A registry with so many instances. The faults are those of its `register`.
-fn filled(alloc: Global, count: u32) -> Result<Registry, Fault> {
-    let config = Config::new(true, 85, 30, 60_000)?;
+/// Registers so many instances. The faults are those of `Registry::register`.
+fn fill(alloc: Global, registry: &mut Registry, count: u32) -> Result<(), Fault> {
     let moment = Moment::new(0).ok_or(Fault::BadValue)?;
-    let mut registry = Registry::open(alloc, config, 1);
     for number in 0..count {
         let instance = newcomer(alloc, number)?;
-        registry.register(alloc, instance, false, moment)?;
+        let reply = registry.register(alloc, instance, false, moment)?;
+        drop(reply);
     }
-    Ok(registry)
+    Ok(())
+}
+
+/// Fills a registry, and lists what it holds.
+fn fill_and_list(alloc: Global, registry: &mut Registry, count: u32) -> Result<Vec<Listed>, Fault> {
+    fill(alloc, registry, count)?;
+    Ok(registry.list(alloc, None)?)
+}
+
+/// What a registry with so many instances lists.
+fn listed(alloc: Global, count: u32) -> Result<Vec<Listed>, Fault> {
+    let config = Config::new(true, 85, 30, 60_000)?;
+    let mut registry = Registry::open(alloc, config, 1);
+    let held = fill_and_list(alloc, &mut registry, count);
+    drop(registry);
+    held
+}
+
+/// The JSON of a listing.
+fn text_of(alloc: Global, held: &[Listed]) -> Result<String, Fault>
+    ensures { IfOk result (λ text. string_bytes text ≡ compact_text (applications_tree held.now)) }
+{
+    let value = applications_value(alloc, held)?;
+    let text = value.to_string(alloc)?;
+    drop(value);
+    Ok(text)
 }
 
 /// The JSON of a registry that holds so many instances. `Full` where they are more than a registry holds; `OutOfMemory`.
 pub fn listing_text(alloc: Global, count: u32) -> Result<String, Fault>
     ensures { IfOk result (λ text. (held : List Listed) × (string_bytes text ≡ compact_text (applications_tree held))) }
 {
-    let registry = filled(alloc, count)?;
-    let held = registry.list(alloc, None)?;
-    Ok(applications_value(alloc, held.as_slice())?.to_string(alloc)?)
+    let held = listed(alloc, count)?;
+    let text = text_of(alloc, held.as_slice());
+    drop(held);
+    text
 }

@@ -11,19 +11,19 @@
 #![tactic(auto)]
 
 mod asks;
-mod check;
 mod checkpoints;
 mod heartbeats;
 mod listing;
 mod pieces;
+mod small;
 
 use anyhow::{Context, bail};
 use asks::count_accepted;
-use check::{check, print_totals};
 use checkpoints::count_based;
 use heartbeats::count_routed;
 use listing::listing_text;
 use pieces::{Pieces, count_requests};
+use small::{check, print_totals};
 use std::io::Read;
 use std::rt::Env;
 use std::sync::Wait;

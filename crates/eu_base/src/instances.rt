@@ -60,7 +60,7 @@ impl Instance {
         self.dirty == other.dirty && self.secs == other.secs && self.interval == other.interval
     }
 
-    /// The same instance once more.
+    /// The same instance once more. `AllocError` where no memory is left.
     pub fn copy(&self, alloc: Global) -> Result<Instance, AllocError>
         ensures { IfOk result (λ i. i ≡ self.now) }
     {

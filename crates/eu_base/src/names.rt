@@ -151,7 +151,7 @@ impl App {
         self.name.as_str()
     }
 
-    /// The same name once more.
+    /// The same name once more. `AllocError` where no memory is left.
     pub fn copy(&self, alloc: Global) -> Result<App, AllocError>
         ensures { IfOk result (λ a. a ≡ self.now) }
     {
@@ -198,7 +198,7 @@ impl Id {
         self.id.as_str()
     }
 
-    /// The same name once more.
+    /// The same name once more. `AllocError` where no memory is left.
     pub fn copy(&self, alloc: Global) -> Result<Id, AllocError>
         ensures { IfOk result (λ i. i ≡ self.now) }
     {
@@ -217,7 +217,7 @@ pub struct Key {
 }
 
 impl Key {
-    /// The same key once more.
+    /// The same key once more. `AllocError` where no memory is left.
     pub fn copy(&self, alloc: Global) -> Result<Key, AllocError>
         ensures { IfOk result (λ k. k ≡ self.now) }
     {

@@ -89,7 +89,7 @@ impl Task {
             && same_or_none(&self.instance, &other.instance)
     }
 
-    /// The same task once more.
+    /// The same task once more. `AllocError` where no memory is left.
     pub fn copy(&self, alloc: Global) -> Result<Task, AllocError>
         ensures { IfOk result (λ t. t ≡ self.now) }
     {

@@ -5,8 +5,8 @@ ghost use Rattle.eu_choice.specs.Front.{shuffled, state_after};
 
 use eu_clock::Chooser;
 
-/// Draws `n` members of a list, by the chooser's words, and leaves them at its front: the first `n` swaps of a Knuth shuffle
-/// (TAOCP 3.4.2, Algorithm P, from the front), as Eureka's evictor makes them (`AbstractInstanceRegistry.evict`).
+/// Draws `n` members of a list, which has as many at least, by the chooser's words, and leaves them at its front: the first `n` swaps of
+/// a Knuth shuffle (TAOCP 3.4.2, Algorithm P, from the front), as Eureka's evictor makes them (`AbstractInstanceRegistry.evict`).
 ///
 /// For each place from 0 to `n - 1`, one word is asked, below the number of places that are left, that one included. The
 /// members stay the same ones, so where they differ, those at the front do. Takes no memory.

@@ -16,7 +16,7 @@ use std::marker::Model;
 pub trait Chooser {
     ghost asks: { Self → ℕ → ℕ × Self };
 
-    /// The next word below `n`. Takes no memory.
+    /// The next word below `n`, which is above 0. Takes no memory.
     fn below(&mut self, n: u64) -> u64
         requires { 0 < n }
         ensures asked { (result, self.new) ≡ asks self.old n }

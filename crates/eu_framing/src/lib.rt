@@ -2,8 +2,8 @@
 //!
 //! `read_request` takes the next request from a reader and a buffer of what was read before: its head, by the grammar of
 //! `httparse`, and then its body, of a stated length or in chunks (RFC 9112). What it answers is fixed by the whole list of
-//! bytes, however they are cut into reads: the request, or the end, or the first fault. It waits for no byte behind the
-//! request, and takes time in proportion to the bytes.
+//! bytes, however they are cut into reads: the request, or the end, or the first fault. No byte behind the request is waited
+//! for, and the time is in proportion to the bytes; these two no contract says.
 #![tactic(auto)]
 
 mod body;

@@ -1,1 +1,1 @@
-pub mod Paces
+pub mod Timers

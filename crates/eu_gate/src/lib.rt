@@ -1,10 +1,11 @@
-//! What paces the workers of a server: the gates that they pass, the periods of its timers, and how many sessions are still to come.
+//! What paces the workers of a server: the gates that they pass, when its timers take their turns, and how many connections are
+//! still to be accepted.
 #![tactic(auto)]
 
-mod entrance;
+mod admission;
 mod gate;
-mod periods;
+mod timers;
 
-pub use entrance::Entrance;
+pub use admission::Admission;
 pub use gate::{BUCKET, EVICTOR, FIRST_REPLICATOR, Gate, Go, MOST_WORKERS, Point, THRESHOLD};
-pub use periods::{BUCKET_MS, Periods, THRESHOLD_MS, Timer, Timers, is_timer};
+pub use timers::{BUCKET_MS, Periods, Schedule, Schedules, THRESHOLD_MS, Timer};

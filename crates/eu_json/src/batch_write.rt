@@ -14,7 +14,7 @@ use eu_base::{Action, Instance, Status, Task};
 use serde_json::{Map, Value};
 use std::alloc::{AllocError, Global};
 
-/// The members by which a task tells of its instance. `OutOfMemory`.
+/// The members by which a task tells of its instance. `AllocError` where no memory is left.
 fn instance_members(
     alloc: Global,
     action: Action,
@@ -42,7 +42,7 @@ fn instance_members(
     }
 }
 
-/// The members by which a task tells of its instance, where it has one. `OutOfMemory`.
+/// The members by which a task tells of its instance, where it has one. `AllocError` where no memory is left.
 fn task_members(alloc: Global, task: &Task) -> Result<Map<String, Value>, AllocError>
     ensures tree { IfOk result (λ members. members_view members.entries ≡ instance_members task.now.action task.now.status task.now.instance) }
     ensures whole { IfOk result (λ members. members_have_float (members_view members.entries) ≡ false) }
@@ -53,7 +53,7 @@ fn task_members(alloc: Global, task: &Task) -> Result<Map<String, Value>, AllocE
     }
 }
 
-/// The item of a task. `OutOfMemory`.
+/// The item of a task. `AllocError` where no memory is left.
 fn task_value(alloc: Global, task: &Task) -> Result<Value, AllocError>
     ensures tree { IfOk result (λ v. view v ≡ task_tree task.now) }
     ensures whole { IfOk result (λ v. has_float (view v) ≡ false) }
@@ -65,7 +65,7 @@ fn task_value(alloc: Global, task: &Task) -> Result<Value, AllocError>
     Ok(Value::Object(members))
 }
 
-/// The items of tasks, in order. `OutOfMemory`.
+/// The items of tasks, in order. `AllocError` where no memory is left.
 fn task_values(alloc: Global, tasks: &[Task]) -> Result<Vec<Value>, AllocError>
     ensures trees { IfOk result (λ v. map view v.items ≡ map task_tree tasks.now) }
     ensures whole { IfOk result (λ v. items_have_float (items_view v.items) ≡ false) }
@@ -85,7 +85,7 @@ fn task_values(alloc: Global, tasks: &[Task]) -> Result<Vec<Value>, AllocError>
 /// digits, `overriddenStatus`, and `status`, which is the task's, or the instance's where the task has none; and for a
 /// `Register`, `instanceInfo`, the instance as `instance_value` writes it, without moments of a lease.
 ///
-/// `OutOfMemory` alone.
+/// `AllocError` where no memory is left.
 pub fn batch_value(alloc: Global, tasks: &[Task]) -> Result<Value, AllocError>
     ensures tree { IfOk result (λ v. view v ≡ batch_tree tasks.now) }
     ensures whole { IfOk result (λ v. has_float (view v) ≡ false) }
@@ -99,7 +99,7 @@ pub fn batch_value(alloc: Global, tasks: &[Task]) -> Result<Value, AllocError>
 /// `read_batch` of it gives what the tasks ask their receiver for, where there are at most 250, the text nests at most 127 deep,
 /// and the tasks are as the law `batches_come_back` has them.
 ///
-/// `OutOfMemory` alone.
+/// `AllocError` where no memory is left.
 pub fn batch_text(alloc: Global, tasks: &[Task]) -> Result<String, AllocError>
     ensures text { IfOk result (λ s. string_bytes s ≡ compact_text (batch_tree tasks.now)) }
     ensures comes_back { IfOk result (λ s. IsBatch tasks.now → depth (batch_tree tasks.now) ≤ max_depth → SaysTasks (string_bytes s) tasks.now) }
@@ -117,7 +117,7 @@ pub struct ItemAnswer {
     pub instance: Option<Instance>,
 }
 
-/// The JSON of an item's answer. `OutOfMemory`.
+/// The JSON of an item's answer. `AllocError` where no memory is left.
 fn answer_value(alloc: Global, answer: &ItemAnswer) -> Result<Value, AllocError>
     ensures tree { IfOk result (λ v. view v ≡ answer_tree answer.now) }
     ensures whole { IfOk result (λ v. has_float (view v) ≡ false) }
@@ -135,7 +135,7 @@ fn answer_value(alloc: Global, answer: &ItemAnswer) -> Result<Value, AllocError>
     }
 }
 
-/// The items of answers, in order. `OutOfMemory`.
+/// The items of answers, in order. `AllocError` where no memory is left.
 fn answer_values(alloc: Global, answers: &[ItemAnswer]) -> Result<Vec<Value>, AllocError>
     ensures trees { IfOk result (λ v. map view v.items ≡ map answer_tree answers.now) }
     ensures whole { IfOk result (λ v. items_have_float (items_view v.items) ≡ false) }
@@ -152,7 +152,7 @@ fn answer_values(alloc: Global, answers: &[ItemAnswer]) -> Result<Vec<Value>, Al
 /// item for each answer, in order. An item has `statusCode`, a number, and where there is an instance `responseEntity`, the
 /// instance as `instance_value` writes it, without moments of a lease.
 ///
-/// `OutOfMemory` alone.
+/// `AllocError` where no memory is left.
 pub fn batch_answer_value(alloc: Global, answers: &[ItemAnswer]) -> Result<Value, AllocError>
     ensures tree { IfOk result (λ v. view v ≡ answers_tree answers.now) }
     ensures whole { IfOk result (λ v. has_float (view v) ≡ false) }

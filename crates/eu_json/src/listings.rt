@@ -11,7 +11,7 @@ use eu_page::hash_code;
 use serde_json::{Map, Value};
 use std::alloc::{AllocError, Global};
 
-/// Puts a value behind the others. `OutOfMemory`.
+/// Puts a value behind the others. `AllocError` where no memory is left.
 pub fn push(items: &mut Vec<Value>, value: Value) -> Result<(), AllocError>
     ensures trees { OnOk result (map view items.new.items ≡ map view items.old.items ++ view value ∷ []) }
     ensures whole { OnOk result (items_have_float (items_view items.old.items) ≡ false → has_float (view value) ≡ false → items_have_float (items_view items.new.items) ≡ false) }
@@ -20,7 +20,7 @@ pub fn push(items: &mut Vec<Value>, value: Value) -> Result<(), AllocError>
     Ok(())
 }
 
-/// The leases, each as it is listed. `OutOfMemory`.
+/// The leases, each as it is listed. `AllocError` where no memory is left.
 fn listed_values(alloc: Global, held: &[Listed]) -> Result<Vec<Value>, AllocError>
     ensures trees { IfOk result (λ v. map view v.items ≡ map listed_tree held.now) }
     ensures whole { IfOk result (λ v. items_have_float (items_view v.items) ≡ false) }
@@ -33,7 +33,7 @@ fn listed_values(alloc: Global, held: &[Listed]) -> Result<Vec<Value>, AllocErro
     Ok(items)
 }
 
-/// The item of one application. `OutOfMemory`.
+/// The item of one application. `AllocError` where no memory is left.
 fn item_value(alloc: Global, held: &[Listed]) -> Result<Value, AllocError>
     requires { 0 < length held.now }
     ensures tree { IfOk result (λ v. view v ≡ item_tree held.now) }
@@ -55,7 +55,7 @@ fn item_value(alloc: Global, held: &[Listed]) -> Result<Value, AllocError>
 /// as `name` (`ApplicationResource.getApplication` in Eureka). There is at least one lease, and all are of one application:
 /// its name is that of the first.
 ///
-/// `OutOfMemory` alone.
+/// `AllocError` where no memory is left.
 pub fn application_value(alloc: Global, held: &[Listed]) -> Result<Value, AllocError>
     requires { 0 < length held.now }
     ensures tree { IfOk result (λ v. view v ≡ application_tree held.now) }
@@ -80,7 +80,7 @@ fn run_len(held: &[Listed]) -> usize
     held.len()
 }
 
-/// The item of each application. `OutOfMemory`.
+/// The item of each application. `AllocError` where no memory is left.
 fn item_values(alloc: Global, held: &[Listed]) -> Result<Vec<Value>, AllocError>
     ensures trees { IfOk result (λ v. map view v.items ≡ map item_tree (runs held.now)) }
     ensures whole { IfOk result (λ v. items_have_float (items_view v.items) ≡ false) }
@@ -102,7 +102,7 @@ fn item_values(alloc: Global, held: &[Listed]) -> Result<Vec<Value>, AllocError>
 ///
 /// An item ends where a lease of another application follows: where the leases are in key order, each application has one.
 ///
-/// `OutOfMemory` alone.
+/// `AllocError` where no memory is left.
 pub fn applications_value(alloc: Global, held: &[Listed]) -> Result<Value, AllocError>
     ensures tree { IfOk result (λ v. view v ≡ applications_tree held.now) }
     ensures whole { IfOk result (λ v. has_float (view v) ≡ false) }

@@ -46,7 +46,7 @@ pub fn without(object: Value, name: &str) -> Value
     }
 }
 
-/// Sets a member. `OutOfMemory`.
+/// Sets a member. `AllocError` where no memory is left.
 pub fn set(
     alloc: Global,
     members: &mut Map<String, Value>,
@@ -61,7 +61,7 @@ pub fn set(
     Ok(())
 }
 
-/// Sets a member to a text. `OutOfMemory`.
+/// Sets a member to a text. `AllocError` where no memory is left.
 pub fn set_text(
     alloc: Global,
     members: &mut Map<String, Value>,
@@ -75,7 +75,7 @@ pub fn set_text(
     set(alloc, members, name, value)
 }
 
-/// The object with one member. `OutOfMemory`.
+/// The object with one member. `AllocError` where no memory is left.
 pub fn alone(alloc: Global, name: &str, value: Value) -> Result<Value, AllocError>
     ensures tree { IfOk result (λ v. view v ≡ alone name.now (view value)) }
     ensures whole { IfOk result (λ v. has_float (view value) ≡ false → has_float (view v) ≡ false) }

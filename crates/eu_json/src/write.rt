@@ -10,7 +10,7 @@ use eu_model::Times;
 use serde_json::{Value, json};
 use std::alloc::{AllocError, Global};
 
-/// What is told of a lease. `OutOfMemory`.
+/// What is told of a lease. `AllocError` where no memory is left.
 fn lease_value(
     alloc: Global,
     instance: &Instance,
@@ -43,7 +43,7 @@ fn lease_value(
 /// `registrationTimestamp`, `lastRenewalTimestamp` (the last update), `serviceUpTimestamp` (0 where the instance never was up)
 /// and `evictionTimestamp` (0, as an evicted lease isn't held), in milliseconds. These are numbers.
 ///
-/// `OutOfMemory` alone.
+/// `AllocError` where no memory is left.
 pub fn instance_value(
     alloc: Global,
     instance: &Instance,
@@ -72,7 +72,7 @@ pub fn instance_value(
 /// The JSON of one instance, as it is answered: an object with the one member `instance`. With the moments of its lease, where
 /// they are given (`InstanceResource.getInstanceInfo` in Eureka).
 ///
-/// `OutOfMemory` alone.
+/// `AllocError` where no memory is left.
 pub fn held_value(
     alloc: Global,
     instance: &Instance,

@@ -28,7 +28,8 @@ impl Model for Lease {
 }
 
 impl Lease {
-    /// A lease that is made now, for so many seconds: its last update is now, and its instance was never up.
+    /// A lease that is made now, for so many seconds, at most 2,147,483: its last update is now, and its instance was never up (`Lease`'s
+    /// constructor).
     pub fn fresh(moment: Moment, secs: u32) -> Lease
         requires { secs ≤ 2147483 }
         ensures { result ≡ fresh moment secs }
@@ -42,7 +43,8 @@ impl Lease {
         }
     }
 
-    /// The lease made anew, for so many seconds: only the moment at which its instance was first up stays.
+    /// The lease made anew, for so many seconds, at most 2,147,483: only the moment at which its instance was first up stays
+    /// (`AbstractInstanceRegistry.register`, which carries `serviceUpTimestamp` over).
     pub fn anew(&self, moment: Moment, secs: u32) -> Lease
         requires { secs ≤ 2147483 }
         ensures { result ≡ anew self.now moment secs }

@@ -54,7 +54,7 @@ fn value_of(config: &Config, expected: u64) -> u64
 }
 
 /// How many of so many leases one eviction pass may take out: all but the percentage, which is rounded down
-/// (`AbstractInstanceRegistry.evict` in Eureka).
+/// (`AbstractInstanceRegistry.evict` in Eureka). The caller hands in at most 65,536 leases and at most 100 per cent.
 pub fn evict_limit(size: usize, percent: u32) -> usize
     requires size { size ≤ 65536 }
     requires percent { percent ≤ 100 }
@@ -64,7 +64,7 @@ pub fn evict_limit(size: usize, percent: u32) -> usize
 }
 
 impl Threshold {
-    /// The threshold where so many clients are expected.
+    /// The threshold where so many clients are expected (`PeerAwareInstanceRegistryImpl.openForTraffic` in Eureka).
     pub fn open(config: Config, expected: u32) -> Threshold
         ensures { result ≡ record { config = config; expected = expected } }
     {
@@ -92,7 +92,7 @@ impl Threshold {
         self.expected
     }
 
-    /// The renewals a minute above which eviction is permitted.
+    /// The renewals a minute above which eviction is permitted (`numberOfRenewsPerMinThreshold` in Eureka).
     pub fn value(&self) -> u64
         ensures { result ≡ threshold self.now.config self.now.expected }
     {
@@ -107,8 +107,8 @@ impl Threshold {
         !self.config.preservation || (self.value > 0 && renewals > self.value)
     }
 
-    /// A client has come: one more is expected, but none where none was. `Exhausted` exactly where 2^40 are; that
-    /// changes nothing.
+    /// A client has come: one more is expected, but none where none was (`AbstractInstanceRegistry.register` in Eureka). `Exhausted`
+    /// exactly where 2^40 are; that changes nothing.
     pub fn joined(&mut self) -> Result<(), Fault>
         ensures one_more { OnOk result (self.new ≡ record self.old { expected = one_more true self.old.expected }) }
         ensures exhausted { (result ≡ Err Fault.Exhausted) ↔ (self.old.expected ≡ 2 ^ 40) }
@@ -125,7 +125,7 @@ impl Threshold {
         Ok(())
     }
 
-    /// A client has left: one fewer is expected, but never fewer than none.
+    /// A client has left: one fewer is expected, but never fewer than none (`PeerAwareInstanceRegistryImpl.cancel` in Eureka).
     pub fn left(&mut self)
         ensures { self.new ≡ record self.old { expected = self.old.expected - 1 } }
     {

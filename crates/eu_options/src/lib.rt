@@ -6,6 +6,3 @@ mod serving;
 
 pub use options::{command, config_of, seed_of, serving_of};
 pub use serving::Serving;
-
-#[cfg(test)]
-mod tests;

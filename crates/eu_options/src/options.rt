@@ -139,7 +139,7 @@ fn serve<'a>(alloc: Global) -> Result<Command<'a>, AllocError>
     with_server(alloc, with_settings(alloc, serve)?)
 }
 
-/// The command line: `eureka script` and `eureka serve` with their options.
+/// The command line: `eureka script` and `eureka serve` with their options. `AllocError` where no memory is left.
 pub fn command<'a>(alloc: Global) -> Result<Command<'a>, AllocError>
     ensures { IfOk result (λ c. (one : _) × (other : _) × IsSwitchParser one × IsSwitchParser other × (app_of c ≡ program_app one other)) }
 {

@@ -10,7 +10,7 @@ use std::alloc::{AllocError, Global};
 /// The hash code of these leases (`Applications.getReconcileHashCode` in Eureka): for each status that occurs, in the order
 /// of the names' bytes, the name, `_`, how many instances have it, and `_`. Empty where no lease is held.
 ///
-/// `OutOfMemory` alone.
+/// `AllocError` where no memory is left.
 pub fn hash_code(alloc: Global, held: &[Listed]) -> Result<String, AllocError>
     ensures { IfOk result (λ code. string_bytes code ≡ hash_code held.now) }
 {

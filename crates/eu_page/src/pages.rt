@@ -38,7 +38,7 @@ pub struct Page {
 /// statuses UP_1_
 /// ```
 ///
-/// `OutOfMemory` alone.
+/// `AllocError` where no memory is left.
 pub fn status_page(alloc: Global, page: &Page) -> Result<String, AllocError>
     ensures { IfOk result (λ text. string_bytes text ≡ page_text page.now) }
 {
@@ -83,7 +83,7 @@ fn yes_or_no(yes: bool) -> &'static str
     if yes { "yes" } else { "no" }
 }
 
-/// The page of a registry with these counts, which holds these leases. `OutOfMemory` alone.
+/// The page of a registry with these counts, which holds these leases. `AllocError` where no memory is left.
 pub fn page_of(alloc: Global, counts: &Counts, held: &[Listed]) -> Result<Page, AllocError>
     ensures { IfOk result (λ page. IsPageOf counts.now held.now page) }
 {

@@ -1,6 +1,6 @@
 //! The gate of a server, which paces its timers.
 
-use eu_gate::{Gate, Go, Periods, Point, Timers, is_timer};
+use eu_gate::{Gate, Go, Periods, Point, Schedules, Timer};
 use std::io;
 use std::sync::{Condvar, Mutex, Wait};
 use std::time::{Clock, Instant};
@@ -13,48 +13,52 @@ use std::time::{Clock, Instant};
 #[derive(Drop)]
 pub struct Pace<'a, R: Wait + Clock> {
     rt: &'a R,
-    timers: Mutex<Timers>,
+    schedules: Mutex<Schedules>,
     ended: Condvar,
 }
 
 impl<'a, R: Wait + Clock> Pace<'a, R> {
     /// The gate of a server that begins now. An error is the clock's.
     pub fn new(rt: &'a R, periods: Periods) -> io::Result<Pace<'a, R>> {
-        let timers = Timers::new(periods, Instant::now(rt)?);
+        let schedules = Schedules::new(periods, Instant::now(rt)?);
         Ok(Pace {
             rt,
-            timers: Mutex::new(timers),
+            schedules: Mutex::new(schedules),
             ended: Condvar::new(),
         })
     }
 
     /// Tells the timers that the sessions have ended.
     pub fn end(&self) {
-        self.timers.lock(self.rt).have_ended = true;
+        self.schedules.lock(self.rt).have_ended = true;
         self.ended.notify_all();
     }
 
-    /// Waits until the next turn of the timer with that number is due, and begins it; `Stop` where the sessions have ended.
-    fn wait_for_turn(&self, who: u32) -> io::Result<Go> {
+    /// Waits until the next turn of a timer is due, and begins it; `Stop` where the sessions have ended. An error is the clock's, and
+    /// begins nothing.
+    fn wait_for_turn(&self, timer: Timer) -> io::Result<Go> {
         let now = Instant::now(self.rt)?;
-        let mut timers = self.timers.lock(self.rt);
-        let left = timers.left(who, now);
-        let (mut timers, _) = self
-            .ended
-            .wait_timeout_while(self.rt, timers, left, |timers| !timers.have_ended);
-        if timers.have_ended {
+        let mut schedules = self.schedules.lock(self.rt);
+        let left = schedules.left(timer, now);
+        let (mut schedules, _) = self.ended.wait_timeout_while(
+            self.rt,
+            schedules,
+            left,
+            |schedules| !schedules.have_ended,
+        );
+        if schedules.have_ended {
             return Ok(Go::Stop);
         }
-        timers.begin(who, Instant::now(self.rt)?);
+        schedules.begin(timer, Instant::now(self.rt)?);
         Ok(Go::On)
     }
 }
 
 impl<R: Wait + Clock> Gate for Pace<'_, R> {
     fn pass(&self, who: u32, point: Point) -> Go {
-        if point != Point::Turn || !is_timer(who) {
-            return Go::On;
+        match Timer::of(who) {
+            Some(timer) if point == Point::Turn => self.wait_for_turn(timer).unwrap_or(Go::Stop),
+            _ => Go::On,
         }
-        self.wait_for_turn(who).unwrap_or(Go::Stop)
     }
 }

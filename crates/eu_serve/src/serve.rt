@@ -6,11 +6,11 @@ ghost use Rattle.eu_serve.specs.Unlimited.{IsUnlimited};
 ghost use Rattle.eu_settle.specs.Settled.{IsMismatch, IsSettled};
 ghost use Rattle.eu_settle.specs.declared.settling.Mismatch.{Mismatch};
 
-use crate::door::{Door, Hall, Timeouts};
-use crate::nobody::Nobody;
+use crate::acceptor::{Acceptor, Connections, Timeouts};
+use crate::no_peer::NoPeer;
 use eu_base::{Config, Fault};
 use eu_clock::{Chooser, SystemClock};
-use eu_gate::{Entrance, Periods};
+use eu_gate::{Admission, Periods};
 use eu_routes::Routes;
 use eu_settle::{Closed, settle};
 use eu_shared::{Blanks, Label, Pass, Shared, Unclosed, close};
@@ -29,11 +29,17 @@ const TIMERS: usize = 3;
 /// What a server is to do.
 #[derive(Clone, Copy)]
 pub(crate) struct Plan {
+    /// The settings of its registry.
     pub config: Config,
+    /// How many clients it expects at first.
     pub expected: u32,
+    /// How many connections it serves at once.
     pub workers: u32,
+    /// After how many connections it ends.
     pub sessions: u32,
+    /// The milliseconds between two turns of each timer.
     pub periods: Periods,
+    /// For how long it waits for a connection.
     pub timeouts: Timeouts,
 }
 
@@ -56,14 +62,14 @@ impl Plan {
 }
 
 /// A worker of a server, over a book that `K` names.
-type Hand<'a, K, R, H> = Worker<K, Door<'a, R>, SystemClock<'a, R>, H, Nobody>;
+type ServerWorker<'a, K, R, H> = Worker<K, Connections<'a, R>, SystemClock<'a, R>, H, NoPeer>;
 
 /// A job without a limit.
 fn job<'a, K: Label, R: Wait + Clock, H: Chooser>(
     rt: &'a R,
     pass: Pass<K>,
-    work: Work<Door<'a, R>, H, Nobody>,
-) -> Hand<'a, K, R, H>
+    work: Work<Connections<'a, R>, H, NoPeer>,
+) -> ServerWorker<'a, K, R, H>
     ensures { IsUnlimited result }
 {
     Worker::Ready(Job {
@@ -74,19 +80,20 @@ fn job<'a, K: Label, R: Wait + Clock, H: Chooser>(
     })
 }
 
-/// The workers of sessions, and then the evictor, the bucket's and the threshold's worker, each with a pass.
-fn hire<'a, K: Label, R: Wait + Clock, H: Chooser + Drop>(
+/// The workers of sessions, and then the evictor, the bucket's and the threshold's worker, each with a pass. `OutOfMemory`, and the
+/// fault of `Shared::pass`.
+fn make_workers<'a, K: Label, R: Wait + Clock, H: Chooser + Drop>(
     rt: &'a R,
     alloc: Global,
     shared: &Shared<K>,
-    hall: &'a Hall<'a, R>,
+    acceptor: &'a Acceptor<'a, R>,
     count: u32,
     chooser: H,
-) -> Result<Vec<Hand<'a, K, R, H>>, Fault> {
+) -> Result<Vec<ServerWorker<'a, K, R, H>>, Fault> {
     let mut workers = Vec::with_capacity(alloc, count as usize + TIMERS)?;
     for _worker in 0..count {
         let work = Work::Sessions {
-            source: Door { hall },
+            source: Connections { acceptor },
         };
         workers.push(job(rt, shared.pass(rt, alloc)?, work))?;
     }
@@ -96,9 +103,10 @@ fn hire<'a, K: Label, R: Wait + Clock, H: Chooser + Drop>(
     Ok(workers)
 }
 
-/// Takes the passes back, and tells how many connections the workers of sessions served in all.
+/// Takes the passes back, and tells how many connections the workers of sessions served in all. `OutOfMemory` where there is no room for
+/// the passes.
 fn gather<K: Label, R: Wait + Clock, H: Chooser + Drop>(
-    workers: Vec<Hand<'_, K, R, H>>,
+    workers: Vec<ServerWorker<'_, K, R, H>>,
     passes: &mut Vec<Pass<K>>,
 ) -> Result<u64, Fault> {
     let mut served = 0u64;
@@ -115,24 +123,30 @@ fn gather<K: Label, R: Wait + Clock, H: Chooser + Drop>(
     Ok(served)
 }
 
-/// Has all workers work until the sessions have ended. Gives their passes, and tells how many connections were served.
-fn work_all<'a, K: Label + Send + Sync, R: Threads + Wait + Clock + Sync, H: Chooser + Send + Drop>(
+/// Has all workers work until the sessions have ended. Gives their passes, and tells how many connections were served. `OutOfMemory`, and
+/// the faults of `make_workers`; after one no worker has worked.
+fn run_workers<
+    'a,
+    K: Label + Send + Sync,
+    R: Threads + Wait + Clock + Sync,
+    H: Chooser + Send + Drop,
+>(
     rt: &'a R,
     alloc: Global,
     shared: &'a Shared<K>,
-    hall: &'a Hall<'a, R>,
+    acceptor: &'a Acceptor<'a, R>,
     count: u32,
     chooser: H,
 ) -> Result<(Vec<Pass<K>>, u64), Fault> {
     let routes = Routes::new(alloc)?;
-    let mut workers = hire(rt, alloc, shared, hall, count, chooser)?;
+    let mut workers = make_workers(rt, alloc, shared, acceptor, count, chooser)?;
     let mut passes = Vec::with_capacity(alloc, workers.len())?;
     let site = Site {
         rt,
         alloc,
         shared,
         routes: &routes,
-        gate: &hall.pace,
+        gate: &acceptor.pace,
     };
     run_all(&site, workers.as_mut_slice());
     let served = gather(workers, &mut passes)?;
@@ -165,7 +179,7 @@ pub(crate) struct Outcome {
     pub closed: Closed,
 }
 
-/// Opens a book, serves it, closes it and settles it.
+/// Opens a book, serves it, closes it and settles it. The faults are those of `serve_on`, but for `Write`.
 pub(crate) fn serve_book<
     K: Label + Send + Sync,
     R: Threads + Wait + Clock + Sync,
@@ -183,13 +197,13 @@ pub(crate) fn serve_book<
     ensures settled { IfOk result (λ o. IsSettled o.closed.first o.closed.logs.items o.closed.entries.items) }
 {
     let shared: Shared<K> = Shared::open(alloc, plan.config, plan.expected, 0, blanks)?;
-    let entrance = Entrance::new(plan.sessions, plan.workers);
-    let Ok(hall) = Hall::new(rt, listener, entrance, plan.periods, plan.timeouts) else {
+    let admission = Admission::new(plan.sessions, plan.workers);
+    let Ok(acceptor) = Acceptor::new(rt, listener, admission, plan.periods, plan.timeouts) else {
         return Err(Fault::Read);
     };
-    let (passes, served) = work_all(rt, alloc, &shared, &hall, plan.workers, chooser)?;
+    let (passes, served) = run_workers(rt, alloc, &shared, &acceptor, plan.workers, chooser)?;
     let closed = judge(close(shared, alloc, passes))?;
-    if hall.has_failed() {
+    if acceptor.has_failed() {
         return Err(Fault::Read);
     }
     Ok(Outcome { served, closed })
@@ -236,8 +250,8 @@ pub(crate) fn serve<R: Threads + Wait + Clock + Sync, H: Chooser + Send + Drop, 
 /// # Errors
 ///
 /// - `Read` where a connection can't be accepted, for another reason than that it was aborted before, its network failed or a
-///   signal came. No further session begins then; those that began are finished, and the book is closed and settled, before it is told. Also where the machine's
-///   clock can't be read at the start.
+///   signal came. No further session begins then; those that began are finished, and the book is closed and settled, before it is
+///   told. Also where the machine's clock can't be read at the start.
 /// - `OutOfMemory` where there is no memory to open the book, for the workers, or to close it.
 /// - `PassMissing` and `Mismatch` where the book can't be closed or settled.
 /// - `Write` where `served N` can't be written or flushed.

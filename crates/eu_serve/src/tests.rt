@@ -1,6 +1,6 @@
 //! Servers of a few sessions, with clients in the same process.
 
-use crate::door::{Timeouts, accept};
+use crate::acceptor::{Timeouts, accept};
 use crate::pace::Pace;
 use crate::serve::{Plan, serve, serve_book, serve_on};
 use eu_base::{Config, Fault};
@@ -496,11 +496,11 @@ fn a_failed_accept_ends_the_server(rt: HostRuntime) -> Result<(), Fail> {
     Ok(())
 }
 
-/// A registration with 30,000 bytes more behind it.
+/// A registration with 60,000 bytes more behind it.
 fn registration_and_more(alloc: Global) -> Result<String, AllocError> {
     let mut text = String::new(alloc);
     text.push_str(REGISTRATION)?;
-    for _ in 0..3_000 {
+    for _ in 0..6_000 {
         text.push_str("0123456789")?;
     }
     Ok(text)
@@ -636,14 +636,29 @@ fn send_on(alloc: Global, stream: &mut TcpStream) -> io::Result<()> {
     Ok(())
 }
 
-/// Sends a byte each 20 ms behind a last request, 80 of them, or until the connection is closed.
-fn dribble<R: Clock>(rt: &R, stream: &mut TcpStream) -> io::Result<()> {
+/// Sends a byte each 20 ms behind a last request, so many of them, or until the connection is closed.
+fn dribble<R: Clock>(rt: &R, stream: &mut TcpStream, count: u32) -> io::Result<()> {
     stream.write_all(RENEWAL.as_bytes())?;
-    for _ in 0..80 {
+    for _ in 0..count {
         thread::sleep(rt, Duration::from_millis(20));
         stream.write_all(b"x")?;
     }
     Ok(())
+}
+
+/// Whether a client that dribbles three seconds long is cut off within one of them.
+fn is_cut_off_soon<R: Clock>(rt: &R, stream: &mut TcpStream) -> io::Result<bool> {
+    let began = Instant::now(rt)?;
+    let taken = dribble(rt, stream, 150);
+    Ok(taken.is_err() && began.elapsed(rt)? < Duration::from_secs(1))
+}
+
+/// What a client reads of its connection that dribbles for a while first.
+fn answered_after<R: Clock>(rt: &R, alloc: Global, stream: &mut TcpStream) -> io::Result<Vec<u8>> {
+    dribble(rt, stream, 40)?;
+    let mut answer = Vec::new(alloc);
+    stream.read_to_end(&mut answer)?;
+    Ok(answer)
 }
 
 #[test]
@@ -667,10 +682,27 @@ fn a_client_that_dribbles_on_is_cut_off(rt: HostRuntime) -> Result<(), Fail> {
     let mut stream = TcpStream::connect(&rt, address)?;
     let plan = plan(1, 10_000)?;
     let machine = &rt;
-    let (out, taken) = beside(&rt, rt.alloc(), &listener, &plan, move || {
-        dribble(machine, &mut stream)
+    let (out, is_cut_off) = beside(&rt, rt.alloc(), &listener, &plan, move || {
+        is_cut_off_soon(machine, &mut stream)
     });
-    assert!(rt; taken.is_err());
+    assert!(rt; is_cut_off?);
+    assert!(rt; out?.as_slice() == b"served 1\n".as_slice());
+    Ok(())
+}
+
+/// Bytes that come one by one count as so many, not as so many reads.
+#[test]
+fn a_client_that_dribbles_for_a_while_has_its_answer(rt: HostRuntime) -> Result<(), Fail> {
+    let (listener, address) = listen(&rt)?;
+    let mut stream = TcpStream::connect(&rt, address)?;
+    let mut plan = plan(1, 10_000)?;
+    plan.timeouts.linger = 40_000;
+    plan.timeouts.linger_bytes = 50;
+    let (alloc, machine) = (rt.alloc(), &rt);
+    let (out, answer) = beside(machine, alloc, &listener, &plan, move || {
+        answered_after(machine, alloc, &mut stream)
+    });
+    assert!(rt; answer?.as_slice() == NOT_FOUND.as_bytes());
     assert!(rt; out?.as_slice() == b"served 1\n".as_slice());
     Ok(())
 }

@@ -37,8 +37,8 @@ fn is_last(request: &Request, n: u32) -> bool
 /// In the first three cases the last response says `Connection: close`. Faults end it early:
 ///
 /// - `Read`: a read failed. The responses to the requests before are written, and nothing else, and nothing else was asked.
-/// - `Write`: a write or a flush failed. The responses before that one are written, and some front of it, all of it only where
-///   the flush failed. What the last request asks was asked, once.
+/// - `Write`: a write or a flush failed. The responses before that one are written, and some front of it. What the last request asks
+///   was asked, once.
 /// - `OutOfMemory`: the session itself found no memory. The responses to the requests before are written, and nothing else.
 ///   Of the last request all that it asks was asked, once, or nothing.
 ///

@@ -1,7 +1,8 @@
 //! The book behind its lock.
 //!
-//! Each call takes the lock once, makes the one call of its name on what lies behind it (`Held`), and releases it. What is
-//! behind a lock is known by its type alone: so a clause says of an answer that some lawful book gives it, and not which.
+//! Each call takes the lock once, makes the one call of its name on what lies behind it (`Held`; an ask has copied its command before),
+//! and releases it. What is behind a lock is known by its type alone: so a clause says of an answer that some lawful book gives it, and
+//! not which.
 ghost use Rattle.std.specs.Prelude.{◌≡◌, ◌∷◌, ◌++◌, ◌≤◌, [], map, vec_len, IfOk, IfErr, OnErr, OnOk, IsPermutation};
 ghost use Rattle.std.specs.List.Sorted.{IsNonDecreasingBy};
 ghost use Rattle.std.specs.Sync.Mutex.{mutex_guard_value};
@@ -54,7 +55,7 @@ impl<K: Label> Shared<K> {
         })
     }
 
-    /// Takes the lock. The book behind it is lawful.
+    /// Takes the lock. The book behind it is lawful: its invariant says so once it is looked at.
     fn lock<R: Wait>(&self, rt: &R) -> MutexGuard<'_, Held<K>>
         ensures { IsLawful (mutex_guard_value result).book }
     {

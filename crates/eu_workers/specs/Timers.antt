@@ -2,13 +2,13 @@
 use Rattle.std.specs.Prelude.{◌≡◌, ℕ, ◌+◌, ◌%◌, ◌≤◌, ◌==◌, ◌++◌, Bool, false, List, length}
 use Rattle.std.specs.List.{AllByRecursion}
 use Rattle.eu_book.specs.declared.journal.Logged.{Logged}
+use Rattle.eu_gate.specs.declared.timers.Timer.{Timer}
+use Rattle.eu_gate.specs.declared.timers.Timer.TheVariants.{Evictor, Bucket, Threshold}
 use Rattle.eu_model.specs.declared.commands.Command.{Command}
 use Rattle.eu_model.specs.declared.commands.Command.TheVariants.{Evict, Roll, Update}
 use Rattle.eu_settle.specs.Settled.{from_first}
 use Rattle.eu_shared.specs.Passes.{Caller}
 use Rattle.eu_workers.specs.declared.ended.Ended.{Ended}
-use Rattle.eu_workers.specs.declared.timers.Timer.{Timer}
-use Rattle.eu_workers.specs.declared.timers.Timer.TheVariants.{Evictor, Bucket, Threshold}
 use Rattle.eu_workers.specs.Ended.{IsWithin}
 
 -- what each timer's worker asks for
@@ -16,12 +16,6 @@ abbrev pub command_of : Timer → Command
 command_of Evictor = Evict
 command_of Bucket = Roll
 command_of Threshold = Update
-
--- which worker it is at the gate
-abbrev pub number_of : Timer → ℕ
-number_of Evictor = 17
-number_of Bucket = 18
-number_of Threshold = 19
 
 -- the journal is to begin anew after so many turns of a timer's worker: after each 60th of the bucket's
 abbrev pub is_due_after : Timer → ℕ → Bool

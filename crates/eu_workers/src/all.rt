@@ -107,7 +107,7 @@ fn number_all<K: Label, S: Drop, C: Drop, H: Drop, P: Drop>(workers: &mut [Worke
 }
 
 /// Does a work, turn after turn, to its end.
-fn work_off<K: Label, R: Wait, G: Gate, S: Source, C: Clock, H: Chooser, P: Peer>(
+fn take_turns<K: Label, R: Wait, G: Gate, S: Source, C: Clock, H: Chooser, P: Peer>(
     site: &Site<'_, K, R, G>,
     who: u32,
     work: &mut Work<S, H, P>,
@@ -148,7 +148,7 @@ fn run_worker<
                 limit,
                 mut work,
             } = job;
-            let (pass, ended) = work_off(site, who, &mut work, pass, &mut clock, limit);
+            let (pass, ended) = take_turns(site, who, &mut work, pass, &mut clock, limit);
             *worker = Worker::Done(pass, ended, work);
         }
         other => *worker = other,
@@ -193,12 +193,14 @@ fn run_each<
     workers.reverse();
 }
 
-/// Has each worker that is ready, or has its number already, do its job, in a thread of its own, and returns when all have ended. Where no thread can be made the
-/// jobs are done one after another, in their order; where some can, those that have none are done after those before them. Takes no memory.
+/// Has each worker that is ready, or has its number already, do its job, in a thread of its own, and returns when all have ended. Where
+/// no thread can be made the jobs are done one after another, in their order; where some can, those that have none are done after those
+/// before them. Takes no memory.
 ///
-/// Session workers that are ready are numbered from 1, in their order. Workers that are at work, or done, stay as they are. The caller hands in at most 16
-/// jobs of sessions and one of each timer, no two replicators of one peer, and no session worker that has its number beside one that is ready: else two would
-/// share a number at the gate.
+/// Session workers that are ready are numbered from 1, in their order. Workers that are at work, or done, stay as they are.
+///
+/// The caller hands in at most 16 jobs of sessions, one of each timer, no two replicators of one peer, and no session worker that has
+/// its number beside one that is ready: else two would share a number at the gate.
 pub fn run_all<
     K: Label + Send + Sync,
     R: Threads + Wait + Sync,

@@ -25,11 +25,11 @@ fn turn<K: Label, R: Wait, G: Gate, P: Peer, C: Clock>(
     sent.is_err()
 }
 
-/// The replicator of the peer of that number (`ReplicationTaskProcessor` in Eureka): sends what waits for it, turn after turn, until the
-/// gate stops it or it had so many turns, and gives its pass back.
+/// The replicator of the peer of that number, from 0 (`ReplicationTaskProcessor` in Eureka): sends what waits for it, turn after turn,
+/// until the gate stops it or it had so many turns, and gives its pass back.
 ///
-/// A turn passes the gate, is one `eu_peer::replicate_turn`, and trims the log of the pass (`Pass::trim`). One that ends by a fault is counted as refused, and the next one
-/// follows. No two replicators of one peer may work at once.
+/// A turn passes the gate, is one `eu_peer::replicate_turn`, and trims the log of the pass (`Pass::trim`). One that ends by a fault is
+/// counted as refused, and the next one follows. No two replicators of one peer may work at once.
 pub fn run_replicator<K: Label, R: Wait, G: Gate, P: Peer, C: Clock>(
     site: &Site<'_, K, R, G>,
     number: u32,

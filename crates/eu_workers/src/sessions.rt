@@ -60,13 +60,12 @@ fn turn<K: Label, R: Wait, G: Gate, S: Source, C: Clock>(
     served.is_err()
 }
 
-/// Serves the sessions of one connection after the other, with the worker's number, until there is none, the gate stops it or it had so
-/// many turns, and gives its pass back.
+/// Serves the sessions of one connection after the other, until there is none, the gate stops it or it had so many turns, and gives its
+/// pass back. `who` is the worker's number at the gate, 1 to 16.
 ///
-/// A turn passes the gate, takes the next connection, serves its session (`eu_session::serve_session`), ends the connection and trims the
-/// log of the pass (`Pass::trim`). Each
-/// read of the connection passes the gate first, and fails where that says `Stop`; and each response passes it before it is flushed.
-/// A session that ended by a fault is counted as refused, and the next one follows.
+/// A turn passes the gate, takes the next connection, serves its session (`eu_session::serve_session`), ends the connection and trims
+/// the log of the pass (`Pass::trim`). Each read of the connection passes the gate first, and fails where that says `Stop`; and each
+/// response passes it before it is flushed. A session that ended by a fault is counted as refused, and the next one follows.
 pub fn run_sessions<K: Label, R: Wait, G: Gate, S: Source, C: Clock>(
     site: &Site<'_, K, R, G>,
     who: u32,

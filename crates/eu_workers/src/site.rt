@@ -1,4 +1,4 @@
-//! Where workers work.
+//! What the workers of a server share.
 
 use eu_gate::Gate;
 use eu_routes::Routes;

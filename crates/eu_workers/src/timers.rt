@@ -1,12 +1,12 @@
 //! Workers that ask for the same command, turn after turn.
 ghost use Rattle.std.specs.Prelude.{◌≡◌};
 ghost use Rattle.eu_model.specs.declared.commands.Command.TheVariants as command;
-ghost use Rattle.eu_workers.specs.Timers.{command_of, is_due_after, number_of, AsksOnly, Tidies};
+ghost use Rattle.eu_workers.specs.Timers.{command_of, is_due_after, AsksOnly, Tidies};
 
 use crate::ended::Ended;
 use crate::site::Site;
 use eu_clock::{Chooser, Clock, FirstChooser};
-use eu_gate::{BUCKET, EVICTOR, Gate, Go, Point, THRESHOLD};
+use eu_gate::{Gate, Go, Point, Timer};
 use eu_model::Command;
 use eu_shared::{Label, Pass};
 use std::sync::Wait;
@@ -14,51 +14,30 @@ use std::sync::Wait;
 /// After so many turns of the bucket's worker, an hour by Eureka's minutes, the journal begins anew.
 pub const TURNS_OF_A_CHECKPOINT: u64 = 60;
 
-/// Which command a worker asks for.
-#[derive(Clone, Copy)]
-enum Timer {
-    Evictor,
-    Bucket,
-    Threshold,
+/// What a timer's worker asks for.
+fn command(timer: Timer) -> Command
+    ensures { result ≡ command_of timer }
+{
+    match timer {
+        Timer::Evictor => Command::Evict,
+        Timer::Bucket => Command::Roll,
+        Timer::Threshold => Command::Update,
+    }
 }
 
-impl Timer {
-    /// The number of its worker.
-    fn number(self) -> u32
-        ensures { result ≡ number_of self }
-    {
-        match self {
-            Timer::Evictor => EVICTOR,
-            Timer::Bucket => BUCKET,
-            Timer::Threshold => THRESHOLD,
-        }
-    }
-
-    /// What its worker asks for.
-    fn command(self) -> Command
-        ensures { result ≡ command_of self }
-    {
-        match self {
-            Timer::Evictor => Command::Evict,
-            Timer::Bucket => Command::Roll,
-            Timer::Threshold => Command::Update,
-        }
-    }
-
-    /// Whether its worker has the journal begin anew once it had so many turns.
-    fn is_due_after(self, turns: u64) -> bool
-        ensures { result ≡ is_due_after self turns }
-    {
-        match self {
-            Timer::Bucket => turns % TURNS_OF_A_CHECKPOINT == 0,
-            Timer::Evictor | Timer::Threshold => false,
-        }
+/// Whether a timer's worker has the journal begin anew once it had so many turns.
+fn is_checkpoint_due(timer: Timer, turns: u64) -> bool
+    ensures { result ≡ is_due_after timer turns }
+{
+    match timer {
+        Timer::Bucket => turns % TURNS_OF_A_CHECKPOINT == 0,
+        Timer::Evictor | Timer::Threshold => false,
     }
 }
 
 /// Ends a turn, the last of so many: has the journal begin anew where that is due, and trims the log of the pass. A checkpoint that finds
 /// no memory isn't made, and counts nowhere.
-fn tidy<K: Label, R: Wait, G: Gate>(
+fn end_turn<K: Label, R: Wait, G: Gate>(
     site: &Site<'_, K, R, G>,
     timer: Timer,
     turns: u64,
@@ -66,7 +45,7 @@ fn tidy<K: Label, R: Wait, G: Gate>(
 )
     ensures { Tidies pass.old pass.new }
 {
-    if timer.is_due_after(turns) {
+    if is_checkpoint_due(timer, turns) {
         drop(pass.checkpoint(site.rt, site.shared, site.alloc));
     }
     pass.trim();
@@ -94,13 +73,13 @@ fn run<K: Label, R: Wait, G: Gate, C: Clock, H: Chooser>(
             site.rt,
             site.shared,
             site.alloc,
-            timer.command(),
+            command(timer),
             moment,
             chooser,
         );
         ended.count(asked.is_err());
         drop(asked);
-        tidy(site, timer, ended.turns, &mut pass);
+        end_turn(site, timer, ended.turns, &mut pass);
     }
     (pass, ended)
 }

@@ -1,4 +1,5 @@
 //! The tests, by what they are of.
+mod peers;
 mod points;
 mod replicas;
 mod sessions;

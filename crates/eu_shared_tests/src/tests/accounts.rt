@@ -39,14 +39,14 @@ fn drain_nobody<K: Label, R: Wait>(
 /// A book that was closed: what was done in all, its first entry and how many there are, whether its base and its end are what they
 /// are to be, and how it is settled, as it is and with an entry turned into another.
 #[derive(Clone, Copy)]
-struct Account {
-    totals: Tally,
-    first: u64,
-    entries: usize,
-    opening: bool,
-    played: bool,
-    settled: Result<(), Mismatch>,
-    turned: Result<(), Mismatch>,
+pub struct Account {
+    pub totals: Tally,
+    pub first: u64,
+    pub entries: usize,
+    pub opening: bool,
+    pub played: bool,
+    pub settled: Result<(), Mismatch>,
+    pub turned: Result<(), Mismatch>,
 }
 
 /// Whether it is as it was opened.
@@ -59,10 +59,10 @@ fn is_opening(state: &State, config: Config) -> bool {
 }
 
 /// Whether it is what the two passes make of it.
-pub fn is_played(state: &State, config: Config) -> bool {
+pub fn is_played(alloc: Global, state: &State, config: Config) -> bool {
     is_same(state.config, config)
         && state.expected == 0
-        && are_both(&state.leases)
+        && are_both(alloc, &state.leases)
         && counts_only(state, 5)
         && state.queues.as_slice().is_empty()
 }
@@ -85,10 +85,21 @@ fn examine(alloc: Global, config: Config, closed: &mut Closed) -> Result<Account
         first: closed.first,
         entries: closed.entries.len(),
         opening: is_opening(&closed.base, config),
-        played: is_played(&closed.end, config),
+        played: is_played(alloc, &closed.end, config),
         settled,
         turned: settle(closed),
     })
+}
+
+/// The account of a closed book.
+pub fn account_of(alloc: Global, closed: Closed) -> Result<Account, Fault> {
+    let mut closed = closed;
+    let account = match Config::new(true, 85, 30, 60_000) {
+        Ok(config) => examine(alloc, config, &mut closed),
+        Err(fault) => Err(fault),
+    };
+    drop(closed);
+    account
 }
 
 /// What comes of a close.
@@ -97,13 +108,25 @@ fn close_account<K: Label>(
     alloc: Global,
     passes: Vec<Pass<K>>,
 ) -> Result<Account, Fault> {
-    let mut closed = close_for(shared, alloc, passes)?;
-    let account = match Config::new(true, 85, 30, 60_000) {
-        Ok(config) => examine(alloc, config, &mut closed),
-        Err(fault) => Err(fault),
-    };
-    drop(closed);
-    account
+    account_of(alloc, close_for(shared, alloc, passes)?)
+}
+
+/// What both passes did in all.
+pub const BOTH: Tally = Tally {
+    steps: 7,
+    counted: 5,
+    added: 2,
+    removed: 0,
+};
+
+/// Whether the account is that of the two passes, from the opening on.
+pub fn is_whole(account: &Account) -> bool {
+    account.totals == BOTH
+        && (account.first, account.entries) == (0, 7)
+        && account.opening
+        && account.played
+        && account.settled == Ok(())
+        && account.turned == Err(Mismatch { pass: 0, place: 2 })
 }
 
 /// What was found: whether the asks were answered as they are to be, what came of a drain, what each pass sees, and the account.
@@ -146,20 +169,8 @@ fn found<R: Wait>(rt: &R, alloc: Global) -> Result<Findings, Fault> {
 #[test]
 fn two_passes_are_accounted_for(rt: HostRuntime) -> Result<(), Fail> {
     let found = found(&rt, rt.alloc())?;
-    let account = found.account;
-    let sums = Tally {
-        steps: 7,
-        counted: 5,
-        added: 2,
-        removed: 0,
-    };
     assert!(rt; found.played);
-    assert!(rt; account.totals == sums);
-    assert!(rt; account.first == 0 && account.entries == 7);
-    assert!(rt; account.opening);
-    assert!(rt; account.played);
-    assert!(rt; account.settled == Ok(()));
-    assert!(rt; account.turned == Err(Mismatch { pass: 0, place: 2 }));
+    assert!(rt; is_whole(&found.account));
     Ok(())
 }
 

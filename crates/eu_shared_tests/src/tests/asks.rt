@@ -16,10 +16,10 @@ pub fn key(alloc: Global, id: &str) -> Result<Key, Fault> {
     Ok(Key { app, id })
 }
 
-/// A client that is UP registers, for 90 seconds.
+/// A client that is UP registers, for 90 seconds, at a host of the name of its id.
 pub fn registration(alloc: Global, id: &str) -> Result<Command, Fault> {
     let key = key(alloc, id)?;
-    let rest = Rest::of_host(alloc, "h")?;
+    let rest = Rest::of_host(alloc, id)?;
     Ok(Command::Register {
         instance: Instance {
             key,
@@ -51,8 +51,8 @@ fn word(reply: &Reply) -> &'static str {
         Reply::Done => "done",
         Reply::Settled => "settled",
         Reply::Batch(tasks) => match tasks.as_slice() {
-            [_] => "one",
-            [_, _] => "two",
+            [_] => "a task",
+            [_, _] => "two tasks",
             _ => "other",
         },
         _ => "other",

@@ -1,7 +1,7 @@
 //! A checkpoint through the lock, worked out by hand.
 ghost use Rattle.std.specs.Prelude.{◌≡◌};
 
-use crate::tests::accounts::is_played;
+use crate::tests::accounts::{BOTH, is_played};
 use crate::tests::asks::{ask, both, close_for, open, play, renewal};
 use eu_base::{Config, Fault};
 use eu_model::Tally;
@@ -24,13 +24,13 @@ struct Account {
     settled: Result<(), Mismatch>,
 }
 
-fn examine(config: Config, closed: &Closed) -> Account {
+fn examine(alloc: Global, config: Config, closed: &Closed) -> Account {
     Account {
         totals: closed.totals,
         first: closed.first,
         entries: closed.entries.len(),
-        based: is_played(&closed.base, config),
-        ended: is_played(&closed.end, config),
+        based: is_played(alloc, &closed.base, config),
+        ended: is_played(alloc, &closed.end, config),
         settled: settle(closed),
     }
 }
@@ -43,7 +43,7 @@ fn close_account<K: Label>(
 ) -> Result<Account, Fault> {
     let closed = close_for(shared, alloc, passes)?;
     let account = match Config::new(true, 85, 30, 60_000) {
-        Ok(config) => Ok(examine(config, &closed)),
+        Ok(config) => Ok(examine(alloc, config, &closed)),
         Err(fault) => Err(fault),
     };
     drop(closed);
@@ -113,15 +113,9 @@ fn found<R: Wait>(rt: &R, alloc: Global, more: bool) -> Result<Findings, Fault> 
 fn a_checkpoint_is_accounted_for(rt: HostRuntime) -> Result<(), Fail> {
     let found = found(&rt, rt.alloc(), false)?;
     let account = found.account;
-    let sums = Tally {
-        steps: 7,
-        counted: 5,
-        added: 2,
-        removed: 0,
-    };
     assert!(rt; found.made);
     assert!(rt; found.logs == (0, 2) && found.steps == (5, 2));
-    assert!(rt; account.totals == sums);
+    assert!(rt; account.totals == BOTH);
     assert!(rt; account.first == 7 && account.entries == 0);
     assert!(rt; account.based && account.ended);
     assert!(rt; account.settled == Ok(()));

@@ -1,9 +1,10 @@
 //! Accounts of two passes of a book that no lock holds, worked out by hand.
 ghost use Rattle.std.specs.Prelude.{◌≡◌, ◌≤◌, ◌^◌};
 
+use crate::tests::accounts::{Account, BOTH, account_of, is_played, is_whole};
 use crate::tests::asks::{both, key, only, registration, renewal};
 use crate::tests::passes::{Refusal, refusal_of};
-use crate::tests::reads::{Seen, are_both, in_short};
+use crate::tests::reads::{Seen, in_short};
 use eu_base::{Config, Fault, Moment};
 use eu_book::Receipt;
 use eu_clock::FirstChooser;
@@ -12,7 +13,6 @@ use eu_settle::{Closed, settle};
 use eu_shared::{Blanks, Held, Label, MOST_PASSES, Pass};
 use std::alloc::{AllocError, Global};
 use std::marker::Brand;
-use std::process::Abort;
 use std::test::Fail;
 
 fn at(ms: u64) -> Moment
@@ -67,7 +67,7 @@ fn updated<K: Label>(
     let query = Query::One(key(alloc, id)?);
     let view = held.read(alloc, pass, &query, at(6));
     drop(query);
-    let seen = in_short(&view?);
+    let seen = in_short(alloc, &view?);
     Ok(match seen {
         Seen::Lease(updated) => updated,
         _ => 0,
@@ -163,13 +163,25 @@ fn close_both<K: Label>(
     }
 }
 
-/// What is found after the asks: how many were accepted, what each pass reads of the other's lease, and the book closed.
-#[derive(Drop)]
+/// Whether the logs are those of the passes 0 and 1, with five items and two.
+fn are_logs(closed: &Closed) -> bool {
+    match closed.logs.as_slice() {
+        [zero, one] => {
+            zero.pass == 0 && zero.log.len() == 5 && one.pass == 1 && one.log.len() == 2
+        }
+        _ => false,
+    }
+}
+
+/// What is found after the asks: how many were accepted, what each pass reads of the other's lease, whether the logs are theirs, and
+/// the account of the book once it is closed.
+#[derive(Clone, Copy)]
 struct Findings {
     accepted: u32,
     first: Result<u64, Fault>,
     second: Result<u64, Fault>,
-    closed: Closed,
+    are_logs: bool,
+    account: Account,
 }
 
 fn find<K: Label>(alloc: Global, blanks: Blanks) -> Result<Findings, Fault>
@@ -189,7 +201,8 @@ fn find<K: Label>(alloc: Global, blanks: Blanks) -> Result<Findings, Fault>
         accepted,
         first,
         second,
-        closed,
+        are_logs: are_logs(&closed),
+        account: account_of(alloc, closed)?,
     })
 }
 
@@ -197,44 +210,13 @@ fn of_two_passes(alloc: Global) -> Result<Findings, Fault> {
     find::<Brand>(alloc, Blanks::new())
 }
 
-/// Whether nothing is held.
-fn is_opening(closed: &Closed) -> bool {
-    closed.base.leases.as_slice().is_empty() && closed.base.since == 0
-}
-
-/// Whether the logs are those of the passes 0 and 1, with five items and two.
-fn are_logs(closed: &Closed) -> bool {
-    match closed.logs.as_slice() {
-        [zero, one] => {
-            zero.pass == 0 && zero.log.len() == 5 && one.pass == 1 && one.log.len() == 2
-        }
-        _ => false,
-    }
-}
-
-fn are_accounted_for(rt: &impl Abort, found: &Findings) {
-    assert!(rt; found.accepted == 7);
-    assert!(rt; found.first == Ok(90_004));
-    assert!(rt; found.second == Ok(90_006));
-    let sums = Tally {
-        steps: 7,
-        counted: 5,
-        added: 2,
-        removed: 0,
-    };
-    assert!(rt; found.closed.totals == sums);
-    assert!(rt; found.closed.first == 0);
-    assert!(rt; found.closed.entries.len() == 7);
-    assert!(rt; found.closed.end.leases.as_slice().len() == 2);
-    assert!(rt; is_opening(&found.closed));
-    assert!(rt; are_logs(&found.closed));
-    assert!(rt; settle(&found.closed) == Ok(()));
-}
-
 #[test]
 fn two_passes_are_accounted_for(rt: HostRuntime) -> Result<(), Fail> {
     let found = of_two_passes(rt.alloc())?;
-    are_accounted_for(&rt, &found);
+    assert!(rt; found.accepted == 7);
+    assert!(rt; found.first == Ok(90_004) && found.second == Ok(90_006));
+    assert!(rt; found.are_logs);
+    assert!(rt; is_whole(&found.account));
     Ok(())
 }
 
@@ -276,15 +258,9 @@ fn a_missing_pass_is_missed(rt: HostRuntime) -> Result<(), Fail> {
         added: 2,
         removed: 0,
     };
-    let totals = Tally {
-        steps: 7,
-        counted: 5,
-        added: 2,
-        removed: 0,
-    };
     assert!(rt; refusal.fault == Fault::PassMissing);
     assert!(rt; refusal.sums == sums);
-    assert!(rt; refusal.totals == totals);
+    assert!(rt; refusal.totals == BOTH);
     assert!(rt; refusal.made == 2);
     assert!(rt; refusal.passes == 1);
     Ok(())
@@ -353,17 +329,13 @@ fn trimmed(alloc: Global) -> Result<((usize, usize), Closed), Fault> {
 
 #[test]
 fn a_checkpoint_is_accounted_for(rt: HostRuntime) -> Result<(), Fail> {
-    let (logs, closed) = trimmed(rt.alloc())?;
+    let alloc = rt.alloc();
+    let (logs, closed) = trimmed(alloc)?;
+    let config = Config::new(true, 85, 30, 60_000)?;
     assert!(rt; logs == (0, 2));
-    let sums = Tally {
-        steps: 7,
-        counted: 5,
-        added: 2,
-        removed: 0,
-    };
-    assert!(rt; closed.totals == sums);
+    assert!(rt; closed.totals == BOTH);
     assert!(rt; closed.first == 7 && closed.entries.is_empty());
-    assert!(rt; are_both(&closed.base.leases) && are_both(&closed.end.leases));
+    assert!(rt; is_played(alloc, &closed.base, config) && is_played(alloc, &closed.end, config));
     assert!(rt; settle(&closed) == Ok(()));
     Ok(())
 }

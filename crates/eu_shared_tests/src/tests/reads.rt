@@ -1,7 +1,7 @@
 //! What passes see through the lock.
-use crate::tests::asks::key;
-use eu_base::{Fault, Moment, Status};
-use eu_model::{Counts, Listed, Listing, Query, Times, View};
+use crate::tests::asks::{key, registration};
+use eu_base::{Fault, Instance, Moment};
+use eu_model::{Command, Counts, Listed, Listing, Query, Times, View};
 use eu_shared::{Label, Pass, Shared};
 use std::alloc::Global;
 use std::sync::Wait;
@@ -19,36 +19,51 @@ pub enum Seen {
     Other,
 }
 
+/// Whether it is, in every field, what a client of that id registers.
+fn is_told(alloc: Global, instance: &Instance, id: &str) -> bool {
+    match registration(alloc, id) {
+        Ok(
+            Command::Register {
+                instance: told,
+                replicated: _,
+            },
+        ) => {
+            let is_same = instance.same(&told);
+            drop(told);
+            is_same
+        }
+        other => {
+            drop(other);
+            false
+        }
+    }
+}
+
 /// Whether it is the lease of that id of A, as it was registered then, up from then on, and last updated then.
-fn is_lease(listed: &Listed, id: &str, registered: u64, updated: u64) -> bool {
-    let instance = &listed.instance;
-    let is_of_key = instance.key.app.as_str() == "A" && instance.key.id.as_str() == id;
-    let is_as_told = instance.status == Status::Up
-        && instance.overridden == Status::Unknown
-        && instance.dirty == 0
-        && instance.secs == 90
-        && instance.interval == 30;
+fn is_lease(alloc: Global, listed: &Listed, id: &str, registered: u64, updated: u64) -> bool {
     let Times {
         registered: began,
         updated: last,
         up,
     } = listed.times;
-    is_of_key && is_as_told && (began, last, up) == (registered, updated, registered)
+    (began, last, up) == (registered, updated, registered) && is_told(alloc, &listed.instance, id)
 }
 
 /// Whether they are those of i1 and i2, as `play` leaves them.
-pub fn are_both(leases: &Listing) -> bool {
+pub fn are_both(alloc: Global, leases: &Listing) -> bool {
     match leases.as_slice() {
-        [one, two] => is_lease(one, "i1", 0, 90_004) && is_lease(two, "i2", 1, 90_006),
+        [one, two] => {
+            is_lease(alloc, one, "i1", 0, 90_004) && is_lease(alloc, two, "i2", 1, 90_006)
+        }
         _ => false,
     }
 }
 
-pub fn in_short(view: &View) -> Seen {
+pub fn in_short(alloc: Global, view: &View) -> Seen {
     match view {
         View::One(Some(listed)) => Seen::Lease(listed.times.updated),
         View::One(None) => Seen::NoLease,
-        View::All(leases) if are_both(leases) => Seen::Both,
+        View::All(leases) if are_both(alloc, leases) => Seen::Both,
         View::Counts(counts) => Seen::Counts(*counts),
         _ => Seen::Other,
     }
@@ -81,7 +96,7 @@ pub fn see_at<K: Label, R: Wait>(
     let view = pass.read(rt, shared, alloc, &query, now);
     drop(query);
     let view = view?;
-    let seen = in_short(&view);
+    let seen = in_short(alloc, &view);
     drop(view);
     Ok(seen)
 }

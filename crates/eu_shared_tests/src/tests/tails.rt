@@ -30,11 +30,11 @@ const STEPS: [(Step, &str); 8] = [
     (Step::Adopt, "new"),
     (Step::Register, "again"),
     (Step::Renew, "done"),
-    (Step::Drain, "two"),
+    (Step::Drain, "two tasks"),
     (Step::Lose, "settled"),
-    (Step::Drain, "two"),
+    (Step::Drain, "two tasks"),
     (Step::Land, "settled"),
-    (Step::Drain, "one"),
+    (Step::Drain, "a task"),
 ];
 
 /// What is asked for once the journal is full.

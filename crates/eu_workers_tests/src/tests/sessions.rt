@@ -256,8 +256,15 @@ fn gather<K: Label>(
 /// Whether the book that is closed is settled.
 fn is_settled<K: Label>(shared: Shared<K>, alloc: Global, passes: Vec<Pass<K>>) -> bool {
     match close(shared, alloc, passes) {
-        Ok(closed) => settle(&closed).is_ok(),
-        Err(_unclosed) => false,
+        Ok(closed) => {
+            let is_settled = settle(&closed).is_ok();
+            drop(closed);
+            is_settled
+        }
+        Err(unclosed) => {
+            drop(unclosed);
+            false
+        }
     }
 }
 

@@ -11,8 +11,8 @@ loop-turn-preserved g c =
     let tally = rw c.command.ensures at c.ask-asked.ensures.tally in
     let counts = rw c.is_err.ensures.value at c.count.ensures in
     record {
-      asks = asks_more (command_of c.args.timer) c.loop-turn._turn c.now-moment.result c.args.pass c.loop-turn.pass c.ask-asked.new.self c.tidy.new.pass c.loop-turn.ended c.count.new.self
-          c.loop-turn.invariant.asks c.ask-asked.ensures.seen c.ask-asked.ensures.number c.tidy.ensures c.ask-asked.result log tally c.ask-asked.ensures.err counts;
+      asks = asks_more (command_of c.args.timer) c.loop-turn._turn c.now-moment.result c.args.pass c.loop-turn.pass c.ask-asked.new.self c.end_turn.new.pass c.loop-turn.ended c.count.new.self
+          c.loop-turn.invariant.asks c.ask-asked.ensures.seen c.ask-asked.ensures.number c.end_turn.ensures c.ask-asked.result log tally c.ask-asked.ensures.err counts;
     }
 
 pub returns : goal.returns

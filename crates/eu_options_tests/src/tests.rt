@@ -1,6 +1,6 @@
 //! The command line, from words to settings.
-use crate::{command, config_of, seed_of, serving_of};
 use clap::error::ErrorKind;
+use eu_options::{command, config_of, seed_of, serving_of};
 use std::alloc::{AllocError, Global};
 use std::test::Fail;
 

@@ -1,10 +1,10 @@
 //! Servers of no session, and whole runs.
 mod runs;
 
-use crate::serving::{listen, serve};
 use eu_base::Config;
 use eu_clock::FirstChooser;
 use eu_options::Serving;
+use eu_program::{listen, serve};
 use std::net::{IpAddr, Ipv4Addr, TcpListener};
 use std::test::Fail;
 

@@ -1,7 +1,7 @@
 //! A server of the port that the options name.
 ghost use Rattle.std.specs.Prelude.{◌≡◌, ◌≢◌, ◌⊎◌, OnOk};
 
-use crate::{DONE, tell_fault};
+use crate::program::{DONE, tell_fault};
 use eu_base::{Config, Fault};
 use eu_clock::Chooser;
 use eu_options::Serving;
@@ -13,7 +13,7 @@ use std::thread::Threads;
 use std::time::Clock;
 
 /// Listens on that port of 127.0.0.1, and tells on standard error on which, or why that failed.
-pub(crate) fn listen<R: Net<Listener = TcpListener, Stream = TcpStream> + Eprint>(
+pub fn listen<R: Net<Listener = TcpListener, Stream = TcpStream> + Eprint>(
     rt: &R,
     port: u16,
 ) -> Option<TcpListener> {

@@ -1,5 +1,5 @@
 //! Whole runs of the program, on a machine whose words and input are given and whose output is kept.
-use crate::start;
+use eu_program::start;
 use std::alloc::{Alloc, Allocator, Global};
 use std::env::FillError;
 use std::fmt::Display;

@@ -1,28 +1,28 @@
-//! How many sessions are still to come.
+//! How many connections are still to be accepted.
 ghost use Rattle.std.specs.Prelude.{◌≡◌, ◌-◌, ◌==◌, ◌&&◌, not, false, true};
 
-/// What the workers of sessions share: how many connections are still to be accepted, whether accepting one has failed, and how many
-/// of them look for one still.
+/// What the session workers of a server share: how many connections are still to be accepted, whether accepting one has failed, and
+/// how many of the workers still look for one.
 #[derive(Clone, Copy, Debug, PartialEq, Eq)]
-pub struct Entrance {
+pub struct Admission {
     left: u32,
     workers: u32,
     failed: bool,
 }
 
-impl Entrance {
-    /// That of so many sessions and workers.
-    pub fn new(sessions: u32, workers: u32) -> Entrance
+impl Admission {
+    /// That of a server with so many connections to accept, and so many session workers.
+    pub fn new(sessions: u32, workers: u32) -> Admission
         ensures { result ≡ record { left = sessions; workers = workers; failed = false } }
     {
-        Entrance {
+        Admission {
             left: sessions,
             workers,
             failed: false,
         }
     }
 
-    /// Whether a further connection is wanted.
+    /// Whether a further connection is wanted: some are left, and accepting one hasn't failed.
     pub fn is_open(&self) -> bool
         ensures { result ≡ (not (self.now.left == 0) && not self.now.failed) }
     {

@@ -1,4 +1,4 @@
-//! No peer.
+//! What stands for the peer of a server without peers.
 
 use eu_base::Task;
 use eu_peer::{ItemAnswer, Lost, Peer};
@@ -6,9 +6,9 @@ use std::alloc::Global;
 
 /// A peer for a server that has none: whatever it were sent would be lost.
 #[derive(Clone, Copy, Debug, PartialEq, Eq)]
-pub struct Nobody;
+pub struct NoPeer;
 
-impl Peer for Nobody {
+impl Peer for NoPeer {
     ghost use Rattle.std.specs.Prelude.{◌≡◌, None};
 
     ghost told = { λ before batch answers after. answers ≡ None };

@@ -1,10 +1,10 @@
-//! Where connections come from.
+//! Connections as they are accepted, and how they end.
 
 ghost use Rattle.std.specs.Prelude.{◌≡◌};
 ghost use Rattle.eu_serve.specs.Passing.{is_passing};
 
 use crate::pace::Pace;
-use eu_gate::{Entrance, Periods};
+use eu_gate::{Admission, Periods};
 use eu_workers::Source;
 use std::io;
 use std::io::{ErrorKind, Read};
@@ -54,52 +54,54 @@ impl Timeouts {
     }
 }
 
-/// What the workers of a server have in common beside the book: the listener, what is left to accept, and the pace of the timers.
+/// What the workers of a server share beside the book: the listener, how many connections are still to be accepted, and the pace of
+/// the timers.
 #[derive(Drop)]
-pub struct Hall<'a, R: Wait + Clock> {
+pub struct Acceptor<'a, R: Wait + Clock> {
     rt: &'a R,
     listener: &'a TcpListener,
     timeouts: Timeouts,
-    entrance: Mutex<Entrance>,
+    admission: Mutex<Admission>,
+    /// The gate of the workers.
     pub pace: Pace<'a, R>,
 }
 
-impl<'a, R: Wait + Clock> Hall<'a, R> {
+impl<'a, R: Wait + Clock> Acceptor<'a, R> {
     /// That of a server that begins now. An error is the clock's.
     pub fn new(
         rt: &'a R,
         listener: &'a TcpListener,
-        entrance: Entrance,
+        admission: Admission,
         periods: Periods,
         timeouts: Timeouts,
-    ) -> io::Result<Hall<'a, R>> {
-        Ok(Hall {
+    ) -> io::Result<Acceptor<'a, R>> {
+        Ok(Acceptor {
             rt,
             listener,
             timeouts,
-            entrance: Mutex::new(entrance),
+            admission: Mutex::new(admission),
             pace: Pace::new(rt, periods)?,
         })
     }
 
     /// Whether accepting a connection has failed.
     pub fn has_failed(&self) -> bool {
-        self.entrance.lock(self.rt).has_failed()
+        self.admission.lock(self.rt).has_failed()
     }
 
     /// Waits for the next connection while no other worker does, if a further one is wanted.
     fn admit(&self) -> Option<(TcpStream, TcpStream)> {
-        let mut entrance = self.entrance.lock(self.rt);
-        if !entrance.is_open() {
+        let mut admission = self.admission.lock(self.rt);
+        if !admission.is_open() {
             return None;
         }
         match accept(self.rt, self.listener, self.timeouts) {
             Ok(both) => {
-                entrance.admit();
+                admission.admit();
                 Some(both)
             }
             Err(_) => {
-                entrance.fail();
+                admission.fail();
                 None
             }
         }
@@ -107,7 +109,7 @@ impl<'a, R: Wait + Clock> Hall<'a, R> {
 
     /// Counts a worker out; the last one ends the timers.
     fn leave(&self) {
-        let is_last = self.entrance.lock(self.rt).leave();
+        let is_last = self.admission.lock(self.rt).leave();
         if is_last {
             self.pace.end();
         }
@@ -173,24 +175,25 @@ fn drain<R: Clock>(rt: &R, stream: &mut TcpStream, timeouts: Timeouts) -> io::Re
     Ok(())
 }
 
-/// Where one worker of a server gets its connections from.
+/// Where one session worker of a server gets its connections from.
 #[derive(Drop)]
-pub struct Door<'a, R: Wait + Clock> {
-    pub hall: &'a Hall<'a, R>,
+pub struct Connections<'a, R: Wait + Clock> {
+    /// What accepts them.
+    pub acceptor: &'a Acceptor<'a, R>,
 }
 
-/// Connections are accepted one at a time, by whoever is free, until as many came as are wanted, or accepting one has failed. A
-/// connection ends in stages (RFC 9112, section 9.6): what was written is ended, what still comes is dropped for a while, and then
+/// Connections are accepted one at a time, by whichever worker is free, until as many came as are wanted, or accepting one has failed.
+/// A connection ends in stages (RFC 9112, section 9.6): what was written is ended, what still comes is dropped for a while, and then
 /// it is closed. So a client that sends more than is read gets its last response all the same.
-impl<R: Wait + Clock> Source for Door<'_, R> {
+impl<R: Wait + Clock> Source for Connections<'_, R> {
     type Reader = TcpStream;
 
     type Writer = TcpStream;
 
     fn next(&mut self) -> Option<(TcpStream, TcpStream)> {
-        let next = self.hall.admit();
+        let next = self.acceptor.admit();
         if next.is_none() {
-            self.hall.leave();
+            self.acceptor.leave();
         }
         next
     }
@@ -198,7 +201,7 @@ impl<R: Wait + Clock> Source for Door<'_, R> {
     fn end(&mut self, reader: TcpStream, writer: TcpStream) {
         let mut reader = reader;
         if writer.shutdown(Shutdown::Write).is_ok() {
-            let _ = drain(self.hall.rt, &mut reader, self.hall.timeouts);
+            let _ = drain(self.acceptor.rt, &mut reader, self.acceptor.timeouts);
         }
     }
 }

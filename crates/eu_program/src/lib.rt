@@ -1,0 +1,8 @@
+//! What the program `eureka` does.
+#![tactic(auto)]
+
+mod program;
+mod serving;
+
+pub use program::start;
+pub use serving::{listen, serve};

@@ -1,0 +1,178 @@
+//! From the words of the command line to the exit status.
+ghost use Rattle.std.specs.Prelude.{ℕ, ◌≡◌, ◌≢◌, ◌⊎◌, OnOk, Err};
+ghost use Rattle.clap.specs.Words.{kind_of};
+ghost use Rattle.std.specs.declared.io.ErrorKind.TheVariants as io_kind;
+
+use crate::serving::serve;
+use clap::error::ErrorKind;
+use clap::{ArgMatches, Error};
+use eu_base::{Config, Fault};
+use eu_clock::{Chooser, FirstChooser, RngChooser};
+use eu_options::{command, config_of, seed_of, serving_of};
+use eu_server::{ScriptFault, run_script};
+use std::net::{Net, TcpListener, TcpStream};
+use std::rt::Env;
+use std::sync::Wait;
+use std::thread::Threads;
+use std::time::Clock;
+use std::{env, io};
+
+/// The exit status of a run without a fault.
+pub(crate) const DONE: u8 = 0;
+
+/// The exit status of bad words and of a bad line.
+const BAD_INPUT: u8 = 2;
+
+/// The exit status of any other fault.
+const FAILED: u8 = 3;
+
+/// Tells a fault by its number, if standard error takes it, and gives the exit status.
+pub(crate) fn tell_fault(rt: &impl Eprint, fault: Fault) -> u8
+    ensures { result ≡ 3 }
+{
+    let number = fault.number();
+    let _ = eprintln!(rt; "fault {number}");
+    FAILED
+}
+
+/// Tells why a script ended early, if it did and standard error takes it, and gives the exit status.
+fn tell_end(rt: &impl Eprint, ended: Result<(), ScriptFault>) -> u8
+    ensures whole { OnOk ended (result ≡ 0) }
+    ensures bad_line { (line : ℕ) → ended ≡ Err (ScriptFault.BadLine line) → result ≡ 2 }
+    ensures read { ended ≡ Err ScriptFault.Read → result ≡ 3 }
+    ensures write { ended ≡ Err ScriptFault.Write → result ≡ 3 }
+    ensures no_memory { ended ≡ Err ScriptFault.OutOfMemory → result ≡ 3 }
+{
+    match ended {
+        Ok(()) => DONE,
+        Err(ScriptFault::BadLine(line)) => {
+            let _ = eprintln!(rt; "line {line}: bad line");
+            BAD_INPUT
+        }
+        Err(ScriptFault::Read) => tell_fault(rt, Fault::Read),
+        Err(ScriptFault::Write) => tell_fault(rt, Fault::Write),
+        Err(ScriptFault::OutOfMemory) => tell_fault(rt, Fault::OutOfMemory),
+    }
+}
+
+/// Tells why the words were refused, or prints the help that they ask for. Gives the exit status.
+fn tell_words<R: Print + Eprint>(rt: &R, error: &Error) -> u8
+    ensures no_memory { kind_of error.now ≡ ErrorKind.OutOfMemory → result ≡ 3 }
+    ensures help { kind_of error.now ≡ ErrorKind.DisplayHelp → result ≡ 0 }
+    ensures version { kind_of error.now ≡ ErrorKind.DisplayVersion → result ≡ 0 }
+    ensures mistake { kind_of error.now ≢ ErrorKind.OutOfMemory → kind_of error.now ≢ ErrorKind.DisplayHelp
+        → kind_of error.now ≢ ErrorKind.DisplayVersion → result ≡ 2 }
+{
+    if error.kind() == ErrorKind::OutOfMemory {
+        return tell_fault(rt, Fault::OutOfMemory);
+    }
+    let _ = error.print(rt);
+    if error.use_stderr() { BAD_INPUT } else { DONE }
+}
+
+/// Runs a script, and gives the exit status.
+fn run<R: Input + Print + Eprint + AllocGlobal, C: Chooser>(
+    rt: &R,
+    config: Config,
+    chooser: &mut C,
+) -> u8
+    ensures { (result ≡ 0) ⊎ ((result ≡ 2) ⊎ (result ≡ 3)) }
+{
+    let ended = run_script(
+        rt.alloc(),
+        &mut rt.reader(),
+        &mut io::writer(rt),
+        config,
+        chooser,
+    );
+    tell_end(rt, ended)
+}
+
+/// The words of the command line. An error tells that there is no memory for them, or that one isn't UTF-8.
+fn words_given<R: Env + AllocGlobal>(rt: &R) -> io::Result<Vec<String>> {
+    let words = env::args(rt)?;
+    Ok(words.collect(rt.alloc())?)
+}
+
+/// Tells why there are no words, if standard error takes it, and gives the exit status.
+fn tell_no_words(rt: &impl Eprint, kind: io::ErrorKind) -> u8
+    ensures no_memory { kind ≡ io_kind.OutOfMemory → result ≡ 3 }
+    ensures mistake { kind ≢ io_kind.OutOfMemory → result ≡ 2 }
+{
+    match kind {
+        io::ErrorKind::OutOfMemory => tell_fault(rt, Fault::OutOfMemory),
+        _ => {
+            let _ = eprintln!(rt; "error: a word is not UTF-8");
+            BAD_INPUT
+        }
+    }
+}
+
+/// Runs a script as the options say, and gives the exit status.
+fn start_script<R: Input + Print + Eprint + AllocGlobal>(rt: &R, given: &ArgMatches<'_>) -> u8
+    ensures { (result ≡ 0) ⊎ ((result ≡ 2) ⊎ (result ≡ 3)) }
+{
+    let Some(config) = config_of(given) else {
+        return BAD_INPUT;
+    };
+    match seed_of(given) {
+        Some(seed) => run(rt, config, &mut RngChooser::seeded(seed)),
+        None => run(rt, config, &mut FirstChooser),
+    }
+}
+
+/// Serves as the options say, and gives the exit status.
+fn start_server<
+    R: Threads
+        + Wait
+        + Clock
+        + Net<Listener = TcpListener, Stream = TcpStream>
+        + Print
+        + Eprint
+        + AllocGlobal
+        + Sync,
+>(rt: &R, given: &ArgMatches<'_>) -> u8
+    ensures { (result ≡ 0) ⊎ ((result ≡ 2) ⊎ (result ≡ 3)) }
+{
+    let (Some(config), Some(serving)) = (config_of(given), serving_of(given)) else {
+        return BAD_INPUT;
+    };
+    match seed_of(given) {
+        Some(seed) => serve(rt, config, serving, RngChooser::seeded(seed)),
+        None => serve(rt, config, serving, FirstChooser),
+    }
+}
+
+/// Judges the words, and then does what they say: `eureka script` runs a script from standard input to standard output, `eureka serve`
+/// serves HTTP. Gives the exit status: 0 where that is done, 2 for bad words and for a bad line, 3 for any other fault.
+pub fn start<
+    R: Threads
+        + Wait
+        + Clock
+        + Net<Listener = TcpListener, Stream = TcpStream>
+        + Env
+        + Input
+        + Print
+        + Eprint
+        + AllocGlobal
+        + Sync,
+>(rt: &R) -> u8
+    ensures { (result ≡ 0) ⊎ ((result ≡ 2) ⊎ (result ≡ 3)) }
+{
+    let words = match words_given(rt) {
+        Ok(words) => words,
+        Err(error) => return tell_no_words(rt, error.kind()),
+    };
+    let Ok(command) = command(rt.alloc()) else {
+        return tell_fault(rt, Fault::OutOfMemory);
+    };
+    let matches = match command.try_get_matches_from(words.as_slice()) {
+        Ok(matches) => matches,
+        Err(error) => return tell_words(rt, &error),
+    };
+    match matches.subcommand() {
+        Some(("script", given)) => start_script(rt, given),
+        Some(("serve", given)) => start_server(rt, given),
+        _ => BAD_INPUT,
+    }
+}

@@ -1,3 +1,4 @@
+pub mod Ends
 pub mod Passing
 pub mod Served
 pub mod Unlimited

@@ -1,6 +1,7 @@
 //! A server.
 ghost use Rattle.std.specs.Prelude.{◌≡◌, ◌≤◌, ◌<◌, ◌⊎◌, ℕ, Ok, Err, IfOk, IfErr, OnOk};
 ghost use Rattle.std.specs.Io.KnownBytes.{Appends};
+ghost use Rattle.eu_serve.specs.Ends.{IsClose, IsEnd, IsStart};
 ghost use Rattle.eu_serve.specs.Served.{served_text};
 ghost use Rattle.eu_serve.specs.Unlimited.{IsUnlimited};
 ghost use Rattle.eu_settle.specs.Settled.{IsMismatch, IsSettled};
@@ -89,7 +90,9 @@ fn make_workers<'a, K: Label, R: Wait + Clock, H: Chooser + Drop>(
     acceptor: &'a Acceptor<'a, R>,
     count: u32,
     chooser: H,
-) -> Result<Vec<ServerWorker<'a, K, R, H>>, Fault> {
+) -> Result<Vec<ServerWorker<'a, K, R, H>>, Fault>
+    ensures { IfErr result IsStart }
+{
     let mut workers = Vec::with_capacity(alloc, count as usize + TIMERS)?;
     for _worker in 0..count {
         let work = Work::Sessions {
@@ -108,7 +111,9 @@ fn make_workers<'a, K: Label, R: Wait + Clock, H: Chooser + Drop>(
 fn gather<K: Label, R: Wait + Clock, H: Chooser + Drop>(
     workers: Vec<ServerWorker<'_, K, R, H>>,
     passes: &mut Vec<Pass<K>>,
-) -> Result<u64, Fault> {
+) -> Result<u64, Fault>
+    ensures { IfErr result (λ f. f ≡ Fault.OutOfMemory) }
+{
     let mut served = 0u64;
     for worker in workers {
         let Worker::Done(pass, ended, work) = worker else {
@@ -137,7 +142,9 @@ fn run_workers<
     acceptor: &'a Acceptor<'a, R>,
     count: u32,
     chooser: H,
-) -> Result<(Vec<Pass<K>>, u64), Fault> {
+) -> Result<(Vec<Pass<K>>, u64), Fault>
+    ensures { IfErr result IsStart }
+{
     let routes = Routes::new(alloc)?;
     let mut workers = make_workers(rt, alloc, shared, acceptor, count, chooser)?;
     let mut passes = Vec::with_capacity(alloc, workers.len())?;
@@ -170,6 +177,18 @@ fn judge<K: Label>(closed: Result<Closed, Unclosed<K>>) -> Result<Closed, Fault>
     }
 }
 
+/// Closes a book, for which nobody waits any more, and settles it. The faults are those of `judge`.
+fn close_book<K: Label>(
+    shared: Shared<K>,
+    alloc: Global,
+    passes: Vec<Pass<K>>,
+) -> Result<Closed, Fault>
+    ensures settled { IfOk result (λ c. IsSettled c.first c.logs.items c.entries.items) }
+    ensures fault { IfErr result IsClose }
+{
+    judge(close(shared, alloc, passes))
+}
+
 /// What a server did that came to a good end.
 #[derive(Drop)]
 pub(crate) struct Outcome {
@@ -195,6 +214,7 @@ pub(crate) fn serve_book<
     requires names { (blanks.steps.name ≡ K.steps) × (blanks.counted.name ≡ K.counted) × (blanks.added.name ≡ K.added) × (blanks.removed.name ≡ K.removed) }
     requires parts { (blanks.steps.parts ≡ K.parts) × (blanks.counted.parts ≡ K.parts) × (blanks.added.parts ≡ K.parts) × (blanks.removed.parts ≡ K.parts) × (K.parts ≡ 1025) }
     ensures settled { IfOk result (λ o. IsSettled o.closed.first o.closed.logs.items o.closed.entries.items) }
+    ensures fault { IfErr result IsEnd }
 {
     let shared: Shared<K> = Shared::open(alloc, plan.config, plan.expected, 0, blanks)?;
     let admission = Admission::new(plan.sessions, plan.workers);
@@ -202,7 +222,7 @@ pub(crate) fn serve_book<
         return Err(Fault::Read);
     };
     let (passes, served) = run_workers(rt, alloc, &shared, &acceptor, plan.workers, chooser)?;
-    let closed = judge(close(shared, alloc, passes))?;
+    let closed = close_book(shared, alloc, passes)?;
     if acceptor.has_failed() {
         return Err(Fault::Read);
     }
@@ -230,7 +250,7 @@ pub(crate) fn serve<R: Threads + Wait + Clock + Sync, H: Chooser + Send + Drop, 
     writer: &mut W,
 ) -> Result<(), Fault>
     ensures told { OnOk result ((n : ℕ) × Appends (W.contents writer.old) (W.contents writer.new) (served_text n)) }
-    ensures untold { IfErr result (λ f. (f ≡ Fault.Write) ⊎ (writer.new ≡ writer.old)) }
+    ensures untold { IfErr result (λ f. (f ≡ Fault.Write) ⊎ (IsEnd f × (writer.new ≡ writer.old))) }
 {
     let outcome = serve_book::<Brand, R, H>(rt, alloc, listener, plan, chooser, Blanks::new())?;
     tell(writer, outcome.served)
@@ -254,9 +274,10 @@ pub(crate) fn serve<R: Threads + Wait + Clock + Sync, H: Chooser + Send + Drop, 
 ///   told. Also where the machine's clock can't be read at the start.
 /// - `OutOfMemory` where there is no memory to open the book, for the workers, or to close it.
 /// - `PassMissing` and `Mismatch` where the book can't be closed or settled.
+/// - `TooManyPasses` by the contract, but nineteen passes are made at most.
 /// - `Write` where `served N` can't be written or flushed.
 ///
-/// In the first three cases nothing is written.
+/// In all cases but the last nothing is written.
 pub fn serve_on<R: Threads + Wait + Clock + Sync, H: Chooser + Send + Drop, W: Write>(
     rt: &R,
     alloc: Global,
@@ -270,7 +291,7 @@ pub fn serve_on<R: Threads + Wait + Clock + Sync, H: Chooser + Send + Drop, W: W
 ) -> Result<(), Fault>
     requires { (1 ≤ workers) × (workers ≤ 16) }
     ensures told { OnOk result ((n : ℕ) × Appends (W.contents writer.old) (W.contents writer.new) (served_text n)) }
-    ensures untold { IfErr result (λ f. (f ≡ Fault.Write) ⊎ (writer.new ≡ writer.old)) }
+    ensures untold { IfErr result (λ f. (f ≡ Fault.Write) ⊎ (IsEnd f × (writer.new ≡ writer.old))) }
 {
     let plan = Plan::of_server(config, expected, workers, sessions);
     serve(rt, alloc, listener, &plan, chooser, writer)

@@ -1,15 +1,11 @@
 -- Which of this crate's values may go to another thread, for `search`.
 use denote.Param.Send.{IsSend, sendable}
 use Rattle.std.proofs.Crossing as heap
-use Rattle.std.proofs.MapsCrossing as maps
-use Rattle.eu_core.specs.contracts.overrides.Overrides as overrides
 use Rattle.eu_core.specs.contracts.registry.Registry as registry
 use Rattle.eu_meter.specs.contracts.rate.Rate as rate
 use Rattle.eu_meter.specs.contracts.threshold.Threshold as threshold
+use Rattle.eu_eviction.proofs.Crossing.{Overrides-send}
 use Rattle.eu_store.proofs.Crossing.{Leases-send}
-
-Overrides-send : IsSend overrides.the_field.row
-Overrides-send = search (sendable, heap.crosses, maps.crosses) depth 40 fits 20000
 
 Rate-send : IsSend rate.the_field.row
 Rate-send = search (sendable, heap.crosses) depth 40 fits 20000

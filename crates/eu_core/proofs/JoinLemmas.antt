@@ -15,7 +15,7 @@ use Rattle.eu_model.specs.Override.{rule, is_status}
 use Rattle.eu_model.specs.Change.{newer, row_after, under_row, up_after}
 use Rattle.eu_model.specs.Maps.{with_value}
 use Rattle.eu_model.specs.Kept.{kept_register}
-use Rattle.eu_core.specs.Rows.{with_put, with_row}
+use Rattle.eu_eviction.specs.Rows.{with_put, with_row}
 use Rattle.eu_core.specs.Joins.{Joins}
 use Rattle.eu_store.proofs.ListedLemmas.{same_listed}
 

@@ -7,7 +7,5 @@ pub mod StatusLemmas
 pub mod CancelLemmas
 pub mod LookLemmas
 pub mod PassLemmas
-pub mod OnceLemmas
 pub mod StepLemmas
-pub mod StateLemmas
 pub mod Crossing

@@ -14,7 +14,7 @@ use Rattle.eu_model.specs.Kept.{kept_due, kept_number_evicted, AreKeptVictims}
 use Rattle.eu_model.proofs.EvictLemmas.{due-kept, number-kept}
 use Rattle.eu_choice.specs.Front.{Asks, front, state_after}
 use Rattle.eu_store.specs.Stored.{expired_keys}
-use Rattle.eu_core.specs.Pass.{due, number_of, drawn}
+use Rattle.eu_eviction.specs.Pass.{due, number_of, drawn}
 use Rattle.eu_core.specs.Evicts.{Draws}
 
 -- no key of an empty list is in it

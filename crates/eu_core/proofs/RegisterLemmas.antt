@@ -18,7 +18,7 @@ use Rattle.eu_model.specs.Maps.{with_value}
 use Rattle.eu_model.specs.Plain.{Plain}
 use Rattle.eu_model.specs.Answers.{Answers, IsRefusal}
 use Rattle.eu_model.specs.Kept.{kept_register, kept_join_fault, after}
-use Rattle.eu_core.specs.Rows.{with_row}
+use Rattle.eu_eviction.specs.Rows.{with_row}
 use Rattle.eu_core.proofs.RowLemmas.{with_row-value}
 use Rattle.eu_core.proofs.JoinLemmas.{chosen, row_joined}
 use Rattle.eu_core.specs.Joins.{Joins}

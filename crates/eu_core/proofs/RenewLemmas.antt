@@ -24,7 +24,7 @@ use Rattle.eu_model.specs.Answers.{Answers}
 use Rattle.eu_model.specs.Kept.{raised, kept, kept_renew, kept_renew_fault, after}
 use Rattle.eu_model.proofs.RenewLemmas.{renews, renew_answers, renew_refused}
 use Rattle.eu_store.specs.Stored.{amended, renewed_at}
-use Rattle.eu_core.specs.Rows.{with_row}
+use Rattle.eu_eviction.specs.Rows.{with_row}
 use Rattle.eu_core.proofs.RowLemmas.{with_row-same, with_lease-same}
 
 -- the lease after a renewal at t that gives it a status and, where it brings one, an overridden status

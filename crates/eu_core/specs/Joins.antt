@@ -10,7 +10,7 @@ use Rattle.eu_model.specs.Maps.{with_value}
 use Rattle.eu_model.specs.Plain.{Plain}
 use Rattle.eu_model.specs.Kept.{kept_register}
 use Rattle.eu_store.specs.Stored.{term_of}
-use Rattle.eu_core.specs.Rows.{with_row}
+use Rattle.eu_eviction.specs.Rows.{with_row}
 use Rattle.eu_core.specs.declared.joins.HeldPart.{HeldPart}
 
 -- what is read of a held lease

@@ -4,9 +4,9 @@ ghost use Rattle.std.specs.FinMap as map;
 ghost use Rattle.eu_model.specs.Change.{up_after};
 ghost use Rattle.eu_core.specs.Joins.{IsPart, IsRead, Joins};
 
-use crate::overrides::Overrides;
 use crate::statuses::settle;
 use eu_base::{Fault, Instance, Key, Moment, Status};
+use eu_eviction::Overrides;
 use eu_lease::Lease;
 use eu_store::{Held, Leases};
 use std::alloc::{AllocError, Global};

@@ -2,9 +2,6 @@
 #![tactic(auto)]
 
 mod joins;
-mod lots;
-mod overrides;
-mod pass;
 mod prepare;
 mod registry;
 mod statuses;

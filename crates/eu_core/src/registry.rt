@@ -16,12 +16,11 @@ ghost use Rattle.eu_core.specs.Shown.{shown};
 ghost use Rattle.eu_core.specs.State.{state_of};
 
 use crate::joins::{HeldPart, held_part, join_held, join_new};
-use crate::overrides::Overrides;
-use crate::pass::{Passed, run_pass};
-use crate::statuses::{brought, is_status, told};
+use crate::statuses::{brought, told};
 use eu_base::{App, Config, Fault, Instance, Key, Moment, Stamp, Status};
 use eu_clock::Chooser;
-use eu_lease::override_rule;
+use eu_eviction::{Overrides, Passed, run_pass};
+use eu_lease::{is_status, override_rule};
 use eu_meter::{Rate, Threshold};
 use eu_model::{Command, Counts, Keys, Listed, Listing, Queues, Reply, State, Times};
 use eu_store::{Held, Leases, MOST_LEASES};

@@ -1,18 +1,11 @@
 //! The statuses of instances, and the rows that override them.
 ghost use Rattle.std.specs.Prelude.{◌≡◌, unwrap_or};
-ghost use Rattle.eu_model.specs.Override.{rule, is_status};
+ghost use Rattle.eu_model.specs.Override.{rule};
 ghost use Rattle.eu_model.specs.Change.{row_after, told, brought};
 
 use eu_base::Status;
-use eu_lease::override_rule;
+use eu_lease::{is_status, override_rule};
 use eu_model::Reply;
-
-/// Whether a status is that one.
-pub fn is_status(status: Status, other: Status) -> bool
-    ensures { result ≡ is_status status other }
-{
-    status as u8 == other as u8
-}
 
 /// The row that an overridden status tells: none, where it is UNKNOWN.
 pub fn told(overridden: Status) -> Option<Status>

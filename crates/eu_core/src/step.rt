@@ -1,5 +1,8 @@
 //! Steps: each command by its call, with replies and copies of what is held after it.
-ghost use Rattle.std.specs.Prelude.{◌≡◌, ◌≤◌, ℕ, Bool, [], true, false, Some, Err, replicate, vec_capacity, IfOk, IfErr, OnErr};
+ghost use Rattle.std.specs.Prelude.{◌≡◌, ◌≤◌, ℕ, Bool, [], true, false, Option, Some, Err, replicate, vec_capacity, IfOk, IfErr, OnErr};
+ghost use Rattle.std.specs.FinMap as map;
+ghost use Rattle.eu_base.specs.declared.statuses.Status.{Status};
+ghost use Rattle.eu_model.specs.Kept.{kept_renew};
 ghost use Rattle.eu_model.specs.Answers.{Answers};
 ghost use Rattle.eu_model.specs.Owned.{owns_nothing};
 ghost use Rattle.eu_model.specs.Server.{is_for_peers};
@@ -219,12 +222,36 @@ impl Registry {
         ensures refused { IfErr result (λ f. Answers self.old (Command.Renew key.now dirty overridden replicated) moment (Err f) self.old) }
         ensures err { OnErr result (self.new ≡ self.old) }
     {
-        let reply = self.renewal_reply(alloc, key, dirty, replicated)?;
-        let Prepared { room, copies } = self.prepare(alloc, key, replies, held)?;
-        let replies = repeated(alloc, room, &reply, replies)?;
+        let before = self.prepare_renewal(alloc, key, dirty, replicated, replies, held)?;
         self.renew(alloc, key, dirty, overridden, replicated, moment)?;
-        let held = self.as_held(key, copies, held);
-        Ok(Stepped { replies, held })
+        let held = self.as_held(key, before.held, held);
+        Ok(Stepped {
+            replies: before.replies,
+            held,
+        })
+    }
+
+    /// What a renewal is answered, if it isn't refused, and copies of what is held before it.
+    fn prepare_renewal(
+        &self,
+        alloc: Global,
+        key: &Key,
+        dirty: Option<Stamp>,
+        replicated: bool,
+        replies: u32,
+        held: u32,
+    ) -> Result<Stepped, Fault>
+        ensures replies { IfOk result (λ s. (overridden : Option Status) (t : ℕ) → s.replies.items ≡ replicate replies (kept_renew (map.get self.now.leases key.now) (map.get self.now.rows key.now.id) self.now.expected dirty overridden replicated t).reply) }
+        ensures copies { IfOk result (λ s. s.held.items ≡ copies_of held (kept_instance self.now key.now)) }
+        ensures refused { IfErr result (λ f. (overridden : Option Status) (t : ℕ) → Answers self.now (Command.Renew key.now dirty overridden replicated) t (Err f) self.now) }
+    {
+        let reply = self.renewal_reply(alloc, key, dirty, replicated)?;
+        let prepared = self.prepare(alloc, key, replies, held)?;
+        let replies = repeated(alloc, prepared.room, &reply, replies)?;
+        Ok(Stepped {
+            replies,
+            held: prepared.copies,
+        })
     }
 
     fn step_register(

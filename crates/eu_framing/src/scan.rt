@@ -1,5 +1,5 @@
 //! How far a text was looked through for the line that ends it.
-ghost use Rattle.std.specs.Prelude.{◌≡◌};
+ghost use Rattle.std.specs.Prelude.{◌≡◌, ◌<◌, ◌≤◌, length, max, true, false};
 
 /// Looks through a text, as it grows, for the empty line that ends a head or a trailer. No byte is looked at twice.
 ///
@@ -16,7 +16,9 @@ pub struct Scan {
 
 impl Scan {
     /// Before a head, at which empty lines may stand.
-    pub fn of_head() -> Scan {
+    pub fn of_head() -> Scan
+        ensures { result ≡ record { seen = 0; in_line = false; begun = false } }
+    {
         Scan {
             seen: 0,
             in_line: false,
@@ -25,7 +27,9 @@ impl Scan {
     }
 
     /// Before a trailer, which an empty line ends at once.
-    pub fn of_trailer() -> Scan {
+    pub fn of_trailer() -> Scan
+        ensures { result ≡ record { seen = 0; in_line = false; begun = true } }
+    {
         Scan {
             seen: 0,
             in_line: false,
@@ -33,8 +37,12 @@ impl Scan {
         }
     }
 
-    /// Whether an empty line ends the text within the bytes that weren't looked at before.
-    pub fn finds_empty_line(&mut self, text: &[u8]) -> bool {
+    /// Whether an empty line ends the text within the bytes that weren't looked at before. Where it does, the bytes up to its end have
+    /// been looked at; else all have.
+    pub fn finds_empty_line(&mut self, text: &[u8]) -> bool
+        ensures found { result ≡ true → (self.old.seen < self.new.seen) × (self.new.seen ≤ length text.now) }
+        ensures all { result ≡ false → self.new.seen ≡ max self.old.seen (length text.now) }
+    {
         'bytes: while self.seen < text.len() {
             let byte = text[self.seen];
             self.seen += 1;

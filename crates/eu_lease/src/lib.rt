@@ -5,4 +5,4 @@ mod lease;
 mod rule;
 
 pub use lease::Lease;
-pub use rule::override_rule;
+pub use rule::{is_status, override_rule};

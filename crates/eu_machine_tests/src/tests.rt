@@ -3,6 +3,7 @@ mod base;
 mod choice;
 mod clock;
 mod deadlines;
+mod eviction;
 mod index;
 mod lease;
 mod meter;

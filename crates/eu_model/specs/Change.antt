@@ -22,7 +22,7 @@ pub record Change (R : Type 0) : Type 0 where
 abbrev pub uncounted : {R : Type 0} → Option R → Option Status → ℕ → Reply → Change R
 uncounted lease row expected reply = record { lease = lease; row = row; expected = expected; counted = false; reply = reply }
 
--- ---- a registration
+-- ---- a registration (`AbstractInstanceRegistry.register` in Eureka)
 
 -- the held instance stays where its stamp is strictly greater, but its duration is the newcomer's
 abbrev pub newer : Option Instance → Instance → Instance
@@ -71,7 +71,7 @@ register held row expected n replicated t =
       reply = Registered (not (is_some held));
     }
 
--- ---- a renewal
+-- ---- a renewal (`AbstractInstanceRegistry.renew`, and `InstanceResource.renewLease` for the stamps)
 
 -- the reply to a renewal with this stamp: a sender with a greater one is to register; a peer with a smaller one is told
 -- the instance; else all is well
@@ -108,7 +108,8 @@ renew (Some r) row expected dirty overridden replicated t =
     if is_status status Unknown then uncounted (Some r) row expected NotFound
     else renew_as r row expected dirty overridden replicated t status
 
--- ---- a status that is set, or that is unset: the lease is renewed, and not counted. One that isn't visible is not found, and stays
+-- ---- a status that is set (`AbstractInstanceRegistry.statusUpdate`), or that is unset (`deleteStatusOverride`): the lease is renewed, and
+-- not counted. One that isn't visible is not found, and stays
 
 -- a greater stamp replaces the one that is held
 abbrev pub stamped : Option Stamp → Instance → Instance
@@ -141,8 +142,8 @@ unset_status None held row expected suggested dirty t = uncounted held row expec
 unset_status (Some r) held None expected suggested dirty t = uncounted (Some (renewed r t)) None expected Done
 unset_status (Some r) held (Some row) expected suggested dirty t = uncounted (Some (out_of_override r suggested dirty t)) None expected Done
 
--- ---- an adoption: the row that the overridden status tells replaces the id's, and the held instance is under it. Then the
--- instance is registered as by a peer
+-- ---- an adoption (`PeerEurekaNode.syncInstancesIfTimestampDiffers`): the row that the overridden status tells replaces the id's, and the
+-- held instance is under it. Then the instance is registered as by a peer
 
 abbrev pub overridden_by : Option Status → Record → Record
 overridden_by row r = record r { instance = under_row row r.instance }
@@ -151,7 +152,8 @@ abbrev pub adopt : Option Record → Option Status → ℕ → Instance → ℕ 
 adopt held row expected n t =
     register (option_map (overridden_by (told n.overridden)) held) (option_or (told n.overridden) row) expected n true t
 
--- ---- a cancel: the row of the id goes, also where no lease is held; a client that leaves is one less expected
+-- ---- a cancel (`AbstractInstanceRegistry.internalCancel`): the row of the id goes, also where no lease is held; a client that leaves is
+-- one less expected
 
 abbrev pub cancel : Option Record → ℕ → Change Record
 cancel None expected = uncounted None None expected NotFound

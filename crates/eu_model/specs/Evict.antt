@@ -1,4 +1,4 @@
--- Eviction passes
+-- Eviction passes (`AbstractInstanceRegistry.evict` in Eureka)
 use Rattle.std.specs.Prelude.{◌≡◌, ℕ, ◌-◌, Bool, List, length, map, filter, min, if◌then◌else◌, Option, Some, None, All, Contains}
 use Rattle.std.specs.List.{IsDistinct}
 use Rattle.std.specs.FinMap.{entries, len}
@@ -11,6 +11,7 @@ use Rattle.eu_model.specs.Maps.{without}
 use Rattle.eu_model.specs.Machine.{Machine, permits}
 
 -- the extra time that a pass grants each lease: what it comes later than one interval after the pass before; the first grants none
+-- (`EvictionTask.getCompensationTimeMs`)
 abbrev pub extra_time : Config → Option ℕ → ℕ → ℕ
 extra_time c None t = 0
 extra_time c (Some previous) t = t - previous - c.evict_ms

@@ -1,4 +1,4 @@
--- The lease machine, with its whole past
+-- The lease machine, with its whole past (the fields of `AbstractInstanceRegistry` in Eureka)
 use Rattle.std.specs.Prelude.{ℕ, Bool, ◌&&◌, if◌then◌else◌, List, [], Option, Some, None}
 use Rattle.std.specs.FinMap.{FinMap, empty, get}
 use Rattle.eu_base.specs.declared.settings.Config.{Config}
@@ -9,8 +9,8 @@ use Rattle.eu_model.specs.Record.{Record, is_expired}
 use Rattle.eu_model.specs.Marks.{Mark, last}
 use Rattle.eu_model.specs.Meter.{is_permitted}
 
--- leases by key; override rows by instance id alone; the number of clients that are expected to renew; the previous
--- eviction pass
+-- leases by key (`registry`); override rows by instance id alone (`overriddenInstanceStatusMap`); the number of clients that are
+-- expected to renew (`expectedNumberOfClientsSendingRenews`); the renewals counted; the previous eviction pass (`lastExecutionNanosRef`)
 pub record Machine : Type 0 where
   pub config : Config
   pub leases : FinMap key_cmp Record

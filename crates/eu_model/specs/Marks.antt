@@ -1,4 +1,4 @@
--- Renewals, counted by the minute
+-- Renewals, counted by the minute (`MeasuredRate` in Eureka)
 use Rattle.std.specs.Prelude.{ℕ, Bool, true, false, List, count_by}
 use Rattle.std.specs.List.{after_last, before_last}
 
@@ -19,6 +19,6 @@ is_minute Minute = true
 unfoldable pub since : List Mark → ℕ
 since marks = count_by is_renewal (after_last is_minute marks)
 
--- the renewals of the last whole minute: those before its end and after the end before. 0 where no minute has ended
+-- the renewals of the last whole minute (`MeasuredRate.getCount`): those before its end and after the end before. 0 where no minute has ended
 unfoldable pub last : List Mark → ℕ
 last marks = since (before_last is_minute marks)

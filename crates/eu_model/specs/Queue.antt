@@ -1,4 +1,4 @@
--- The tasks that wait for a peer, and those that are in flight to it
+-- The tasks that wait for a peer, and those that are in flight to it (`PeerEurekaNode` and `AcceptorExecutor` in Eureka)
 use Rattle.std.specs.Prelude.{ℕ, ◌+◌, ◌-◌, Bool, not, ◌&&◌, ◌==◌, List, [], ◌∷◌, ◌++◌, length, take, drop, map, filter, Option, Some, None, nat_lt, if◌then◌else◌}
 use Rattle.std.specs.List.{list_any}
 use Rattle.eu_base.specs.declared.faults.Fault.{Fault}
@@ -8,15 +8,15 @@ use Rattle.eu_base.specs.declared.tasks.Task.{Task}
 use Rattle.eu_base.specs.Action.{is_action, same_name}
 use Rattle.eu_model.specs.declared.queues.Queue.{Queue}
 
--- so many tasks wait at most
+-- so many tasks wait at most (`maxElementsInPeerReplicationPool`)
 abbrev pub most_waiting : ℕ
 most_waiting = 10000
 
--- so many go in flight at once
+-- so many go in flight at once (`PeerEurekaNode.BATCH_SIZE`)
 abbrev pub most_sent : ℕ
 most_sent = 250
 
--- a task is worth sending for so many milliseconds
+-- a task is worth sending for so many milliseconds (`maxTimeForReplication`)
 abbrev pub task_age : ℕ
 task_age = 30000
 
@@ -55,7 +55,7 @@ drain_fault t q =
     else if length (live t q.waiting) == 0 then Some EmptyBatch
     else None
 
--- the registration by which a heartbeat is followed that found no lease
+-- the registration by which a heartbeat is followed that found no lease (`PeerEurekaNode.heartbeat`)
 abbrev pub again : ℕ → Task → Task
 again t task = record task { action = Register; status = None; queued = t }
 

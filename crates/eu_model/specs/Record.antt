@@ -1,4 +1,5 @@
--- Leases, as the history of their touches
+-- Leases, as the history of their touches. (`Lease` in Eureka keeps one number, the last update; a renewal sets it one duration later
+-- than its moment, so that a renewed lease lasts for two)
 use Rattle.std.specs.Prelude.{ℕ, ◌+◌, ◌*◌, Bool, List, [], ◌∷◌, ◌++◌, nat_lt}
 use Rattle.eu_base.specs.declared.instances.Instance.{Instance}
 
@@ -35,7 +36,7 @@ abbrev pub durations : Kind → ℕ
 durations Fresh = 1
 durations Renewed = 2
 
--- whether a lease has expired at a moment, if it is granted some extra time
+-- whether a lease has expired at a moment, if it is granted some extra time (`Lease.isExpired`)
 abbrev pub is_expired : Record → ℕ → ℕ → Bool
 is_expired r t extra = nat_lt ((newest r.touches).at + durations (newest r.touches).kind * duration r.instance + extra) t
 

@@ -50,7 +50,7 @@ view s (asked.OfApp app) t = seen.OfApp (listing (Some app) s)
 view s asked.All t = seen.All (listing None s)
 view s asked.Counts t = seen.Counts (counts s)
 
--- ---- the hash code of a listing
+-- ---- the hash code of a listing (`Applications.getReconcileHashCode` in Eureka)
 
 -- the statuses, in the order of their names' bytes
 abbrev pub statuses : List Status

@@ -249,8 +249,8 @@ impl Leases {
         Ok(keys)
     }
 
-    /// The same, and how many entries of the index of deadlines were looked at: that of each key, and at most one more than two for
-    /// each in all. `AllocError` where no memory is left.
+    /// The same, and how many entries of the index of deadlines were looked at: for n keys at least n, and at most 2n + 1.
+    /// `AllocError` where no memory is left.
     pub fn expired_counted(
         &self,
         alloc: Global,

@@ -1,5 +1,5 @@
 //! Connections behind a gate.
-ghost use Rattle.std.specs.Prelude.{◌≡◌, ◌||◌};
+ghost use Rattle.std.specs.Prelude.{◌≡◌, ◌||◌, false};
 
 use eu_gate::{Gate, Go, Point};
 use eu_stream::{ReadFault, Reading, Sink, Source, WriteFault, Writing};
@@ -15,8 +15,12 @@ pub(crate) struct GatedSource<'a, R: Read, G: Gate> {
 }
 
 impl<'a, R: Read, G: Gate> GatedSource<'a, R, G> {
-    /// A reader for the worker of that number.
-    pub(crate) fn new(reader: &'a mut R, gate: &'a G, who: u32) -> GatedSource<'a, R, G> {
+    /// A reader for the worker of that number. No read of it has failed so far.
+    pub(crate) fn new(reader: &'a mut R, gate: &'a G, who: u32) -> GatedSource<'a, R, G>
+        ensures stream { ⟦<GatedSource<'a, R, G> as Source>⟧.stream result ≡ reader.entry.ghost_name }
+        ensures remaining { ⟦<GatedSource<'a, R, G> as Source>⟧.remaining result ≡ R.remaining reader.old }
+        ensures sound { ⟦<GatedSource<'a, R, G> as Source>⟧.failed result ≡ false }
+    {
         GatedSource {
             reading: Reading::new(reader),
             gate,
@@ -51,8 +55,12 @@ pub(crate) struct GatedSink<'a, W: Write, G: Gate> {
 }
 
 impl<'a, W: Write, G: Gate> GatedSink<'a, W, G> {
-    /// A writer for the worker of that number.
-    pub(crate) fn new(writer: &'a mut W, gate: &'a G, who: u32) -> GatedSink<'a, W, G> {
+    /// A writer for the worker of that number. No write of it has failed so far.
+    pub(crate) fn new(writer: &'a mut W, gate: &'a G, who: u32) -> GatedSink<'a, W, G>
+        ensures stream { ⟦<GatedSink<'a, W, G> as Sink>⟧.stream result ≡ writer.entry.ghost_name }
+        ensures contents { ⟦<GatedSink<'a, W, G> as Sink>⟧.contents result ≡ W.contents writer.old }
+        ensures sound { ⟦<GatedSink<'a, W, G> as Sink>⟧.failed result ≡ false }
+    {
         GatedSink {
             writing: Writing::new(writer),
             gate,

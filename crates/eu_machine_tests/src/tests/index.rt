@@ -181,7 +181,7 @@ fn ids_of(alloc: Global, numbers: &[u64]) -> Result<String, AllocError> {
 }
 
 /// The ids of these keys, each after a space.
-fn ids(alloc: Global, keys: &[Key]) -> Result<String, AllocError> {
+pub fn ids(alloc: Global, keys: &[Key]) -> Result<String, AllocError> {
     let mut text = String::new(alloc);
     for key in keys {
         write!(text, " {}", key.id.as_str())?;

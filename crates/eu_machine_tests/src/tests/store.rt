@@ -6,7 +6,8 @@ use eu_store::{Held, Leases};
 use std::alloc::{AllocError, Global};
 use std::test::Fail;
 
-fn at(ms: u64) -> Result<Moment, Fault> {
+/// The moment of so many milliseconds.
+pub fn at(ms: u64) -> Result<Moment, Fault> {
     Moment::new(ms).ok_or(Fault::BadStamp)
 }
 
@@ -53,8 +54,8 @@ fn put_each(alloc: Global, leases: &mut Leases, ids: &[&str]) -> Result<(), Faul
     Ok(())
 }
 
-/// Leases under these ids.
-fn leases(alloc: Global, ids: &[&str]) -> Result<Leases, Fault> {
+/// Leases of 10 s, made at 0, under these ids of application A.
+pub fn leases(alloc: Global, ids: &[&str]) -> Result<Leases, Fault> {
     let mut leases = Leases::new(alloc);
     put_each(alloc, &mut leases, ids)?;
     Ok(leases)

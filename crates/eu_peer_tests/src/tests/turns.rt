@@ -110,15 +110,18 @@ struct Pair {
     there: InProcess<Book, ListClock>,
 }
 
-/// Two servers at which nothing is held.
-fn opened_pair(alloc: Global) -> Result<Pair, Fault> {
+/// A server of the same process at which nothing is held.
+fn opened_peer(alloc: Global) -> Result<InProcess<Book, ListClock>, Fault> {
     let clock = clock(alloc, at(0))?;
     let desk = opened(alloc)?;
+    Ok(InProcess { desk, clock })
+}
+
+/// Two servers at which nothing is held.
+fn opened_pair(alloc: Global) -> Result<Pair, Fault> {
+    let there = opened_peer(alloc)?;
     let here = opened(alloc)?;
-    Ok(Pair {
-        here,
-        there: InProcess { desk, clock },
-    })
+    Ok(Pair { here, there })
 }
 
 /// Tells a book a command at a moment: whether it was accepted.

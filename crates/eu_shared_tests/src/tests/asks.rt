@@ -162,3 +162,13 @@ pub fn close_for<K: Label>(
         }
     }
 }
+
+/// Closes a shared book of which one pass was made.
+pub fn close_alone<K: Label>(
+    shared: Shared<K>,
+    alloc: Global,
+    pass: Pass<K>,
+) -> Result<Closed, Fault> {
+    let passes = only(alloc, pass)?;
+    close_for(shared, alloc, passes)
+}

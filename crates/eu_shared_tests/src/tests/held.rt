@@ -125,13 +125,25 @@ struct Opened<K: Label> {
     one: Pass<K>,
 }
 
+/// Two passes of a book.
+#[derive(Drop)]
+struct Two<K: Label> {
+    zero: Pass<K>,
+    one: Pass<K>,
+}
+
+fn make_two<K: Label>(alloc: Global, held: &mut Held<K>) -> Result<Two<K>, Fault> {
+    let zero = held.pass(alloc)?;
+    let one = held.pass(alloc)?;
+    Ok(Two { zero, one })
+}
+
 fn open_for_two<K: Label>(alloc: Global, blanks: Blanks) -> Result<Opened<K>, Fault>
     requires names { (blanks.steps.name ≡ K.steps) × (blanks.counted.name ≡ K.counted) × (blanks.added.name ≡ K.added) × (blanks.removed.name ≡ K.removed) }
     requires parts { (blanks.steps.parts ≡ K.parts) × (blanks.counted.parts ≡ K.parts) × (blanks.added.parts ≡ K.parts) × (blanks.removed.parts ≡ K.parts) × (K.parts ≡ 1025) }
 {
     let mut held = open::<K>(alloc, blanks)?;
-    let zero = held.pass(alloc)?;
-    let one = held.pass(alloc)?;
+    let Two { zero, one } = make_two(alloc, &mut held)?;
     Ok(Opened { held, zero, one })
 }
 
@@ -220,6 +232,25 @@ fn two_passes_are_accounted_for(rt: HostRuntime) -> Result<(), Fail> {
     Ok(())
 }
 
+/// Why closing the book with these passes is refused.
+fn refused_close<K: Label>(
+    alloc: Global,
+    held: Held<K>,
+    passes: Vec<Pass<K>>,
+) -> Result<Refusal, Fault> {
+    match held.close(alloc, passes) {
+        Ok(closed) => {
+            drop(closed);
+            Err(Fault::Exhausted)
+        }
+        Err(unclosed) => {
+            let refusal = refusal_of(&unclosed);
+            drop(unclosed);
+            Ok(refusal)
+        }
+    }
+}
+
 /// Closes the book without pass 1.
 fn close_without_one<K: Label>(alloc: Global, blanks: Blanks) -> Result<Refusal, Fault>
     requires names { (blanks.steps.name ≡ K.steps) × (blanks.counted.name ≡ K.counted) × (blanks.added.name ≡ K.added) × (blanks.removed.name ≡ K.removed) }
@@ -231,16 +262,12 @@ fn close_without_one<K: Label>(alloc: Global, blanks: Blanks) -> Result<Refusal,
         mut one,
     } = open_for_two::<K>(alloc, blanks)?;
     ask_all(alloc, &mut held, &mut zero, &mut one);
-    let passes = only(alloc, zero)?;
-    match held.close(alloc, passes) {
-        Ok(closed) => {
-            drop(closed);
-            Err(Fault::Exhausted)
-        }
-        Err(unclosed) => {
-            let refusal = refusal_of(&unclosed);
-            drop(unclosed);
-            Ok(refusal)
+    drop(one);
+    match only(alloc, zero) {
+        Ok(passes) => refused_close(alloc, held, passes),
+        Err(fault) => {
+            drop(held);
+            Err(fault)
         }
     }
 }
@@ -305,22 +332,34 @@ fn passes_are_1024(rt: HostRuntime) -> Result<(), Fail> {
     Ok(())
 }
 
-/// Has both passes ask, pass 0 make a checkpoint, and both trim; how long their logs are then, and the book closed.
+/// Has both passes ask, pass 0 make a checkpoint, and both trim; how long their logs are then.
+fn trim_after_a_checkpoint<K: Label>(
+    alloc: Global,
+    opened: &mut Opened<K>,
+) -> Result<(usize, usize), Fault> {
+    let Opened { held, zero, one } = opened;
+    ask_all(alloc, held, zero, one);
+    held.checkpoint(alloc, zero)?;
+    zero.trim();
+    one.trim();
+    Ok((zero.log().len(), one.log().len()))
+}
+
+/// Closes a book with its two passes.
+fn close_opened<K: Label>(alloc: Global, opened: Opened<K>) -> Result<Closed, Fault> {
+    let Opened { held, zero, one } = opened;
+    close_both(alloc, held, zero, one)
+}
+
+/// How long the logs are after that, and the book closed.
 fn trim_both<K: Label>(alloc: Global, blanks: Blanks) -> Result<((usize, usize), Closed), Fault>
     requires names { (blanks.steps.name ≡ K.steps) × (blanks.counted.name ≡ K.counted) × (blanks.added.name ≡ K.added) × (blanks.removed.name ≡ K.removed) }
     requires parts { (blanks.steps.parts ≡ K.parts) × (blanks.counted.parts ≡ K.parts) × (blanks.added.parts ≡ K.parts) × (blanks.removed.parts ≡ K.parts) × (K.parts ≡ 1025) }
 {
-    let Opened {
-        mut held,
-        mut zero,
-        mut one,
-    } = open_for_two::<K>(alloc, blanks)?;
-    ask_all(alloc, &mut held, &mut zero, &mut one);
-    held.checkpoint(alloc, &mut zero)?;
-    zero.trim();
-    one.trim();
-    let logs = (zero.log().len(), one.log().len());
-    Ok((logs, close_both(alloc, held, zero, one)?))
+    let mut opened = open_for_two::<K>(alloc, blanks)?;
+    let logs = trim_after_a_checkpoint(alloc, &mut opened)?;
+    let closed = close_opened(alloc, opened)?;
+    Ok((logs, closed))
 }
 
 fn trimmed(alloc: Global) -> Result<((usize, usize), Closed), Fault> {

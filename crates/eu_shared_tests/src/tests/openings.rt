@@ -1,7 +1,7 @@
 //! A book that is opened with settings, clients expected and peers.
 ghost use Rattle.std.specs.Prelude.{◌≡◌};
 
-use crate::tests::asks::{ask, close_for, drain, key, only, registration};
+use crate::tests::asks::{ask, close_alone, drain, key, registration};
 use crate::tests::passes::number;
 use crate::tests::reads::{Seen, see, see_at};
 use crate::tests::states::{are_eight_idle, counts_only, is_same};
@@ -55,8 +55,7 @@ fn open_for_peers<K: Label, R: Wait>(
     let next = number(rt, &shared, alloc)?;
     let known = drain(rt, &shared, alloc, &mut pass, 7);
     let unknown = drain(rt, &shared, alloc, &mut pass, 8);
-    let passes = only(alloc, pass)?;
-    let closed = close_for(shared, alloc, passes)?;
+    let closed = close_alone(shared, alloc, pass)?;
     let untouched = is_untouched(&closed, config);
     drop(closed);
     Ok(Opening {

@@ -1,7 +1,7 @@
 //! Sessions over a pass.
 ghost use Rattle.std.specs.Prelude.{◌≡◌};
 
-use crate::tests::asks::{close_for, only, open};
+use crate::tests::asks::{close_alone, open};
 use eu_base::Fault;
 use eu_clock::ListClock;
 use eu_model::Tally;
@@ -73,8 +73,7 @@ fn serve_alone<K: Label, R: Wait>(
         rt: _,
     } = seat;
     let tally = pass.tallies();
-    let passes = only(alloc, pass)?;
-    let closed = close_for(shared, alloc, passes)?;
+    let closed = close_alone(shared, alloc, pass)?;
     let settled = settle(&closed).is_ok();
     drop(closed);
     Ok((written?, tally, settled))

@@ -1,7 +1,7 @@
 //! A book with a peer, through the lock, until its journal is full and beyond.
 ghost use Rattle.std.specs.Prelude.{◌≡◌};
 
-use crate::tests::asks::{ask, close_for, only, registration, renewal};
+use crate::tests::asks::{ask, close_alone, registration, renewal};
 use eu_base::{Codes, Config, Fault};
 use eu_book::MOST_ENTRIES;
 use eu_model::Command;
@@ -142,8 +142,7 @@ fn find<K: Label, R: Wait>(rt: &R, alloc: Global, blanks: Blanks) -> Result<Find
     let answered = are_all_answered(rt, &shared, alloc, &mut pass);
     pass.trim();
     let logged = pass.log().len();
-    let passes = only(alloc, pass)?;
-    let closed = close_for(shared, alloc, passes)?;
+    let closed = close_alone(shared, alloc, pass)?;
     let findings = Findings {
         answered,
         logged,

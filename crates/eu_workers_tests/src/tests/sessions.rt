@@ -5,7 +5,7 @@ use eu_base::{Config, Fault, Task};
 use eu_clock::{FirstChooser, ListClock};
 use eu_peer::{ItemAnswer, Lost, Peer};
 use eu_routes::Routes;
-use eu_settle::settle;
+use eu_settle::{Closed, settle};
 use eu_shared::{Blanks, Label, Pass, Shared, close};
 use eu_workers::{Ended, Gate, Go, Job, Point, Site, Source, Work, Worker, run_all};
 use std::alloc::Global;
@@ -253,19 +253,45 @@ fn gather<K: Label>(
     Ok((passes, all))
 }
 
-/// Whether the book that is closed is settled.
+/// Whether a closed book is settled.
+fn settles(closed: Closed) -> bool {
+    settle(&closed).is_ok()
+}
+
+/// Whether the book is settled once it is closed.
 fn is_settled<K: Label>(shared: Shared<K>, alloc: Global, passes: Vec<Pass<K>>) -> bool {
     match close(shared, alloc, passes) {
-        Ok(closed) => {
-            let is_settled = settle(&closed).is_ok();
-            drop(closed);
-            is_settled
-        }
+        Ok(closed) => settles(closed),
         Err(unclosed) => {
             drop(unclosed);
             false
         }
     }
+}
+
+/// Has them work at a book that is shared.
+fn work<K: Label + Send + Sync, R: Threads + Wait + Clock + Sync>(
+    rt: &R,
+    alloc: Global,
+    shared: &Shared<K>,
+    workers: &mut [Hand<'_, K>],
+) -> Result<(), Fault> {
+    let routes = Routes::new(alloc)?;
+    let gate = Crossing {
+        rt,
+        reads: AtomicU64::new(0),
+        held: AtomicBool::new(false),
+        replied: AtomicBool::new(false),
+    };
+    let site = Site {
+        rt,
+        alloc,
+        shared,
+        routes: &routes,
+        gate: &gate,
+    };
+    run_all(&site, workers);
+    Ok(())
 }
 
 /// The passes of all workers of a book that is shared, and what they did.
@@ -275,23 +301,8 @@ fn cross<K: Label + Send + Sync, R: Threads + Wait + Clock + Sync>(
     shared: &Shared<K>,
     answered: &AtomicU64,
 ) -> Result<(Vec<Pass<K>>, Ended), Fault> {
-    let routes = Routes::new(alloc)?;
-    let gate = Crossing {
-        rt,
-        reads: AtomicU64::new(0),
-        held: AtomicBool::new(false),
-        replied: AtomicBool::new(false),
-    };
     let mut workers = hands(rt, alloc, shared, answered)?;
-    let site = Site {
-        rt,
-        alloc,
-        shared,
-        routes: &routes,
-        gate: &gate,
-    };
-    run_all(&site, workers.as_mut_slice());
-    drop(site);
+    work(rt, alloc, shared, workers.as_mut_slice())?;
     gather(alloc, workers)
 }
 

@@ -95,16 +95,28 @@ fn updates<K: Label, R: Wait>(
 #[derive(Clone, Copy)]
 struct Limits(u64, u64, u64);
 
+/// What came of each timer's worker.
+#[derive(Clone, Copy, PartialEq, Eq)]
+struct Timers {
+    evictor: Seen,
+    bucket: Seen,
+    threshold: Seen,
+}
+
 /// What each timer's worker does with so many turns.
 fn work_at<K: Label, R: Wait>(
     site: &Site<'_, K, R, Always>,
     clock: &mut ListClock,
     limits: Limits,
-) -> Result<(Seen, Seen, Seen), Fault> {
+) -> Result<Timers, Fault> {
     let evictor = evicts(site, clock, limits.0)?;
     let bucket = rolls(site, clock, limits.1)?;
     let threshold = updates(site, clock, limits.2)?;
-    Ok((evictor, bucket, threshold))
+    Ok(Timers {
+        evictor,
+        bucket,
+        threshold,
+    })
 }
 
 /// A clock that tells the moments 5, 6 and so on up to 14.
@@ -123,7 +135,8 @@ fn work_on<K: Label, R: Wait>(
     shared: &Shared<K>,
     go: Go,
     limits: Limits,
-) -> Result<(Seen, Seen, Seen), Fault> {
+) -> Result<Timers, Fault> {
+    let mut clock = ticking(alloc)?;
     let routes = Routes::new(alloc)?;
     let site = Site {
         rt,
@@ -132,7 +145,6 @@ fn work_on<K: Label, R: Wait>(
         routes: &routes,
         gate: &Always { go },
     };
-    let mut clock = ticking(alloc)?;
     work_at(&site, &mut clock, limits)
 }
 
@@ -143,7 +155,7 @@ fn work<K: Label, R: Wait>(
     blanks: Blanks,
     go: Go,
     limits: Limits,
-) -> Result<(Seen, Seen, Seen), Fault>
+) -> Result<Timers, Fault>
     requires names { (blanks.steps.name ≡ K.steps) × (blanks.counted.name ≡ K.counted) × (blanks.added.name ≡ K.added) × (blanks.removed.name ≡ K.removed) }
     requires parts { (blanks.steps.parts ≡ K.parts) × (blanks.counted.parts ≡ K.parts) × (blanks.added.parts ≡ K.parts) × (blanks.removed.parts ≡ K.parts) × (K.parts ≡ 1025) }
 {
@@ -151,12 +163,7 @@ fn work<K: Label, R: Wait>(
     work_on(rt, alloc, &shared, go, limits)
 }
 
-fn worked<R: Wait>(
-    rt: &R,
-    alloc: Global,
-    go: Go,
-    limits: Limits,
-) -> Result<(Seen, Seen, Seen), Fault> {
+fn worked<R: Wait>(rt: &R, alloc: Global, go: Go, limits: Limits) -> Result<Timers, Fault> {
     work::<Brand, R>(rt, alloc, Blanks::new(), go, limits)
 }
 
@@ -169,13 +176,12 @@ fn saw(turns: u64, logged: &'static str, ms: Option<u64>) -> Seen {
 #[test]
 fn one_turn(rt: HostRuntime) -> Result<(), Fail> {
     let seen = worked(&rt, rt.alloc(), Go::On, Limits(1, 1, 1))?;
-    assert!(rt;
-        seen == (
-            saw(1, "evict", Some(5)),
-            saw(1, "roll", Some(6)),
-            saw(1, "update", Some(7))
-        )
-    );
+    let wanted = Timers {
+        evictor: saw(1, "evict", Some(5)),
+        bucket: saw(1, "roll", Some(6)),
+        threshold: saw(1, "update", Some(7)),
+    };
+    assert!(rt; seen == wanted);
     Ok(())
 }
 
@@ -183,31 +189,35 @@ fn one_turn(rt: HostRuntime) -> Result<(), Fail> {
 fn a_gate_that_stops_leaves_no_turn(rt: HostRuntime) -> Result<(), Fail> {
     let seen = worked(&rt, rt.alloc(), Go::Stop, Limits(1, 1, 1))?;
     let nothing = saw(0, "nothing", None);
-    assert!(rt; seen == (nothing, nothing, nothing));
+    let wanted = Timers {
+        evictor: nothing,
+        bucket: nothing,
+        threshold: nothing,
+    };
+    assert!(rt; seen == wanted);
     Ok(())
 }
 
 #[test]
 fn each_takes_all_its_turns(rt: HostRuntime) -> Result<(), Fail> {
     let seen = worked(&rt, rt.alloc(), Go::On, Limits(3, 2, 4))?;
-    assert!(rt;
-        seen == (
-            saw(3, "evict", Some(5)),
-            saw(2, "roll", Some(8)),
-            saw(4, "update", Some(10))
-        )
-    );
+    let wanted = Timers {
+        evictor: saw(3, "evict", Some(5)),
+        bucket: saw(2, "roll", Some(8)),
+        threshold: saw(4, "update", Some(10)),
+    };
+    assert!(rt; seen == wanted);
     Ok(())
 }
 
 #[test]
 fn each_goes_on_for_as_long_as_it_may(rt: HostRuntime) -> Result<(), Fail> {
     let seen = worked(&rt, rt.alloc(), Go::On, Limits(12_000, 59, 11_000))?;
-    let wanted = (
-        saw(12_000, "evict", Some(5)),
-        saw(59, "roll", Some(14)),
-        saw(11_000, "update", Some(14)),
-    );
+    let wanted = Timers {
+        evictor: saw(12_000, "evict", Some(5)),
+        bucket: saw(59, "roll", Some(14)),
+        threshold: saw(11_000, "update", Some(14)),
+    };
     assert!(rt; seen == wanted);
     Ok(())
 }
@@ -223,7 +233,7 @@ struct Left {
 }
 
 /// The number of the first entry of a log.
-pub fn begins<K: Label>(pass: &Pass<K>) -> Option<u64> {
+fn begins<K: Label>(pass: &Pass<K>) -> Option<u64> {
     match pass.log() {
         [] => None,
         [first, ..] => Some(first.number),
@@ -273,17 +283,13 @@ fn roll_on<K: Label, R: Wait>(
     Ok(run_bucket(&site, pass, &mut clock, turns))
 }
 
-/// What is left of so many turns at a book at which nothing is held.
-fn leave<K: Label, R: Wait>(
+/// What is left of so many turns at a book.
+fn leave_of<K: Label, R: Wait>(
     rt: &R,
     alloc: Global,
     turns: u64,
-    blanks: Blanks,
-) -> Result<Left, Fault>
-    requires names { (blanks.steps.name ≡ K.steps) × (blanks.counted.name ≡ K.counted) × (blanks.added.name ≡ K.added) × (blanks.removed.name ≡ K.removed) }
-    requires parts { (blanks.steps.parts ≡ K.parts) × (blanks.counted.parts ≡ K.parts) × (blanks.added.parts ≡ K.parts) × (blanks.removed.parts ≡ K.parts) × (K.parts ≡ 1025) }
-{
-    let shared: Shared<K> = Shared::open(alloc, Config::new(true, 85, 30, 60_000)?, 0, 0, blanks)?;
+    shared: Shared<K>,
+) -> Result<Left, Fault> {
     let (pass, ended) = roll_on(rt, alloc, &shared, turns)?;
     let logged = pass.log().len();
     let begins = begins(&pass);
@@ -294,6 +300,20 @@ fn leave<K: Label, R: Wait>(
         begins,
         first,
     })
+}
+
+/// The same at a book at which nothing is held.
+fn leave<K: Label, R: Wait>(
+    rt: &R,
+    alloc: Global,
+    turns: u64,
+    blanks: Blanks,
+) -> Result<Left, Fault>
+    requires names { (blanks.steps.name ≡ K.steps) × (blanks.counted.name ≡ K.counted) × (blanks.added.name ≡ K.added) × (blanks.removed.name ≡ K.removed) }
+    requires parts { (blanks.steps.parts ≡ K.parts) × (blanks.counted.parts ≡ K.parts) × (blanks.added.parts ≡ K.parts) × (blanks.removed.parts ≡ K.parts) × (K.parts ≡ 1025) }
+{
+    let shared: Shared<K> = Shared::open(alloc, Config::new(true, 85, 30, 60_000)?, 0, 0, blanks)?;
+    leave_of(rt, alloc, turns, shared)
 }
 
 fn left_by<R: Wait>(rt: &R, alloc: Global, turns: u64) -> Result<Left, Fault> {

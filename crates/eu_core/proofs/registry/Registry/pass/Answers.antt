@@ -9,7 +9,7 @@ use Rattle.eu_model.specs.Plain.{Plain}
 use Rattle.eu_model.specs.Answers.{Answers}
 use Rattle.eu_model.specs.Kept.{kept_evicted}
 use Rattle.eu_model.proofs.EvictLemmas.{evict_answers, evict_refused}
-use Rattle.eu_core.specs.Pass.{due, number_of, drawn}
+use Rattle.eu_eviction.specs.Pass.{due, number_of, drawn}
 use Rattle.eu_core.specs.Registry.{plain_of}
 use Rattle.eu_core.proofs.RegisterLemmas.{moved}
 use Rattle.eu_core.proofs.PassLemmas.{are_victims, draws}

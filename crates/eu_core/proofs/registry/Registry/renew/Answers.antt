@@ -11,7 +11,7 @@ use Rattle.eu_model.specs.Plain.{Plain}
 use Rattle.eu_model.specs.Answers.{Answers}
 use Rattle.eu_store.specs.Stored.{amended, renewed_at}
 use Rattle.eu_store.proofs.TableLemmas.{by_key, changed-found}
-use Rattle.eu_core.specs.Rows.{with_put, with_row}
+use Rattle.eu_eviction.specs.Rows.{with_put, with_row}
 use Rattle.eu_core.specs.Registry.{plain_of}
 use Rattle.eu_core.proofs.RegisterLemmas.{moved, moved_both, err_moved, err_both}
 use Rattle.eu_core.proofs.RenewLemmas.{renewed_lease, ruled, reply_of, row_of, status_is, absent_answers, unknown_answers, exhausted_answers, memory_answers, counted_answers}

@@ -9,7 +9,7 @@ use Rattle.eu_model.specs.Plain.{Plain}
 use Rattle.eu_model.specs.Answers.{Answers}
 use Rattle.eu_model.specs.Kept.{kept_one}
 use Rattle.eu_model.proofs.StatusLemmas.{set_refused}
-use Rattle.eu_core.specs.Rows.{with_put}
+use Rattle.eu_eviction.specs.Rows.{with_put}
 use Rattle.eu_core.specs.Registry.{plain_of}
 use Rattle.eu_core.specs.declared.registry.Registry.TheInside.{Inside}
 use Rattle.eu_core.proofs.RegisterLemmas.{moved, err_moved}

@@ -1,7 +1,0 @@
-use Rattle.std.proofs.Common.{sym, ap, ◌∙◌}
-use Rattle.std.specs.FinMap as map
-use Rattle.eu_store.proofs.TableLemmas.{by_name, get_at}
-use Rattle.eu_core.proofs.overrides.Overrides.get.Goals as goal
-
-pub returns : goal.returns
-returns c = c.copied.ensures ∙ c.get.ensures.value ∙ sym (get_at by_name c.self.inside.table.entries c.args.id.now) ∙ ap (λ s. map.get s.rows c.args.id.now) c.self.view_is

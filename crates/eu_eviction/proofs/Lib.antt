@@ -1,0 +1,4 @@
+pub mod RowLemmas
+pub mod SortedLemmas
+pub mod OnceLemmas
+pub mod Crossing

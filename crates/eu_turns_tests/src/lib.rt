@@ -1,0 +1,5 @@
+//! Tests of the turns of workers.
+#![tactic(auto)]
+
+#[cfg(test)]
+mod tests;

@@ -1,0 +1,6 @@
+//! The tests, by what they are of.
+mod peers;
+mod points;
+mod replicas;
+mod trims;
+mod victims;

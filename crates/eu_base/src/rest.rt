@@ -1,7 +1,7 @@
 //! What a client gave of its instance beside what the registry reads.
-ghost use Rattle.std.specs.Prelude.{◌≡◌, ◌↔◌, false, IfOk, IfSome, IsSome, IsTrue};
+ghost use Rattle.std.specs.Prelude.{◌≡◌, ◌↔◌, false, IfOk, IfSome, IsSome, IsTrue, OnOk};
 ghost use Rattle.std.specs.Option.{option_map};
-ghost use Rattle.serde_json.specs.Data.{object};
+ghost use Rattle.serde_json.specs.Data.{object, put, string};
 ghost use Rattle.serde_json.specs.Find.{as_object};
 ghost use Rattle.serde_json.specs.View.{view as tree_of, items_view, members_view};
 ghost use Rattle.serde_json.specs.Written.{has_float, items_have_float, members_have_float};
@@ -116,17 +116,46 @@ fn clone_members(members: &Map<String, Value>) -> Result<Map<String, Value>, All
     Ok(members.clone()?)
 }
 
+/// Puts a member.
+fn insert(
+    alloc: Global,
+    members: &mut Map<String, Value>,
+    name: &str,
+    value: Value,
+) -> Result<(), AllocError>
+    ensures { OnOk result (members_view members.new.entries ≡ put name.now (tree_of value) (members_view members.old.entries)) }
+{
+    let name = String::from_str(alloc, name)?;
+    members.insert(name, value)?;
+    Ok(())
+}
+
+/// Puts a member that is a text.
+fn insert_text(
+    alloc: Global,
+    members: &mut Map<String, Value>,
+    name: &str,
+    text: &str,
+) -> Result<(), AllocError>
+    ensures { OnOk result (members_view members.new.entries ≡ put name.now (string text.now) (members_view members.old.entries)) }
+{
+    let value = Value::String(String::from_str(alloc, text)?);
+    insert(alloc, members, name, value)
+}
+
 /// The members of a host of that name.
 fn members_of_host(alloc: Global, host: &str) -> Result<Map<String, Value>, AllocError>
     ensures { IfOk result (λ members. object (members_view members.entries) ≡ rest_of_host host.now) }
 {
     let mut members = Map::new(alloc);
-    let center = json!(in alloc; { "name": "MyOwn" })?;
-    members.insert(String::from_str(alloc, "dataCenterInfo")?, center)?;
-    let name = Value::String(String::from_str(alloc, host)?);
-    members.insert(String::from_str(alloc, "hostName")?, name)?;
-    let address = Value::String(String::from_str(alloc, "0.0.0.0")?);
-    members.insert(String::from_str(alloc, "ipAddr")?, address)?;
+    insert(
+        alloc,
+        &mut members,
+        "dataCenterInfo",
+        json!(in alloc; { "name": "MyOwn" })?,
+    )?;
+    insert_text(alloc, &mut members, "hostName", host)?;
+    insert_text(alloc, &mut members, "ipAddr", "0.0.0.0")?;
     Ok(members)
 }
 

@@ -3,7 +3,8 @@ ghost use Rattle.std.specs.Prelude.{◌≡◌, ◌<◌, ◌≤◌, length, max, 
 
 /// Looks through a text, as it grows, for the empty line that ends a head or a trailer. No byte is looked at twice.
 ///
-/// It only tells when it is worth while to parse: nothing rests on its answers but how often that is done.
+/// It only tells when it is worth while to parse. What is read rests on its answers in nothing but how often that is done, and that no byte
+/// behind a request is waited for.
 #[derive(Clone, Copy)]
 pub struct Scan {
     /// So many bytes were looked at.
@@ -37,8 +38,8 @@ impl Scan {
         }
     }
 
-    /// Whether an empty line ends the text within the bytes that weren't looked at before. Where it does, the bytes up to its end have
-    /// been looked at; else all have.
+    /// Whether an empty line ends the text within the bytes that weren't looked at before. Where it does, it has come as far as that
+    /// line's end; else to the text's end.
     pub fn finds_empty_line(&mut self, text: &[u8]) -> bool
         ensures found { result ≡ true → (self.old.seen < self.new.seen) × (self.new.seen ≤ length text.now) }
         ensures all { result ≡ false → self.new.seen ≡ max self.old.seen (length text.now) }

@@ -346,7 +346,7 @@ const LOOK: &str = "GET /eureka/status HTTP/1.1\r\nHost: x\r\nConnection: close\
 const PAGE: &str =
     "HTTP/1.1 200 OK\r\nContent-Type: text/plain; charset=utf-8\r\nContent-Length: 87\r\nConnection: close\r\n\r\nheld 0\nexpected 70007\nthreshold 105010\nlast 0\npreservation off\npermitted yes\nstatuses \n";
 
-/// What a server of one session writes that has those settings.
+/// What a server of two sessions, one at a time, writes that has those settings.
 fn written_by_settings<R: Threads + Wait + Clock + Sync>(
     rt: &R,
     alloc: Global,
@@ -361,24 +361,40 @@ fn written_by_settings<R: Threads + Wait + Clock + Sync>(
         config,
         70_007,
         1,
-        1,
+        2,
         FirstChooser,
         &mut out,
     )?;
     Ok(out)
 }
 
-/// The same, and whether a client reads the page.
+/// Whether a client waits for as long as another one, which says nothing, is connected, and reads the page then.
+fn reads_the_page_in_turn<R: Net<Stream = TcpStream>>(
+    rt: &R,
+    alloc: Global,
+    address: SocketAddr,
+) -> io::Result<bool> {
+    let silent = TcpStream::connect(rt, address)?;
+    let mut stream = TcpStream::connect(rt, address)?;
+    stream.set_read_timeout(Some(Duration::from_millis(500)))?;
+    stream.write_all(LOOK.as_bytes())?;
+    let mut byte = [0u8; 1];
+    let waits = stream.read(&mut byte).is_err();
+    drop(silent);
+    Ok(waits && is_answered_on(alloc, stream, "", PAGE))
+}
+
+/// The same, and whether a client reads the page in its turn.
 fn serve_page<R: Threads + Wait + Clock + Sync + Net<Listener = TcpListener, Stream = TcpStream>>(
     rt: &R,
     alloc: Global,
     listener: &TcpListener,
     address: SocketAddr,
-) -> (Result<Vec<u8>, Fault>, bool) {
+) -> (Result<Vec<u8>, Fault>, io::Result<bool>) {
     thread::join(
         rt,
         || written_by_settings(rt, alloc, listener),
-        || is_answered(rt, alloc, address, LOOK, PAGE),
+        || reads_the_page_in_turn(rt, alloc, address),
     )
 }
 
@@ -386,8 +402,8 @@ fn serve_page<R: Threads + Wait + Clock + Sync + Net<Listener = TcpListener, Str
 fn a_server_has_the_settings_that_it_is_given(rt: HostRuntime) -> Result<(), Fail> {
     let (listener, address) = listen(&rt)?;
     let (out, answered) = serve_page(&rt, rt.alloc(), &listener, address);
-    assert!(rt; answered);
-    assert!(rt; out?.as_slice() == b"served 1\n".as_slice());
+    assert!(rt; answered?);
+    assert!(rt; out?.as_slice() == b"served 2\n".as_slice());
     Ok(())
 }
 

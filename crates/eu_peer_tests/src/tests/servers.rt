@@ -30,13 +30,30 @@ fn seat<'a, K: Label, R: Wait>(
     })
 }
 
-/// A turn of a server for its one peer.
-fn turn<K: Label, L: Label, R: Wait>(
+/// A turn of a server for its one peer, by a new pass.
+fn turn_for<K: Label, L: Label, R: Wait>(
+    rt: &R,
     alloc: Global,
-    here: &mut Seat<'_, K, R>,
-    there: &mut InProcess<Seat<'_, L, R>, ListClock>,
-) -> Option<Turn> {
-    replicate_turn(alloc, here, 0, there, &mut clock(alloc)).ok()
+    here: &Shared<K>,
+    peer: &mut InProcess<Seat<'_, L, R>, ListClock>,
+) -> Result<Option<Turn>, Fault> {
+    let mut mine = seat(rt, alloc, here)?;
+    Ok(replicate_turn(alloc, &mut mine, 0, peer, &mut clock(alloc)).ok())
+}
+
+/// A turn of a server for another one, which is its one peer.
+fn turn<K: Label, L: Label, R: Wait>(
+    rt: &R,
+    alloc: Global,
+    here: &Shared<K>,
+    there: &Shared<L>,
+) -> Result<Option<Turn>, Fault> {
+    let desk = seat(rt, alloc, there)?;
+    let mut peer = InProcess {
+        desk,
+        clock: clock(alloc),
+    };
+    turn_for(rt, alloc, here, &mut peer)
 }
 
 /// The leases that a view of counts tells.
@@ -47,8 +64,13 @@ fn leases(view: &View) -> u64 {
     }
 }
 
-/// How many leases a server holds.
-fn held<K: Label, R: Wait>(rt: &R, shared: &Shared<K>, alloc: Global, pass: &mut Pass<K>) -> u64 {
+/// How many leases a server holds, by that pass.
+fn held_by<K: Label, R: Wait>(
+    rt: &R,
+    shared: &Shared<K>,
+    alloc: Global,
+    pass: &mut Pass<K>,
+) -> u64 {
     let Some(moment) = Moment::new(0) else {
         return 0;
     };
@@ -56,6 +78,12 @@ fn held<K: Label, R: Wait>(rt: &R, shared: &Shared<K>, alloc: Global, pass: &mut
         Ok(view) => leases(&view),
         Err(_) => 0,
     }
+}
+
+/// How many leases a server holds.
+fn held<K: Label, R: Wait>(rt: &R, alloc: Global, shared: &Shared<K>) -> Result<u64, Fault> {
+    let mut pass = shared.pass(rt, alloc)?;
+    Ok(held_by(rt, shared, alloc, &mut pass))
 }
 
 /// Whether a client registers the instance of that id of A at the moment 0.
@@ -77,7 +105,7 @@ fn registers<K: Label, R: Wait>(
     }
 }
 
-/// Whether 250 clients register at the moment 0: as many as a batch has tasks.
+/// Whether 250 clients register by a pass at the moment 0: as many as a batch has tasks.
 fn all_register<K: Label, R: Wait>(
     rt: &R,
     shared: &Shared<K>,
@@ -93,6 +121,16 @@ fn all_register<K: Label, R: Wait>(
     Ok(true)
 }
 
+/// Whether they register at a server.
+fn register_all<K: Label, R: Wait>(
+    rt: &R,
+    alloc: Global,
+    shared: &Shared<K>,
+) -> Result<bool, Fault> {
+    let mut pass = shared.pass(rt, alloc)?;
+    all_register(rt, shared, alloc, &mut pass)
+}
+
 /// A turn of the first server after 250 registrations, one of the second, another of the first, and how many leases the second holds.
 type Findings = (Option<Turn>, Option<Turn>, Option<Turn>, u64);
 
@@ -103,25 +141,13 @@ fn meet<K: Label, L: Label, R: Wait>(
     here: &Shared<K>,
     there: &Shared<L>,
 ) -> Result<Findings, Fault> {
-    let mut mine = seat(rt, alloc, here)?;
-    let mut theirs = seat(rt, alloc, there)?;
-    let desk = seat(rt, alloc, there)?;
-    let mut to_there = InProcess {
-        desk,
-        clock: clock(alloc),
-    };
-    let desk = seat(rt, alloc, here)?;
-    let mut to_here = InProcess {
-        desk,
-        clock: clock(alloc),
-    };
-    if !all_register(rt, here, alloc, &mut mine.pass)? {
+    if !register_all(rt, alloc, here)? {
         return Err(Fault::OutOfMemory);
     }
-    let sent = turn(alloc, &mut mine, &mut to_there);
-    let back = turn(alloc, &mut theirs, &mut to_here);
-    let again = turn(alloc, &mut mine, &mut to_there);
-    let held = held(rt, there, alloc, &mut theirs.pass);
+    let sent = turn(rt, alloc, here, there)?;
+    let back = turn(rt, alloc, there, here)?;
+    let again = turn(rt, alloc, here, there)?;
+    let held = held(rt, alloc, there)?;
     Ok((sent, back, again, held))
 }
 

@@ -14,6 +14,8 @@ enum Step {
     Register(&'static str),
     /// A peer renews i1 with this stamp.
     Renew(u64),
+    /// A client sets i1 OUT_OF_SERVICE.
+    Set,
     /// A minute ends.
     Roll,
     /// A pass evicts.
@@ -67,6 +69,17 @@ fn renewal(alloc: Global, dirty: u64) -> Result<Command, Fault> {
     })
 }
 
+/// A client sets i1 OUT_OF_SERVICE.
+fn setting(alloc: Global) -> Result<Command, Fault> {
+    let key = key(alloc, "i1")?;
+    Ok(Command::SetStatus {
+        key,
+        status: Status::OutOfService,
+        dirty: None,
+        replicated: false,
+    })
+}
+
 /// A batch of one task has landed, and was answered so.
 fn landing(alloc: Global, code: u16) -> Result<Command, Fault> {
     let codes = Codes::new(Vec::from_slice(alloc, [code].as_slice())?);
@@ -77,6 +90,7 @@ fn command(alloc: Global, step: Step) -> Result<Command, Fault> {
     match step {
         Step::Register(id) => registration(alloc, id),
         Step::Renew(dirty) => renewal(alloc, dirty),
+        Step::Set => setting(alloc),
         Step::Roll => Ok(Command::Roll),
         Step::Evict => Ok(Command::Evict),
         Step::Drain => Ok(Command::Drain { peer: 0 }),
@@ -426,6 +440,39 @@ fn goes_on(alloc: Global) -> Result<bool, Fault> {
 #[test]
 fn a_checkpoint_keeps_what_is_left(rt: HostRuntime) {
     assert!(rt; goes_on(rt.alloc()) == Ok(true));
+}
+
+/// Whether i1 alone has an override, which is OUT_OF_SERVICE.
+fn has_override(state: &State) -> bool {
+    match state.rows.as_slice() {
+        [row] => row.0.as_str() == "i1" && row.1 == Status::OutOfService,
+        _ => false,
+    }
+}
+
+/// Whether the registry is shown with it.
+fn shows_override(alloc: Global, book: &Book) -> Result<bool, Fault> {
+    let state = book.state(alloc)?;
+    let shows = has_override(&state);
+    drop(state);
+    Ok(shows)
+}
+
+/// Whether a book in which i1 was set so begins its journal anew with the override.
+fn keeps_override(alloc: Global) -> Result<bool, Fault> {
+    let mut book = opened(alloc)?;
+    first(alloc, &mut book, Step::Register("i1"));
+    let set = first(alloc, &mut book, Step::Set);
+    let taken = retired(book.checkpoint(alloc));
+    let is_based = has_override(&book.journal().base);
+    let shows = shows_override(alloc, &book);
+    drop(book);
+    Ok(set == (1, "done") && taken == Ok(2) && is_based && shows?)
+}
+
+#[test]
+fn a_checkpoint_keeps_overrides(rt: HostRuntime) {
+    assert!(rt; keeps_override(rt.alloc()) == Ok(true));
 }
 
 /// Whether a command that is refused leaves a full journal as it is, and the next one that isn't has it begin anew and hands it out.

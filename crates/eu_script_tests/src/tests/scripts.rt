@@ -253,7 +253,12 @@ fn stamps_are_compared(rt: HostRuntime) {
     }
 }
 
-const SET: [(&[u8], &[u8]); 4] = [
+const SET: [(&[u8], &[u8]); 5] = [
+    // one override takes the place of another
+    (
+        b"open 0\nregister 0 A x 90 UP UNKNOWN - c\nset 1 A x DOWN - c\nset 2 A x OUT_OF_SERVICE - c\nlook 2 A x\n",
+        b"opened\n204\n200\n200\nfound OUT_OF_SERVICE OUT_OF_SERVICE dirty 0 secs 90 registered 0 up 0 updated 90002\n",
+    ),
     // without a status of its own the instance is UNKNOWN, and isn't renewed
     (
         b"open 0\nregister 0 A i1 90 UP UNKNOWN - c\nset 1 A i1 OUT_OF_SERVICE - c\nrenew 2 A i1 - - c\nunset 3 A i1 - - c\nrenew 4 A i1 - - c\nroll 5\n",

@@ -1,9 +1,10 @@
 //! Two servers of one process, of which each is the other's peer, and whose replicators work at once.
 ghost use Rattle.std.specs.Prelude.{◌≡◌};
 
-use crate::tests::replicas::{Open, registration};
+use crate::tests::replicas::Open;
+use crate::tests::victims::register as register_by;
 use eu_base::{Config, Fault, Moment};
-use eu_clock::{FirstChooser, ListClock};
+use eu_clock::ListClock;
 use eu_model::{Query, View};
 use eu_peer::InProcess;
 use eu_routes::Routes;
@@ -97,11 +98,8 @@ fn register<K: Label, R: Wait>(
     shared: &Shared<K>,
     id: &str,
 ) -> Result<(), Fault> {
-    let moment = Moment::new(0).ok_or(Fault::BadStamp)?;
-    let command = registration(alloc, id)?;
     let mut pass = shared.pass(rt, alloc)?;
-    drop(pass.ask(rt, shared, alloc, command, moment, &mut FirstChooser)?);
-    Ok(())
+    register_by(rt, shared, alloc, &mut pass, id)
 }
 
 /// The leases that a view of counts tells.
@@ -116,8 +114,9 @@ fn leases(view: &View) -> u64 {
 fn held<K: Label, R: Wait>(rt: &R, alloc: Global, shared: &Shared<K>) -> Result<u64, Fault> {
     let moment = Moment::new(0).ok_or(Fault::BadStamp)?;
     let mut pass = shared.pass(rt, alloc)?;
-    let view = pass.read(rt, shared, alloc, &Query::Counts, moment)?;
-    Ok(leases(&view))
+    let view = pass.read(rt, shared, alloc, &Query::Counts, moment);
+    drop(pass);
+    Ok(leases(&view?))
 }
 
 /// What two replicators did, and how many leases each server holds then.

@@ -37,8 +37,9 @@ fn digit(who: u32) -> u64 {
         17 => 10,
         18 => 100,
         19 => 1_000,
-        21 => 10_000,
-        _ => 100_000,
+        20 => 10_000,
+        21 => 100_000,
+        _ => 1_000_000,
     }
 }
 
@@ -93,11 +94,12 @@ impl Write for Keeping<'_> {
     }
 }
 
-/// One connection, on which a listing is asked for; counts of those that were taken and of those that were answered.
+/// One connection, on which a listing is asked for; counts of those that were taken, of those that ended, and of those that were answered.
 #[derive(Drop)]
 struct Once<'a> {
     connection: Option<(&'static [u8], Keeping<'a>)>,
     taken: &'a AtomicU64,
+    ended: &'a AtomicU64,
     answered: &'a AtomicU64,
 }
 
@@ -112,6 +114,7 @@ impl<'a> Source for Once<'a> {
     }
 
     fn end(&mut self, _reader: &'static [u8], writer: Keeping<'a>) {
+        self.ended.fetch_add(1, Ordering::SeqCst);
         if writer.is_flushed && writer.kept.starts_with(b"HTTP/1.1 200 OK") {
             self.answered.fetch_add(1, Ordering::SeqCst);
         }
@@ -139,6 +142,7 @@ impl Peer for Losing<'_> {
 #[derive(Drop)]
 struct Counts {
     taken: AtomicU64,
+    ended: AtomicU64,
     answered: AtomicU64,
     flushes: AtomicU64,
     sent: AtomicU64,
@@ -174,11 +178,12 @@ struct Told {
     reads: u64,
     replies: u64,
     taken: u64,
+    ended: u64,
     answered: u64,
     early: u64,
     sent: u64,
-    /// The peer whose tasks were drained.
-    drained: Option<u32>,
+    /// The peers whose tasks were drained, in the order of the workers: a digit for each, which is its number and one.
+    drained: u64,
     all: Ended,
 }
 
@@ -213,7 +218,22 @@ fn push_timers<'a, K: Label, R: Wait>(
     push(rt, alloc, shared, hands, Work::Threshold)
 }
 
-/// Each timer's worker, behind them a session worker, which is numbered 1 all the same, and the replicator of peer 1.
+/// Adds the replicators of peers 1 and 0.
+fn push_replicators<'a, K: Label, R: Wait>(
+    rt: &R,
+    alloc: Global,
+    shared: &Shared<K>,
+    hands: &mut Vec<Hand<'a, K>>,
+    sent: &'a AtomicU64,
+) -> Result<(), Fault> {
+    for number in [1, 0] {
+        let peer = Losing { sent };
+        push(rt, alloc, shared, hands, Work::Replicator { number, peer })?;
+    }
+    Ok(())
+}
+
+/// Each timer's worker, behind them a session worker, which is numbered 1 all the same, and the replicators of peers 1 and 0.
 fn hands<'a, K: Label, R: Wait>(
     rt: &R,
     alloc: Global,
@@ -232,28 +252,30 @@ fn hands<'a, K: Label, R: Wait>(
     let source = Once {
         connection: Some((LISTING, writer)),
         taken: &counts.taken,
+        ended: &counts.ended,
         answered: &counts.answered,
     };
     push(rt, alloc, shared, &mut hands, Work::Sessions { source })?;
-    let peer = Losing { sent: &counts.sent };
-    push(
-        rt,
-        alloc,
-        shared,
-        &mut hands,
-        Work::Replicator { number: 1, peer },
-    )?;
+    push_replicators(rt, alloc, shared, &mut hands, &counts.sent)?;
     Ok(hands)
 }
 
-/// The peer whose tasks a pass drained first.
-fn drained<K: Label>(pass: &Pass<K>) -> Option<u32> {
+/// The number and one of the peer whose tasks a pass drained first.
+fn drained<K: Label>(pass: &Pass<K>) -> Option<u64> {
     match pass.log() {
         [first, ..] => match first.command {
-            Command::Drain { peer } => Some(peer),
+            Command::Drain { peer } => Some(u64::from(peer) + 1),
             _ => None,
         },
         [] => None,
+    }
+}
+
+/// With a digit more, if there is one.
+fn with_digit(digits: u64, digit: Option<u64>) -> u64 {
+    match digit {
+        Some(digit) => digits.saturating_mul(10).saturating_add(digit),
+        None => digits,
     }
 }
 
@@ -264,7 +286,7 @@ fn tell<K: Label>(told: &mut Told, hand: Hand<'_, K>) {
             drop(work);
             told.all.turns = told.all.turns.saturating_add(ended.turns);
             told.all.refused = told.all.refused.saturating_add(ended.refused);
-            told.drained = told.drained.or(drained(&pass));
+            told.drained = with_digit(told.drained, drained(&pass));
             drop(pass);
         }
         other => drop(other),
@@ -307,10 +329,11 @@ fn work<K: Label + Send + Sync, R: Threads + Wait + Sync>(
         reads: gate.reads.load(Ordering::SeqCst),
         replies: gate.replies.load(Ordering::SeqCst),
         taken: counts.taken.load(Ordering::SeqCst),
+        ended: counts.ended.load(Ordering::SeqCst),
         early: gate.early.load(Ordering::SeqCst),
         answered: counts.answered.load(Ordering::SeqCst),
         sent: counts.sent.load(Ordering::SeqCst),
-        drained: None,
+        drained: 0,
         all: Ended::default(),
     };
     for worker in workers {
@@ -334,6 +357,7 @@ fn work_after<K: Label + Send + Sync, R: Threads + Wait + Sync>(
     }
     let counts = Counts {
         taken: AtomicU64::new(0),
+        ended: AtomicU64::new(0),
         answered: AtomicU64::new(0),
         flushes: AtomicU64::new(0),
         sent: AtomicU64::new(0),
@@ -370,16 +394,17 @@ fn ran<R: Threads + Wait + Sync>(rt: &R, alloc: Global, trouble: Trouble) -> Res
 /// What they do where nothing stops them: each passes the gate before its turn, the session before each of its two reads, of which the
 /// second finds the end, and once before its response is flushed, before which no flush came.
 const ALL: Told = Told {
-    turns: 11_111,
+    turns: 111_111,
     reads: 2,
     replies: 1,
     taken: 1,
+    ended: 1,
     answered: 1,
     early: 0,
-    sent: 1,
-    drained: Some(1),
+    sent: 2,
+    drained: 21,
     all: Ended {
-        turns: 5,
+        turns: 6,
         refused: 0,
     },
 };
@@ -395,14 +420,15 @@ fn each_passes_the_gate_by_its_number(rt: HostRuntime) -> Result<(), Fail> {
 fn who_is_stopped_before_a_turn_has_none(rt: HostRuntime) -> Result<(), Fail> {
     let told = ran(&rt, rt.alloc(), stops(Point::Turn))?;
     let nothing = Told {
-        turns: 11_111,
+        turns: 111_111,
         reads: 0,
         replies: 0,
         taken: 0,
+        ended: 0,
         answered: 0,
         early: 0,
         sent: 0,
-        drained: None,
+        drained: 0,
         all: Ended {
             turns: 0,
             refused: 0,
@@ -420,7 +446,7 @@ fn a_read_that_is_stopped_ends_the_session(rt: HostRuntime) -> Result<(), Fail> 
         replies: 0,
         answered: 0,
         all: Ended {
-            turns: 5,
+            turns: 6,
             refused: 1,
         },
         ..ALL
@@ -449,7 +475,7 @@ fn a_write_that_fails_is_refused(rt: HostRuntime) -> Result<(), Fail> {
         replies: 0,
         answered: 0,
         all: Ended {
-            turns: 5,
+            turns: 6,
             refused: 1,
         },
         ..ALL
@@ -484,6 +510,7 @@ fn sixteen<'a, K: Label, R: Wait>(
         let source = Once {
             connection: None,
             taken: answered,
+            ended: answered,
             answered,
         };
         push(rt, alloc, shared, &mut hands, Work::Sessions { source })?;

@@ -20,7 +20,7 @@ const CLIENTS: [&str; 4] = ["i0", "i1", "i2", "i3"];
 const LATE: u32 = 3_600_000;
 
 /// Registers a client at the moment 0.
-fn register<K: Label, R: Wait>(
+pub fn register<K: Label, R: Wait>(
     rt: &R,
     shared: &Shared<K>,
     alloc: Global,

@@ -1,4 +1,4 @@
-//! Tests of the crates that read requests of HTTP and write the responses.
+//! Tests of the crates that read and write the JSON of instances and of batches, and of the responses of HTTP.
 #![tactic(auto)]
 
 #[cfg(test)]

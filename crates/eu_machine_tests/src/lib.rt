@@ -1,4 +1,4 @@
-//! Tests of the crates of the lease machine: of the values below it, of the registry's parts, and of what it shows.
+//! Tests of the registry's parts: leases, their table and deadlines, the meter, and passes.
 #![tactic(auto)]
 
 #[cfg(test)]

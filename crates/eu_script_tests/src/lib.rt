@@ -1,4 +1,4 @@
-//! Tests of scripts, from the streams that they are read from to the books that they keep.
+//! Tests of scripts, from the streams that they are read from to what they print.
 #![tactic(auto)]
 
 #[cfg(test)]

@@ -1,4 +1,3 @@
 pub mod Ends
-pub mod Passing
 pub mod Served
 pub mod Unlimited

@@ -7,11 +7,11 @@ ghost use Rattle.eu_serve.specs.Unlimited.{IsUnlimited};
 ghost use Rattle.eu_settle.specs.Settled.{IsMismatch, IsSettled};
 ghost use Rattle.eu_settle.specs.declared.settling.Mismatch.{Mismatch};
 
-use crate::acceptor::{Acceptor, Connections, Timeouts};
 use crate::no_peer::NoPeer;
+use eu_accept::{Acceptor, Connections, Timeouts};
 use eu_base::{Config, Fault};
 use eu_clock::{Chooser, SystemClock};
-use eu_gate::{Admission, Periods};
+use eu_gate::{Admission, MOST_WORKERS, Periods};
 use eu_routes::Routes;
 use eu_settle::{Closed, settle};
 use eu_shared::{Blanks, Label, Pass, Shared, Unclosed, close};
@@ -27,20 +27,20 @@ use std::time::Clock;
 /// The workers that are timers.
 const TIMERS: usize = 3;
 
-/// What a server is to do.
+/// What a server is to do. `serve_on` has the plan of an ordinary one.
 #[derive(Clone, Copy)]
-pub(crate) struct Plan {
+pub struct Plan {
     /// The settings of its registry.
     pub config: Config,
     /// How many clients it expects at first.
     pub expected: u32,
-    /// How many connections it serves at once.
+    /// How many connections it serves at once, 1 to 16; 0 counts as 1, and more than 16 as 16.
     pub workers: u32,
     /// After how many connections it ends.
     pub sessions: u32,
-    /// The milliseconds between two turns of each timer.
+    /// The milliseconds between two turns of each timer; 0 counts as 1.
     pub periods: Periods,
-    /// For how long it waits for a connection.
+    /// For how many milliseconds, above 0, it waits for a connection, and how much of one it drops at its end.
     pub timeouts: Timeouts,
 }
 
@@ -81,8 +81,55 @@ fn job<'a, K: Label, R: Wait + Clock, H: Chooser>(
     })
 }
 
-/// The workers of sessions, and then the evictor, the bucket's and the threshold's worker, each with a pass. `OutOfMemory`, and the
-/// fault of `Shared::pass`.
+/// Adds a worker with a pass of its own. `OutOfMemory`, and the fault of `Shared::pass`.
+fn add<'a, K: Label, R: Wait + Clock, H: Chooser + Drop>(
+    workers: &mut Vec<ServerWorker<'a, K, R, H>>,
+    rt: &'a R,
+    alloc: Global,
+    shared: &Shared<K>,
+    work: Work<Connections<'a, R>, H, NoPeer>,
+) -> Result<(), Fault>
+    ensures { IfErr result IsStart }
+{
+    let pass = shared.pass(rt, alloc)?;
+    workers.push(job(rt, pass, work))?;
+    Ok(())
+}
+
+/// Adds so many workers of sessions. The faults are those of `add`.
+fn add_sessions<'a, K: Label, R: Wait + Clock, H: Chooser + Drop>(
+    workers: &mut Vec<ServerWorker<'a, K, R, H>>,
+    rt: &'a R,
+    alloc: Global,
+    shared: &Shared<K>,
+    acceptor: &'a Acceptor<'a, R>,
+    count: u32,
+) -> Result<(), Fault>
+    ensures { IfErr result IsStart }
+{
+    for _worker in 0..count {
+        let source = Connections { acceptor };
+        add(workers, rt, alloc, shared, Work::Sessions { source })?;
+    }
+    Ok(())
+}
+
+/// Adds the evictor, the bucket's and the threshold's worker. The faults are those of `add`.
+fn add_timers<'a, K: Label, R: Wait + Clock, H: Chooser + Drop>(
+    workers: &mut Vec<ServerWorker<'a, K, R, H>>,
+    rt: &'a R,
+    alloc: Global,
+    shared: &Shared<K>,
+    chooser: H,
+) -> Result<(), Fault>
+    ensures { IfErr result IsStart }
+{
+    add(workers, rt, alloc, shared, Work::Evictor { chooser })?;
+    add(workers, rt, alloc, shared, Work::Bucket)?;
+    add(workers, rt, alloc, shared, Work::Threshold)
+}
+
+/// The workers of sessions, and then those of the timers. `OutOfMemory`, and the fault of `Shared::pass`.
 fn make_workers<'a, K: Label, R: Wait + Clock, H: Chooser + Drop>(
     rt: &'a R,
     alloc: Global,
@@ -94,15 +141,8 @@ fn make_workers<'a, K: Label, R: Wait + Clock, H: Chooser + Drop>(
     ensures { IfErr result IsStart }
 {
     let mut workers = Vec::with_capacity(alloc, count as usize + TIMERS)?;
-    for _worker in 0..count {
-        let work = Work::Sessions {
-            source: Connections { acceptor },
-        };
-        workers.push(job(rt, shared.pass(rt, alloc)?, work))?;
-    }
-    workers.push(job(rt, shared.pass(rt, alloc)?, Work::Evictor { chooser }))?;
-    workers.push(job(rt, shared.pass(rt, alloc)?, Work::Bucket))?;
-    workers.push(job(rt, shared.pass(rt, alloc)?, Work::Threshold))?;
+    add_sessions(&mut workers, rt, alloc, shared, acceptor, count)?;
+    add_timers(&mut workers, rt, alloc, shared, chooser)?;
     Ok(workers)
 }
 
@@ -191,15 +231,18 @@ fn close_book<K: Label>(
 
 /// What a server did that came to a good end.
 #[derive(Drop)]
-pub(crate) struct Outcome {
+pub struct Outcome {
     /// How many connections were served.
     pub served: u64,
     /// The book, closed and settled.
     pub closed: Closed,
 }
 
-/// Opens a book, serves it, closes it and settles it. The faults are those of `serve_on`, but for `Write`.
-pub(crate) fn serve_book<
+/// Serves by a plan, and gives the book, closed and settled, rather than writing a line.
+///
+/// The book has the names and parts of its blanks. The faults are those of `serve_on`, and come when they do there, but for `Write`: nothing
+/// is written.
+pub fn serve_book<
     K: Label + Send + Sync,
     R: Threads + Wait + Clock + Sync,
     H: Chooser + Send + Drop,
@@ -217,11 +260,12 @@ pub(crate) fn serve_book<
     ensures fault { IfErr result IsEnd }
 {
     let shared: Shared<K> = Shared::open(alloc, plan.config, plan.expected, 0, blanks)?;
-    let admission = Admission::new(plan.sessions, plan.workers);
+    let workers = plan.workers.clamp(1, MOST_WORKERS);
+    let admission = Admission::new(plan.sessions, workers);
     let Ok(acceptor) = Acceptor::new(rt, listener, admission, plan.periods, plan.timeouts) else {
         return Err(Fault::Read);
     };
-    let (passes, served) = run_workers(rt, alloc, &shared, &acceptor, plan.workers, chooser)?;
+    let (passes, served) = run_workers(rt, alloc, &shared, &acceptor, workers, chooser)?;
     let closed = close_book(shared, alloc, passes)?;
     if acceptor.has_failed() {
         return Err(Fault::Read);
@@ -240,8 +284,8 @@ fn tell<W: Write>(writer: &mut W, served: u64) -> Result<(), Fault>
     Ok(())
 }
 
-/// Serves by a plan, as `serve_on` does.
-pub(crate) fn serve<R: Threads + Wait + Clock + Sync, H: Chooser + Send + Drop, W: Write>(
+/// Serves by a plan, as `serve_on` does by that of an ordinary server: with its faults, each when it comes there.
+pub fn serve_by<R: Threads + Wait + Clock + Sync, H: Chooser + Send + Drop, W: Write>(
     rt: &R,
     alloc: Global,
     listener: &TcpListener,
@@ -294,5 +338,5 @@ pub fn serve_on<R: Threads + Wait + Clock + Sync, H: Chooser + Send + Drop, W: W
     ensures untold { IfErr result (λ f. (f ≡ Fault.Write) ⊎ (IsEnd f × (writer.new ≡ writer.old))) }
 {
     let plan = Plan::of_server(config, expected, workers, sessions);
-    serve(rt, alloc, listener, &plan, chooser, writer)
+    serve_by(rt, alloc, listener, &plan, chooser, writer)
 }

@@ -4,4 +4,3 @@ pub mod Turn
 pub mod Session
 pub mod Steps
 pub mod Book
-pub mod Seat

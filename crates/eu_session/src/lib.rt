@@ -4,7 +4,6 @@
 mod book;
 mod desk;
 mod faults;
-mod seat;
 mod session;
 mod turn;
 

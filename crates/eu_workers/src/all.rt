@@ -4,11 +4,11 @@ ghost use Rattle.eu_workers.specs.All.{HasRun, IsEnded, IsNumbered, IsWorked};
 
 use crate::ended::Ended;
 use crate::replicator::run_replicator;
-use crate::sessions::{Source, run_sessions};
+use crate::sessions::run_sessions;
 use crate::site::Site;
 use crate::timers::{run_bucket, run_evictor, run_threshold};
 use eu_clock::{Chooser, Clock};
-use eu_gate::Gate;
+use eu_gate::{Gate, Source};
 use eu_peer::Peer;
 use eu_shared::{Label, Pass};
 use std::mem;

@@ -11,8 +11,8 @@ mod timers;
 
 pub use all::{Job, Work, Worker, run_all};
 pub use ended::Ended;
-pub use eu_gate::{Gate, Go, Point};
+pub use eu_gate::{Gate, Go, Point, Source};
 pub use replicator::run_replicator;
-pub use sessions::{Source, run_sessions};
+pub use sessions::run_sessions;
 pub use site::Site;
 pub use timers::{run_bucket, run_evictor, run_threshold};

@@ -7,7 +7,8 @@ use crate::site::Site;
 use eu_clock::Clock;
 use eu_gate::{FIRST_REPLICATOR, Gate, Go, Point};
 use eu_peer::{Peer, replicate_turn};
-use eu_shared::{Label, Pass, Seat};
+use eu_seat::Seat;
+use eu_shared::{Label, Pass};
 use std::sync::Wait;
 
 /// A turn for the peer of that number, behind which the log of the pass is trimmed. Tells whether it ended by a fault.

@@ -7,26 +7,12 @@ use crate::ended::Ended;
 use crate::gated::{GatedSink, GatedSource};
 use crate::site::Site;
 use eu_clock::Clock;
-use eu_gate::{Gate, Go, Point};
+use eu_gate::{Gate, Go, Point, Source};
+use eu_seat::Seat;
 use eu_session::{SessionFault, serve_session};
-use eu_shared::{Label, Pass, Seat};
+use eu_shared::{Label, Pass};
 use std::io::{Read, Write};
 use std::sync::Wait;
-
-/// Where connections come from.
-pub trait Source {
-    /// What a connection's bytes are read from.
-    type Reader: Read + Send;
-
-    /// What its responses are written to.
-    type Writer: Write + Send;
-
-    /// The next connection, or none where no more will come. It may take as long as it wants.
-    fn next(&mut self) -> Option<(Self::Reader, Self::Writer)>;
-
-    /// Ends a connection, after its session.
-    fn end(&mut self, reader: Self::Reader, writer: Self::Writer);
-}
 
 /// Serves the session of one connection.
 fn serve<K: Label, R: Wait, G: Gate, C: Clock, I: Read, O: Write>(

@@ -1,12 +1,13 @@
 //! Two servers, each with its book behind a lock, of which each is the other's peer.
 ghost use Rattle.std.specs.Prelude.{◌≡◌};
 
-use crate::tests::turns::registration;
+use crate::tests::turns::{is_accepted, registration};
 use eu_base::{Config, Fault, Moment};
 use eu_clock::{FirstChooser, ListClock};
 use eu_model::{Query, View};
 use eu_peer::{InProcess, Turn, replicate_turn};
-use eu_shared::{Blanks, Label, Pass, Seat, Shared};
+use eu_seat::Seat;
+use eu_shared::{Blanks, Label, Pass, Shared};
 use std::alloc::Global;
 use std::marker::Brand;
 use std::sync::Wait;
@@ -38,7 +39,11 @@ fn turn_for<K: Label, L: Label, R: Wait>(
     peer: &mut InProcess<Seat<'_, L, R>, ListClock>,
 ) -> Result<Option<Turn>, Fault> {
     let mut mine = seat(rt, alloc, here)?;
-    Ok(replicate_turn(alloc, &mut mine, 0, peer, &mut clock(alloc)).ok())
+    let mut clock = clock(alloc);
+    let turn = replicate_turn(alloc, &mut mine, 0, peer, &mut clock);
+    drop(clock);
+    drop(mine);
+    Ok(turn.ok())
 }
 
 /// A turn of a server for another one, which is its one peer.
@@ -53,7 +58,9 @@ fn turn<K: Label, L: Label, R: Wait>(
         desk,
         clock: clock(alloc),
     };
-    turn_for(rt, alloc, here, &mut peer)
+    let turn = turn_for(rt, alloc, here, &mut peer);
+    drop(peer);
+    turn
 }
 
 /// The leases that a view of counts tells.
@@ -75,7 +82,11 @@ fn held_by<K: Label, R: Wait>(
         return 0;
     };
     match pass.read(rt, shared, alloc, &Query::Counts, moment) {
-        Ok(view) => leases(&view),
+        Ok(view) => {
+            let held = leases(&view);
+            drop(view);
+            held
+        }
         Err(_) => 0,
     }
 }
@@ -83,7 +94,9 @@ fn held_by<K: Label, R: Wait>(
 /// How many leases a server holds.
 fn held<K: Label, R: Wait>(rt: &R, alloc: Global, shared: &Shared<K>) -> Result<u64, Fault> {
     let mut pass = shared.pass(rt, alloc)?;
-    Ok(held_by(rt, shared, alloc, &mut pass))
+    let held = held_by(rt, shared, alloc, &mut pass);
+    drop(pass);
+    Ok(held)
 }
 
 /// Whether a client registers the instance of that id of A at the moment 0.
@@ -98,9 +111,9 @@ fn registers<K: Label, R: Wait>(
         return false;
     };
     match registration(alloc, id) {
-        Ok(command) => pass
-            .ask(rt, shared, alloc, command, moment, &mut FirstChooser)
-            .is_ok(),
+        Ok(command) => {
+            is_accepted(pass.ask(rt, shared, alloc, command, moment, &mut FirstChooser))
+        }
         Err(_) => false,
     }
 }
@@ -128,7 +141,9 @@ fn register_all<K: Label, R: Wait>(
     shared: &Shared<K>,
 ) -> Result<bool, Fault> {
     let mut pass = shared.pass(rt, alloc)?;
-    all_register(rt, shared, alloc, &mut pass)
+    let registered = all_register(rt, shared, alloc, &mut pass);
+    drop(pass);
+    registered
 }
 
 /// A turn of the first server after 250 registrations, one of the second, another of the first, and how many leases the second holds.
@@ -151,7 +166,32 @@ fn meet<K: Label, L: Label, R: Wait>(
     Ok((sent, back, again, held))
 }
 
-/// The same between two servers that are opened for it, each with one peer.
+/// A server with one peer.
+fn open<K: Label>(alloc: Global, blanks: Blanks) -> Result<Shared<K>, Fault>
+    requires names { (blanks.steps.name ≡ K.steps) × (blanks.counted.name ≡ K.counted) × (blanks.added.name ≡ K.added) × (blanks.removed.name ≡ K.removed) }
+    requires parts { (blanks.steps.parts ≡ K.parts) × (blanks.counted.parts ≡ K.parts) × (blanks.added.parts ≡ K.parts) × (blanks.removed.parts ≡ K.parts) × (K.parts ≡ 1025) }
+{
+    let config = Config::new(true, 85, 30, 60_000)?;
+    Ok(Shared::open(alloc, config, 0, 1, blanks)?)
+}
+
+/// The same between a server and another one that is opened for it.
+fn open_other<K: Label, L: Label, R: Wait>(
+    rt: &R,
+    alloc: Global,
+    here: &Shared<K>,
+    others: Blanks,
+) -> Result<Findings, Fault>
+    requires other_names { (others.steps.name ≡ L.steps) × (others.counted.name ≡ L.counted) × (others.added.name ≡ L.added) × (others.removed.name ≡ L.removed) }
+    requires other_parts { (others.steps.parts ≡ L.parts) × (others.counted.parts ≡ L.parts) × (others.added.parts ≡ L.parts) × (others.removed.parts ≡ L.parts) × (L.parts ≡ 1025) }
+{
+    let there = open::<L>(alloc, others)?;
+    let findings = meet(rt, alloc, here, &there);
+    drop(there);
+    findings
+}
+
+/// The same between two servers that are opened for it.
 fn open_both<K: Label, L: Label, R: Wait>(
     rt: &R,
     alloc: Global,
@@ -163,10 +203,10 @@ fn open_both<K: Label, L: Label, R: Wait>(
     requires other_names { (others.steps.name ≡ L.steps) × (others.counted.name ≡ L.counted) × (others.added.name ≡ L.added) × (others.removed.name ≡ L.removed) }
     requires other_parts { (others.steps.parts ≡ L.parts) × (others.counted.parts ≡ L.parts) × (others.added.parts ≡ L.parts) × (others.removed.parts ≡ L.parts) × (L.parts ≡ 1025) }
 {
-    let config = Config::new(true, 85, 30, 60_000)?;
-    let here: Shared<K> = Shared::open(alloc, config, 0, 1, blanks)?;
-    let there: Shared<L> = Shared::open(alloc, config, 0, 1, others)?;
-    meet(rt, alloc, &here, &there)
+    let here = open::<K>(alloc, blanks)?;
+    let findings = open_other::<K, L, R>(rt, alloc, &here, others);
+    drop(here);
+    findings
 }
 
 fn met<R: Wait>(rt: &R, alloc: Global) -> Result<Findings, Fault> {

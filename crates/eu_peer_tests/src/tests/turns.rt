@@ -2,7 +2,7 @@
 ghost use Rattle.std.specs.Prelude.{◌≤◌, ◌^◌};
 
 use eu_base::{Action, App, Config, Fault, Id, Instance, Key, Moment, Rest, Stamp, Status, Task};
-use eu_book::Book;
+use eu_book::{Book, Receipt};
 use eu_clock::{FirstChooser, ListClock};
 use eu_model::{Command, Query, View};
 use eu_peer::{InProcess, ItemAnswer, Lost, Peer, Turn, replicate_turn};
@@ -22,17 +22,22 @@ fn key(alloc: Global, id: &str) -> Result<Key, Fault> {
 
 /// An instance that is UP, with the stamp 5, for 90 seconds.
 fn instance(alloc: Global, id: &str) -> Result<Instance, Fault> {
-    let key = key(alloc, id)?;
     let rest = Rest::of_host(alloc, "h")?;
-    Ok(Instance {
-        key,
-        status: Status::Up,
-        overridden: Status::Unknown,
-        dirty: 5,
-        secs: 90,
-        interval: 30,
-        rest,
-    })
+    match key(alloc, id) {
+        Ok(key) => Ok(Instance {
+            key,
+            status: Status::Up,
+            overridden: Status::Unknown,
+            dirty: 5,
+            secs: 90,
+            interval: 30,
+            rest,
+        }),
+        Err(fault) => {
+            drop(rest);
+            Err(fault)
+        }
+    }
 }
 
 /// A client registers the instance of that id.
@@ -113,23 +118,38 @@ struct Pair {
 /// A server of the same process at which nothing is held.
 fn opened_peer(alloc: Global) -> Result<InProcess<Book, ListClock>, Fault> {
     let clock = clock(alloc, at(0))?;
-    let desk = opened(alloc)?;
-    Ok(InProcess { desk, clock })
+    match opened(alloc) {
+        Ok(desk) => Ok(InProcess { desk, clock }),
+        Err(fault) => {
+            drop(clock);
+            Err(fault)
+        }
+    }
 }
 
 /// Two servers at which nothing is held.
 fn opened_pair(alloc: Global) -> Result<Pair, Fault> {
     let there = opened_peer(alloc)?;
-    let here = opened(alloc)?;
-    Ok(Pair { here, there })
+    match opened(alloc) {
+        Ok(here) => Ok(Pair { here, there }),
+        Err(fault) => {
+            drop(there);
+            Err(fault)
+        }
+    }
+}
+
+/// Whether a command was accepted.
+pub fn is_accepted(answer: Result<Receipt, Fault>) -> bool {
+    let is_accepted = answer.is_ok();
+    drop(answer);
+    is_accepted
 }
 
 /// Tells a book a command at a moment: whether it was accepted.
 fn tell(alloc: Global, book: &mut Book, command: Result<Command, Fault>, moment: Moment) -> bool {
     match command {
-        Ok(command) => book
-            .apply(alloc, 0, command, moment, &mut FirstChooser)
-            .is_ok(),
+        Ok(command) => is_accepted(book.apply(alloc, 0, command, moment, &mut FirstChooser)),
         Err(_) => false,
     }
 }
@@ -137,7 +157,9 @@ fn tell(alloc: Global, book: &mut Book, command: Result<Command, Fault>, moment:
 /// A turn at a moment for the one peer; none where it was refused.
 fn turn<P: Peer>(alloc: Global, book: &mut Book, peer: &mut P, moment: Moment) -> Option<Turn> {
     let mut clock = clock(alloc, moment).ok()?;
-    replicate_turn(alloc, book, 0, peer, &mut clock).ok()
+    let turn = replicate_turn(alloc, book, 0, peer, &mut clock);
+    drop(clock);
+    turn.ok()
 }
 
 /// A turn of the one server for the other.
@@ -159,10 +181,18 @@ fn leases(view: &View) -> Option<u64> {
 
 /// How many leases a book holds.
 fn held(alloc: Global, book: &Book) -> Option<u64> {
-    match book.read(alloc, &Query::Counts, at(0)) {
-        Ok(view) => leases(&view),
-        Err(_) => None,
-    }
+    let view = book.read(alloc, &Query::Counts, at(0)).ok()?;
+    let held = leases(&view);
+    drop(view);
+    held
+}
+
+/// What a book tells of i1.
+fn first(alloc: Global, book: &Book) -> Option<View> {
+    let query = Query::One(key(alloc, "i1").ok()?);
+    let view = book.read(alloc, &query, at(0));
+    drop(query);
+    view.ok()
 }
 
 /// The stamp and the status of the lease that a view shows.
@@ -173,20 +203,12 @@ fn shown(view: &View) -> Option<(u64, Status)> {
     }
 }
 
-/// The same of what a book answers to a query.
-fn seen_by(alloc: Global, book: &Book, query: &Query) -> Option<(u64, Status)> {
-    match book.read(alloc, query, at(0)) {
-        Ok(view) => shown(&view),
-        Err(_) => None,
-    }
-}
-
 /// The stamp and the status with which a book holds i1.
 fn seen(alloc: Global, book: &Book) -> Option<(u64, Status)> {
-    match key(alloc, "i1") {
-        Ok(key) => seen_by(alloc, book, &Query::One(key)),
-        Err(_) => None,
-    }
+    let view = first(alloc, book)?;
+    let seen = shown(&view);
+    drop(view);
+    seen
 }
 
 /// A peer that loses each batch.
@@ -232,11 +254,13 @@ impl Peer for Short {
 }
 
 /// What comes of two servers at which nothing is held.
-fn on_pair<T, F: FnOnce(Global, &mut Pair) -> T + Drop>(alloc: Global, play: F) -> Result<T, Fault>
+fn on_pair<T, F: FnOnce(Global, &mut Pair) -> T + Copy>(alloc: Global, play: F) -> Result<T, Fault>
     requires { F.IsAlwaysCallable play }
 {
     let mut pair = opened_pair(alloc)?;
-    Ok(play(alloc, &mut pair))
+    let found = play(alloc, &mut pair);
+    drop(pair);
+    Ok(found)
 }
 
 /// A client registers i1 at the one server, and a turn tells the other.
@@ -341,9 +365,10 @@ fn overridden(view: &View) -> Option<Status> {
 
 /// The status by which i1 is overridden where a book holds it.
 fn overridden_at(alloc: Global, book: &Book) -> Option<Status> {
-    let key = key(alloc, "i1").ok()?;
-    let view = book.read(alloc, &Query::One(key), at(0)).ok()?;
-    overridden(&view)
+    let view = first(alloc, book)?;
+    let overridden = overridden(&view);
+    drop(view);
+    overridden
 }
 
 /// The one server knows of an override of which the other wasn't told, and the client renews i1: by what it is overridden at the other
@@ -470,14 +495,23 @@ fn batch(alloc: Global, action: Action) -> Result<Vec<Task>, Fault> {
     Ok(batch)
 }
 
-/// How a server answers that batch.
-fn code(alloc: Global, server: &mut InProcess<Book, ListClock>, action: Action) -> Option<u16> {
-    let batch = batch(alloc, action).ok()?;
-    let answers = server.submit(alloc, batch.as_slice()).ok()?;
-    match answers.as_slice() {
+/// The code of the only answer.
+fn only_code(answers: &[ItemAnswer]) -> Option<u16> {
+    match answers {
         [answer] => Some(answer.code),
         _ => None,
     }
+}
+
+/// How a server answers that batch.
+fn code(alloc: Global, server: &mut InProcess<Book, ListClock>, action: Action) -> Option<u16> {
+    let batch = batch(alloc, action).ok()?;
+    let answers = server.submit(alloc, batch.as_slice());
+    drop(batch);
+    let answers = answers.ok()?;
+    let code = only_code(answers.as_slice());
+    drop(answers);
+    code
 }
 
 /// How a heartbeat and a cancel without an instance are answered, and how many leases are held then.

@@ -1,7 +1,7 @@
 //! Accounts of two passes, worked out by hand.
 ghost use Rattle.std.specs.Prelude.{◌≡◌};
 
-use crate::tests::asks::{both, close_for, drain, open, play, renewal};
+use crate::tests::asks::{Two, WithTwo, close_two, drain, open, play, renewal, with_both};
 use crate::tests::reads::{Seen, Sights, are_both, look};
 use crate::tests::states::{counts_only, is_same};
 use eu_base::{Config, Fault};
@@ -77,7 +77,8 @@ fn turn_into_renewal(alloc: Global, closed: &mut Closed, place: usize) -> Result
     Ok(())
 }
 
-fn examine(alloc: Global, config: Config, closed: &mut Closed) -> Result<Account, Fault> {
+fn examine(alloc: Global, closed: &mut Closed) -> Result<Account, Fault> {
+    let config = Config::new(true, 85, 30, 60_000)?;
     let settled = settle(closed);
     turn_into_renewal(alloc, closed, 2)?;
     Ok(Account {
@@ -94,10 +95,7 @@ fn examine(alloc: Global, config: Config, closed: &mut Closed) -> Result<Account
 /// The account of a closed book.
 pub fn account_of(alloc: Global, closed: Closed) -> Result<Account, Fault> {
     let mut closed = closed;
-    let account = match Config::new(true, 85, 30, 60_000) {
-        Ok(config) => examine(alloc, config, &mut closed),
-        Err(fault) => Err(fault),
-    };
+    let account = examine(alloc, &mut closed);
     drop(closed);
     account
 }
@@ -106,9 +104,9 @@ pub fn account_of(alloc: Global, closed: Closed) -> Result<Account, Fault> {
 fn close_account<K: Label>(
     shared: Shared<K>,
     alloc: Global,
-    passes: Vec<Pass<K>>,
+    two: Two<K>,
 ) -> Result<Account, Fault> {
-    account_of(alloc, close_for(shared, alloc, passes)?)
+    account_of(alloc, close_two(shared, alloc, two)?)
 }
 
 /// What both passes did in all.
@@ -129,13 +127,33 @@ pub fn is_whole(account: &Account) -> bool {
         && account.turned == Err(Mismatch { pass: 0, place: 2 })
 }
 
-/// What was found: whether the asks were answered as they are to be, what came of a drain, what each pass sees, and the account.
+/// What two passes find: whether the asks were answered as they are to be, what came of a drain, and what each pass sees.
 #[derive(Clone, Copy)]
-struct Findings {
+struct Asked {
     played: bool,
     drained: Drained,
     zero: Result<Sights, Fault>,
     one: Result<Sights, Fault>,
+}
+
+fn ask_and_look<K: Label, R: Wait>(
+    rt: &R,
+    shared: &Shared<K>,
+    alloc: Global,
+    two: &mut Two<K>,
+) -> Asked {
+    Asked {
+        played: play(rt, shared, alloc, two),
+        drained: drain_nobody(rt, shared, alloc, &mut two.zero),
+        zero: look(rt, shared, alloc, &mut two.zero),
+        one: look(rt, shared, alloc, &mut two.one),
+    }
+}
+
+/// What was found: by the passes, and the account.
+#[derive(Clone, Copy)]
+struct Findings {
+    asked: Asked,
     account: Account,
 }
 
@@ -144,22 +162,10 @@ fn find<K: Label, R: Wait>(rt: &R, alloc: Global, blanks: Blanks) -> Result<Find
     requires parts { (blanks.steps.parts ≡ K.parts) × (blanks.counted.parts ≡ K.parts) × (blanks.added.parts ≡ K.parts) × (blanks.removed.parts ≡ K.parts) × (K.parts ≡ 1025) }
 {
     let shared = open::<K>(alloc, blanks)?;
-    let mut zero = shared.pass(rt, alloc)?;
-    let mut one = shared.pass(rt, alloc)?;
-    let played = play(rt, &shared, alloc, &mut zero, &mut one);
-    let drained = drain_nobody(rt, &shared, alloc, &mut zero);
-    let sights = (
-        look(rt, &shared, alloc, &mut zero),
-        look(rt, &shared, alloc, &mut one),
-    );
-    let passes = both(alloc, one, zero)?;
-    Ok(Findings {
-        played,
-        drained,
-        zero: sights.0,
-        one: sights.1,
-        account: close_account(shared, alloc, passes)?,
-    })
+    let WithTwo { shared, mut two } = with_both(rt, shared, alloc)?;
+    let asked = ask_and_look(rt, &shared, alloc, &mut two);
+    let account = close_account(shared, alloc, two)?;
+    Ok(Findings { asked, account })
 }
 
 fn found<R: Wait>(rt: &R, alloc: Global) -> Result<Findings, Fault> {
@@ -169,14 +175,14 @@ fn found<R: Wait>(rt: &R, alloc: Global) -> Result<Findings, Fault> {
 #[test]
 fn two_passes_are_accounted_for(rt: HostRuntime) -> Result<(), Fail> {
     let found = found(&rt, rt.alloc())?;
-    assert!(rt; found.played);
+    assert!(rt; found.asked.played);
     assert!(rt; is_whole(&found.account));
     Ok(())
 }
 
 #[test]
 fn a_refusal_is_the_books(rt: HostRuntime) -> Result<(), Fail> {
-    let drained = found(&rt, rt.alloc())?.drained;
+    let drained = found(&rt, rt.alloc())?.asked.drained;
     let tally = Tally {
         steps: 5,
         counted: 3,
@@ -213,8 +219,8 @@ fn are_of_both(sights: Sights) -> bool {
 
 #[test]
 fn passes_see_what_others_did(rt: HostRuntime) -> Result<(), Fail> {
-    let found = found(&rt, rt.alloc())?;
-    assert!(rt; are_of_both(found.zero?));
-    assert!(rt; are_of_both(found.one?));
+    let asked = found(&rt, rt.alloc())?.asked;
+    assert!(rt; are_of_both(asked.zero?));
+    assert!(rt; are_of_both(asked.one?));
     Ok(())
 }

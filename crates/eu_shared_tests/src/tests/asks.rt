@@ -16,22 +16,32 @@ pub fn key(alloc: Global, id: &str) -> Result<Key, Fault> {
     Ok(Key { app, id })
 }
 
+/// An instance that is UP, for 90 seconds.
+fn instance(key: Key, rest: Rest) -> Instance {
+    Instance {
+        key,
+        status: Status::Up,
+        overridden: Status::Unknown,
+        dirty: 0,
+        secs: 90,
+        interval: 30,
+        rest,
+    }
+}
+
 /// A client that is UP registers, for 90 seconds, at a host of the name of its id.
 pub fn registration(alloc: Global, id: &str) -> Result<Command, Fault> {
-    let key = key(alloc, id)?;
     let rest = Rest::of_host(alloc, id)?;
-    Ok(Command::Register {
-        instance: Instance {
-            key,
-            status: Status::Up,
-            overridden: Status::Unknown,
-            dirty: 0,
-            secs: 90,
-            interval: 30,
-            rest,
-        },
-        replicated: false,
-    })
+    match key(alloc, id) {
+        Ok(key) => Ok(Command::Register {
+            instance: instance(key, rest),
+            replicated: false,
+        }),
+        Err(fault) => {
+            drop(rest);
+            Err(fault)
+        }
+    }
 }
 
 pub fn renewal(alloc: Global, id: &str) -> Result<Command, Fault> {
@@ -101,14 +111,77 @@ pub fn drain<K: Label, R: Wait>(
     ask(rt, shared, alloc, pass, Ok(Command::Drain { peer }), 6)
 }
 
+/// Two passes of a book.
+#[derive(Drop)]
+pub struct Two<K: Label> {
+    pub zero: Pass<K>,
+    pub one: Pass<K>,
+}
+
+/// Makes both passes of a shared book.
+fn make_two<K: Label, R: Wait>(rt: &R, shared: &Shared<K>, alloc: Global) -> Result<Two<K>, Fault> {
+    let zero = shared.pass(rt, alloc)?;
+    match shared.pass(rt, alloc) {
+        Ok(one) => Ok(Two { zero, one }),
+        Err(fault) => {
+            drop(zero);
+            Err(fault)
+        }
+    }
+}
+
+/// A shared book with its two passes.
+#[derive(Drop)]
+pub struct WithTwo<K: Label> {
+    pub shared: Shared<K>,
+    pub two: Two<K>,
+}
+
+/// Makes both passes of a shared book that is handed over.
+pub fn with_both<K: Label, R: Wait>(
+    rt: &R,
+    shared: Shared<K>,
+    alloc: Global,
+) -> Result<WithTwo<K>, Fault> {
+    match make_two(rt, &shared, alloc) {
+        Ok(two) => Ok(WithTwo { shared, two }),
+        Err(fault) => {
+            drop(shared);
+            Err(fault)
+        }
+    }
+}
+
+/// A shared book with its only pass.
+#[derive(Drop)]
+pub struct WithOne<K: Label> {
+    pub shared: Shared<K>,
+    pub pass: Pass<K>,
+}
+
+/// Makes the only pass of a shared book that is handed over.
+pub fn with_pass<K: Label, R: Wait>(
+    rt: &R,
+    shared: Shared<K>,
+    alloc: Global,
+) -> Result<WithOne<K>, Fault> {
+    match shared.pass(rt, alloc) {
+        Ok(pass) => Ok(WithOne { shared, pass }),
+        Err(fault) => {
+            drop(shared);
+            Err(fault)
+        }
+    }
+}
+
 /// Pass 0 registers i1 and i2 and renews i1 three times, pass 1 renews i2 twice, at the moments 0 to 6. Whether each is answered so.
 pub fn play<K: Label, R: Wait>(
     rt: &R,
     shared: &Shared<K>,
     alloc: Global,
-    zero: &mut Pass<K>,
-    one: &mut Pass<K>,
+    two: &mut Two<K>,
 ) -> bool {
+    let Two { zero, one } = two;
     let came = ask(rt, shared, alloc, zero, registration(alloc, "i1"), 0) == (0, "new")
         && ask(rt, shared, alloc, zero, registration(alloc, "i2"), 1) == (1, "new");
     let first = came
@@ -129,11 +202,16 @@ pub fn open<K: Label>(alloc: Global, blanks: Blanks) -> Result<Shared<K>, Fault>
     Ok(Shared::open(alloc, config, 0, 0, blanks)?)
 }
 
-/// The list of one pass.
-pub fn only<K: Label>(alloc: Global, pass: Pass<K>) -> Result<Vec<Pass<K>>, Fault> {
-    let mut passes = Vec::new(alloc);
+/// The list with a pass more.
+fn pushed<K: Label>(passes: Vec<Pass<K>>, pass: Pass<K>) -> Result<Vec<Pass<K>>, Fault> {
+    let mut passes = passes;
     passes.push(pass)?;
     Ok(passes)
+}
+
+/// The list of one pass.
+pub fn only<K: Label>(alloc: Global, pass: Pass<K>) -> Result<Vec<Pass<K>>, Fault> {
+    pushed(Vec::new(alloc), pass)
 }
 
 /// The list of two passes.
@@ -142,9 +220,19 @@ pub fn both<K: Label>(
     first: Pass<K>,
     second: Pass<K>,
 ) -> Result<Vec<Pass<K>>, Fault> {
-    let mut passes = only(alloc, first)?;
-    passes.push(second)?;
-    Ok(passes)
+    match only(alloc, first) {
+        Ok(passes) => pushed(passes, second),
+        Err(fault) => {
+            drop(second);
+            Err(fault)
+        }
+    }
+}
+
+/// The list of both passes, the second first.
+pub fn second_first<K: Label>(alloc: Global, two: Two<K>) -> Result<Vec<Pass<K>>, Fault> {
+    let Two { zero, one } = two;
+    both(alloc, one, zero)
 }
 
 /// Closes a shared book.
@@ -163,12 +251,33 @@ pub fn close_for<K: Label>(
     }
 }
 
+/// Closes a shared book, where its passes could be listed.
+pub fn close_listed<K: Label>(
+    shared: Shared<K>,
+    alloc: Global,
+    passes: Result<Vec<Pass<K>>, Fault>,
+) -> Result<Closed, Fault> {
+    match passes {
+        Ok(passes) => close_for(shared, alloc, passes),
+        Err(fault) => {
+            drop(shared);
+            Err(fault)
+        }
+    }
+}
+
 /// Closes a shared book of which one pass was made.
 pub fn close_alone<K: Label>(
     shared: Shared<K>,
     alloc: Global,
     pass: Pass<K>,
 ) -> Result<Closed, Fault> {
-    let passes = only(alloc, pass)?;
-    close_for(shared, alloc, passes)
+    let passes = only(alloc, pass);
+    close_listed(shared, alloc, passes)
+}
+
+/// Closes a shared book of which two passes were made.
+pub fn close_two<K: Label>(shared: Shared<K>, alloc: Global, two: Two<K>) -> Result<Closed, Fault> {
+    let passes = second_first(alloc, two);
+    close_listed(shared, alloc, passes)
 }

@@ -2,7 +2,7 @@
 ghost use Rattle.std.specs.Prelude.{◌≡◌};
 
 use crate::tests::accounts::{BOTH, is_played};
-use crate::tests::asks::{ask, both, close_for, open, play, renewal};
+use crate::tests::asks::{Two, WithTwo, ask, close_two, open, play, renewal, with_both};
 use eu_base::{Config, Fault};
 use eu_model::Tally;
 use eu_settle::{Closed, Mismatch, settle};
@@ -15,13 +15,13 @@ use std::test::Fail;
 /// A book that was closed: what was done in all, its first entry and how many there are, whether its base and its end are what the two
 /// passes make of it, how it is settled, and how long the logs are.
 #[derive(Clone, Copy)]
-struct Account {
-    totals: Tally,
-    first: u64,
-    entries: usize,
-    based: bool,
-    ended: bool,
-    settled: Result<(), Mismatch>,
+pub struct Account {
+    pub totals: Tally,
+    pub first: u64,
+    pub entries: usize,
+    pub based: bool,
+    pub ended: bool,
+    pub settled: Result<(), Mismatch>,
 }
 
 fn examine(alloc: Global, config: Config, closed: &Closed) -> Account {
@@ -35,29 +35,38 @@ fn examine(alloc: Global, config: Config, closed: &Closed) -> Account {
     }
 }
 
+/// The account of a closed book.
+pub fn account_of(alloc: Global, closed: &Closed) -> Result<Account, Fault> {
+    let config = Config::new(true, 85, 30, 60_000)?;
+    Ok(examine(alloc, config, closed))
+}
+
 /// What comes of a close.
 fn close_account<K: Label>(
     shared: Shared<K>,
     alloc: Global,
-    passes: Vec<Pass<K>>,
+    two: Two<K>,
 ) -> Result<Account, Fault> {
-    let closed = close_for(shared, alloc, passes)?;
-    let account = match Config::new(true, 85, 30, 60_000) {
-        Ok(config) => Ok(examine(alloc, config, &closed)),
-        Err(fault) => Err(fault),
-    };
+    let closed = close_two(shared, alloc, two)?;
+    let account = account_of(alloc, &closed);
     drop(closed);
     account
 }
 
 /// What was found once both passes had asked, pass 0 had made a checkpoint, and both had trimmed: how long their logs are and what was
-/// done for them, the number of pass 0's next renewal, if it has one, and the account.
+/// done for them, and the number of pass 0's next renewal, if it has one.
 #[derive(Clone, Copy)]
-struct Findings {
+struct Trimmed {
     made: bool,
     logs: (usize, usize),
     steps: (u64, u64),
     next: Option<(u64, &'static str)>,
+}
+
+/// The same, and the account.
+#[derive(Clone, Copy)]
+struct Findings {
+    trimmed: Trimmed,
     account: Account,
 }
 
@@ -76,6 +85,27 @@ fn renew<K: Label, R: Wait>(
     }
 }
 
+/// Has both passes ask, pass 0 make a checkpoint, and both trim.
+fn trim<K: Label, R: Wait>(
+    rt: &R,
+    shared: &Shared<K>,
+    alloc: Global,
+    two: &mut Two<K>,
+    more: bool,
+) -> Trimmed {
+    let played = play(rt, shared, alloc, two);
+    let Two { zero, one } = two;
+    let made = played && zero.checkpoint(rt, shared, alloc).is_ok();
+    zero.trim();
+    one.trim();
+    Trimmed {
+        made,
+        logs: (zero.log().len(), one.log().len()),
+        steps: (zero.tallies().steps, one.tallies().steps),
+        next: renew(rt, shared, alloc, zero, more),
+    }
+}
+
 fn find<K: Label, R: Wait>(
     rt: &R,
     alloc: Global,
@@ -86,23 +116,10 @@ fn find<K: Label, R: Wait>(
     requires parts { (blanks.steps.parts ≡ K.parts) × (blanks.counted.parts ≡ K.parts) × (blanks.added.parts ≡ K.parts) × (blanks.removed.parts ≡ K.parts) × (K.parts ≡ 1025) }
 {
     let shared = open::<K>(alloc, blanks)?;
-    let mut zero = shared.pass(rt, alloc)?;
-    let mut one = shared.pass(rt, alloc)?;
-    let played = play(rt, &shared, alloc, &mut zero, &mut one);
-    let made = played && zero.checkpoint(rt, &shared, alloc).is_ok();
-    zero.trim();
-    one.trim();
-    let logs = (zero.log().len(), one.log().len());
-    let steps = (zero.tallies().steps, one.tallies().steps);
-    let next = renew(rt, &shared, alloc, &mut zero, more);
-    let passes = both(alloc, one, zero)?;
-    Ok(Findings {
-        made,
-        logs,
-        steps,
-        next,
-        account: close_account(shared, alloc, passes)?,
-    })
+    let WithTwo { shared, mut two } = with_both(rt, shared, alloc)?;
+    let trimmed = trim(rt, &shared, alloc, &mut two, more);
+    let account = close_account(shared, alloc, two)?;
+    Ok(Findings { trimmed, account })
 }
 
 fn found<R: Wait>(rt: &R, alloc: Global, more: bool) -> Result<Findings, Fault> {
@@ -112,9 +129,9 @@ fn found<R: Wait>(rt: &R, alloc: Global, more: bool) -> Result<Findings, Fault> 
 #[test]
 fn a_checkpoint_is_accounted_for(rt: HostRuntime) -> Result<(), Fail> {
     let found = found(&rt, rt.alloc(), false)?;
-    let account = found.account;
-    assert!(rt; found.made);
-    assert!(rt; found.logs == (0, 2) && found.steps == (5, 2));
+    let Findings { trimmed, account } = found;
+    assert!(rt; trimmed.made);
+    assert!(rt; trimmed.logs == (0, 2) && trimmed.steps == (5, 2));
     assert!(rt; account.totals == BOTH);
     assert!(rt; account.first == 7 && account.entries == 0);
     assert!(rt; account.based && account.ended);
@@ -125,9 +142,9 @@ fn a_checkpoint_is_accounted_for(rt: HostRuntime) -> Result<(), Fail> {
 #[test]
 fn what_follows_a_checkpoint_is_settled(rt: HostRuntime) -> Result<(), Fail> {
     let found = found(&rt, rt.alloc(), true)?;
-    let account = found.account;
-    assert!(rt; found.made);
-    assert!(rt; found.next == Some((7, "done")));
+    let Findings { trimmed, account } = found;
+    assert!(rt; trimmed.made);
+    assert!(rt; trimmed.next == Some((7, "done")));
     assert!(rt; account.totals.steps == 8 && account.totals.counted == 6);
     assert!(rt; account.first == 7 && account.entries == 1);
     assert!(rt; account.based && !account.ended);

@@ -1,15 +1,16 @@
 //! Accounts of two passes of a book that no lock holds, worked out by hand.
 ghost use Rattle.std.specs.Prelude.{◌≡◌, ◌≤◌, ◌^◌};
 
-use crate::tests::accounts::{Account, BOTH, account_of, is_played, is_whole};
-use crate::tests::asks::{both, key, only, registration, renewal};
+use crate::tests::accounts::{Account, BOTH, account_of, is_whole};
+use crate::tests::asks::{Two, key, only, registration, renewal, second_first};
+use crate::tests::checkpoints;
 use crate::tests::passes::{Refusal, refusal_of};
 use crate::tests::reads::{Seen, in_short};
 use eu_base::{Config, Fault, Moment};
 use eu_book::Receipt;
 use eu_clock::FirstChooser;
 use eu_model::{Command, Query, Reply, Tally};
-use eu_settle::{Closed, settle};
+use eu_settle::Closed;
 use eu_shared::{Blanks, Held, Label, MOST_PASSES, Pass};
 use std::alloc::{AllocError, Global};
 use std::marker::Brand;
@@ -26,7 +27,11 @@ fn accepted(answer: Result<Receipt, Fault>) -> u32
     ensures { result ≤ 1 }
 {
     match answer {
-        Ok(receipt) => word(&receipt.reply),
+        Ok(receipt) => {
+            let word = word(&receipt.reply);
+            drop(receipt);
+            word
+        }
         Err(_) => 0,
     }
 }
@@ -67,11 +72,13 @@ fn updated<K: Label>(
     let query = Query::One(key(alloc, id)?);
     let view = held.read(alloc, pass, &query, at(6));
     drop(query);
-    let seen = in_short(alloc, &view?);
-    Ok(match seen {
-        Seen::Lease(updated) => updated,
-        _ => 0,
-    })
+    let view = view?;
+    let seen = in_short(alloc, &view);
+    drop(view);
+    match seen {
+        Seen::Lease(updated) => Ok(updated),
+        _ => Ok(0),
+    }
 }
 
 /// A book with these settings that expects so many clients, with so many peers.
@@ -101,12 +108,8 @@ fn open<K: Label>(alloc: Global, blanks: Blanks) -> Result<Held<K>, Fault>
 }
 
 /// Pass 0 registers i1 and i2 and renews i1 three times, pass 1 renews i2 twice, at the moments 0 to 6; tells how many are accepted.
-fn ask_all<K: Label>(
-    alloc: Global,
-    held: &mut Held<K>,
-    zero: &mut Pass<K>,
-    one: &mut Pass<K>,
-) -> u32 {
+fn ask_all<K: Label>(alloc: Global, held: &mut Held<K>, two: &mut Two<K>) -> u32 {
+    let Two { zero, one } = two;
     let came = ask(alloc, held, zero, registration(alloc, "i1"), 0)
         + ask(alloc, held, zero, registration(alloc, "i2"), 1);
     let first = ask(alloc, held, zero, renewal(alloc, "i1"), 2)
@@ -121,21 +124,18 @@ fn ask_all<K: Label>(
 #[derive(Drop)]
 struct Opened<K: Label> {
     held: Held<K>,
-    zero: Pass<K>,
-    one: Pass<K>,
-}
-
-/// Two passes of a book.
-#[derive(Drop)]
-struct Two<K: Label> {
-    zero: Pass<K>,
-    one: Pass<K>,
+    two: Two<K>,
 }
 
 fn make_two<K: Label>(alloc: Global, held: &mut Held<K>) -> Result<Two<K>, Fault> {
     let zero = held.pass(alloc)?;
-    let one = held.pass(alloc)?;
-    Ok(Two { zero, one })
+    match held.pass(alloc) {
+        Ok(one) => Ok(Two { zero, one }),
+        Err(fault) => {
+            drop(zero);
+            Err(fault)
+        }
+    }
 }
 
 fn open_for_two<K: Label>(alloc: Global, blanks: Blanks) -> Result<Opened<K>, Fault>
@@ -143,8 +143,13 @@ fn open_for_two<K: Label>(alloc: Global, blanks: Blanks) -> Result<Opened<K>, Fa
     requires parts { (blanks.steps.parts ≡ K.parts) × (blanks.counted.parts ≡ K.parts) × (blanks.added.parts ≡ K.parts) × (blanks.removed.parts ≡ K.parts) × (K.parts ≡ 1025) }
 {
     let mut held = open::<K>(alloc, blanks)?;
-    let Two { zero, one } = make_two(alloc, &mut held)?;
-    Ok(Opened { held, zero, one })
+    match make_two(alloc, &mut held) {
+        Ok(two) => Ok(Opened { held, two }),
+        Err(fault) => {
+            drop(held);
+            Err(fault)
+        }
+    }
 }
 
 /// Closes a book.
@@ -160,13 +165,9 @@ fn close<K: Label>(alloc: Global, held: Held<K>, passes: Vec<Pass<K>>) -> Result
 }
 
 /// Closes a book with both passes.
-fn close_both<K: Label>(
-    alloc: Global,
-    held: Held<K>,
-    zero: Pass<K>,
-    one: Pass<K>,
-) -> Result<Closed, Fault> {
-    match both(alloc, one, zero) {
+fn close_both<K: Label>(alloc: Global, opened: Opened<K>) -> Result<Closed, Fault> {
+    let Opened { held, two } = opened;
+    match second_first(alloc, two) {
         Ok(passes) => close(alloc, held, passes),
         Err(fault) => {
             drop(held);
@@ -185,13 +186,27 @@ fn are_logs(closed: &Closed) -> bool {
     }
 }
 
-/// What is found after the asks: how many were accepted, what each pass reads of the other's lease, whether the logs are theirs, and
-/// the account of the book once it is closed.
+/// What is found by the passes: how many of their asks were accepted, and what each reads of the other's lease.
 #[derive(Clone, Copy)]
-struct Findings {
+struct Asked {
     accepted: u32,
     first: Result<u64, Fault>,
     second: Result<u64, Fault>,
+}
+
+fn ask_and_read<K: Label>(alloc: Global, opened: &mut Opened<K>) -> Asked {
+    let Opened { held, two } = opened;
+    Asked {
+        accepted: ask_all(alloc, held, two),
+        first: updated(alloc, held, &mut two.one, "i1"),
+        second: updated(alloc, held, &mut two.zero, "i2"),
+    }
+}
+
+/// The same, and whether the logs are those of the passes, and the account of the book once it is closed.
+#[derive(Clone, Copy)]
+struct Findings {
+    asked: Asked,
     are_logs: bool,
     account: Account,
 }
@@ -200,19 +215,11 @@ fn find<K: Label>(alloc: Global, blanks: Blanks) -> Result<Findings, Fault>
     requires names { (blanks.steps.name ≡ K.steps) × (blanks.counted.name ≡ K.counted) × (blanks.added.name ≡ K.added) × (blanks.removed.name ≡ K.removed) }
     requires parts { (blanks.steps.parts ≡ K.parts) × (blanks.counted.parts ≡ K.parts) × (blanks.added.parts ≡ K.parts) × (blanks.removed.parts ≡ K.parts) × (K.parts ≡ 1025) }
 {
-    let Opened {
-        mut held,
-        mut zero,
-        mut one,
-    } = open_for_two::<K>(alloc, blanks)?;
-    let accepted = ask_all(alloc, &mut held, &mut zero, &mut one);
-    let first = updated(alloc, &held, &mut one, "i1");
-    let second = updated(alloc, &held, &mut zero, "i2");
-    let closed = close_both(alloc, held, zero, one)?;
+    let mut opened = open_for_two::<K>(alloc, blanks)?;
+    let asked = ask_and_read(alloc, &mut opened);
+    let closed = close_both(alloc, opened)?;
     Ok(Findings {
-        accepted,
-        first,
-        second,
+        asked,
         are_logs: are_logs(&closed),
         account: account_of(alloc, closed)?,
     })
@@ -225,8 +232,8 @@ fn of_two_passes(alloc: Global) -> Result<Findings, Fault> {
 #[test]
 fn two_passes_are_accounted_for(rt: HostRuntime) -> Result<(), Fail> {
     let found = of_two_passes(rt.alloc())?;
-    assert!(rt; found.accepted == 7);
-    assert!(rt; found.first == Ok(90_004) && found.second == Ok(90_006));
+    assert!(rt; found.asked.accepted == 7);
+    assert!(rt; found.asked.first == Ok(90_004) && found.asked.second == Ok(90_006));
     assert!(rt; found.are_logs);
     assert!(rt; is_whole(&found.account));
     Ok(())
@@ -251,17 +258,10 @@ fn refused_close<K: Label>(
     }
 }
 
-/// Closes the book without pass 1.
-fn close_without_one<K: Label>(alloc: Global, blanks: Blanks) -> Result<Refusal, Fault>
-    requires names { (blanks.steps.name ≡ K.steps) × (blanks.counted.name ≡ K.counted) × (blanks.added.name ≡ K.added) × (blanks.removed.name ≡ K.removed) }
-    requires parts { (blanks.steps.parts ≡ K.parts) × (blanks.counted.parts ≡ K.parts) × (blanks.added.parts ≡ K.parts) × (blanks.removed.parts ≡ K.parts) × (K.parts ≡ 1025) }
-{
-    let Opened {
-        mut held,
-        mut zero,
-        mut one,
-    } = open_for_two::<K>(alloc, blanks)?;
-    ask_all(alloc, &mut held, &mut zero, &mut one);
+/// Closes an opened book without pass 1.
+fn refused_without_one<K: Label>(alloc: Global, opened: Opened<K>) -> Result<Refusal, Fault> {
+    let Opened { held, two } = opened;
+    let Two { zero, one } = two;
     drop(one);
     match only(alloc, zero) {
         Ok(passes) => refused_close(alloc, held, passes),
@@ -270,6 +270,16 @@ fn close_without_one<K: Label>(alloc: Global, blanks: Blanks) -> Result<Refusal,
             Err(fault)
         }
     }
+}
+
+/// The same, once both passes have asked.
+fn close_without_one<K: Label>(alloc: Global, blanks: Blanks) -> Result<Refusal, Fault>
+    requires names { (blanks.steps.name ≡ K.steps) × (blanks.counted.name ≡ K.counted) × (blanks.added.name ≡ K.added) × (blanks.removed.name ≡ K.removed) }
+    requires parts { (blanks.steps.parts ≡ K.parts) × (blanks.counted.parts ≡ K.parts) × (blanks.added.parts ≡ K.parts) × (blanks.removed.parts ≡ K.parts) × (K.parts ≡ 1025) }
+{
+    let mut opened = open_for_two::<K>(alloc, blanks)?;
+    ask_all(alloc, &mut opened.held, &mut opened.two);
+    refused_without_one(alloc, opened)
 }
 
 fn of_one_pass(alloc: Global) -> Result<Refusal, Fault> {
@@ -337,44 +347,48 @@ fn trim_after_a_checkpoint<K: Label>(
     alloc: Global,
     opened: &mut Opened<K>,
 ) -> Result<(usize, usize), Fault> {
-    let Opened { held, zero, one } = opened;
-    ask_all(alloc, held, zero, one);
+    let Opened { held, two } = opened;
+    ask_all(alloc, held, two);
+    let Two { zero, one } = two;
     held.checkpoint(alloc, zero)?;
     zero.trim();
     one.trim();
     Ok((zero.log().len(), one.log().len()))
 }
 
-/// Closes a book with its two passes.
-fn close_opened<K: Label>(alloc: Global, opened: Opened<K>) -> Result<Closed, Fault> {
-    let Opened { held, zero, one } = opened;
-    close_both(alloc, held, zero, one)
+/// How long the logs are after that, and the account of the book once it is closed.
+#[derive(Clone, Copy)]
+struct AfterTrim {
+    logs: (usize, usize),
+    account: checkpoints::Account,
 }
 
-/// How long the logs are after that, and the book closed.
-fn trim_both<K: Label>(alloc: Global, blanks: Blanks) -> Result<((usize, usize), Closed), Fault>
+fn trim_both<K: Label>(alloc: Global, blanks: Blanks) -> Result<AfterTrim, Fault>
     requires names { (blanks.steps.name ≡ K.steps) × (blanks.counted.name ≡ K.counted) × (blanks.added.name ≡ K.added) × (blanks.removed.name ≡ K.removed) }
     requires parts { (blanks.steps.parts ≡ K.parts) × (blanks.counted.parts ≡ K.parts) × (blanks.added.parts ≡ K.parts) × (blanks.removed.parts ≡ K.parts) × (K.parts ≡ 1025) }
 {
     let mut opened = open_for_two::<K>(alloc, blanks)?;
-    let logs = trim_after_a_checkpoint(alloc, &mut opened)?;
-    let closed = close_opened(alloc, opened)?;
-    Ok((logs, closed))
+    let logs = trim_after_a_checkpoint(alloc, &mut opened);
+    let closed = close_both(alloc, opened)?;
+    let account = checkpoints::account_of(alloc, &closed);
+    drop(closed);
+    Ok(AfterTrim {
+        logs: logs?,
+        account: account?,
+    })
 }
 
-fn trimmed(alloc: Global) -> Result<((usize, usize), Closed), Fault> {
+fn trimmed(alloc: Global) -> Result<AfterTrim, Fault> {
     trim_both::<Brand>(alloc, Blanks::new())
 }
 
 #[test]
 fn a_checkpoint_is_accounted_for(rt: HostRuntime) -> Result<(), Fail> {
-    let alloc = rt.alloc();
-    let (logs, closed) = trimmed(alloc)?;
-    let config = Config::new(true, 85, 30, 60_000)?;
+    let AfterTrim { logs, account } = trimmed(rt.alloc())?;
     assert!(rt; logs == (0, 2));
-    assert!(rt; closed.totals == BOTH);
-    assert!(rt; closed.first == 7 && closed.entries.is_empty());
-    assert!(rt; is_played(alloc, &closed.base, config) && is_played(alloc, &closed.end, config));
-    assert!(rt; settle(&closed) == Ok(()));
+    assert!(rt; account.totals == BOTH);
+    assert!(rt; account.first == 7 && account.entries == 0);
+    assert!(rt; account.based && account.ended);
+    assert!(rt; account.settled == Ok(()));
     Ok(())
 }

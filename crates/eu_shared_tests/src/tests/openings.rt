@@ -1,14 +1,14 @@
 //! A book that is opened with settings, clients expected and peers.
 ghost use Rattle.std.specs.Prelude.{◌≡◌};
 
-use crate::tests::asks::{ask, close_alone, drain, key, registration};
+use crate::tests::asks::{WithOne, ask, close_alone, drain, key, registration, with_pass};
 use crate::tests::passes::number;
 use crate::tests::reads::{Seen, see, see_at};
 use crate::tests::states::{are_eight_idle, counts_only, is_same};
 use eu_base::{Config, Fault};
 use eu_model::{Counts, Query, State};
 use eu_settle::Closed;
-use eu_shared::{Blanks, Label, Shared};
+use eu_shared::{Blanks, Label, Pass, Shared};
 use std::alloc::Global;
 use std::marker::Brand;
 use std::sync::Wait;
@@ -28,14 +28,46 @@ fn is_untouched(closed: &Closed, config: Config) -> bool {
     closed.entries.is_empty() && is_opening(&closed.base, config) && is_opening(&closed.end, config)
 }
 
-/// The counts at once, the number of a pass that is made then, how the drains of peers 7 and 8 are answered, and whether the book is
-/// closed as it was opened.
+/// The counts at once, the number of a pass that is made then, and how the drains of peers 7 and 8 are answered.
 #[derive(Clone, Copy)]
-struct Opening {
+struct Asked {
     counts: Result<Seen, Fault>,
-    next: u64,
+    next: Result<u64, Fault>,
     known: (u64, &'static str),
     unknown: (u64, &'static str),
+}
+
+fn ask_at<K: Label, R: Wait>(
+    rt: &R,
+    shared: &Shared<K>,
+    alloc: Global,
+    pass: &mut Pass<K>,
+) -> Asked {
+    Asked {
+        counts: see(rt, shared, alloc, pass, Query::Counts),
+        next: number(rt, shared, alloc),
+        known: drain(rt, shared, alloc, pass, 7),
+        unknown: drain(rt, shared, alloc, pass, 8),
+    }
+}
+
+/// Whether a book of which one pass was made is closed as it was opened with these settings.
+fn close_untouched<K: Label>(
+    shared: Shared<K>,
+    alloc: Global,
+    pass: Pass<K>,
+    config: Config,
+) -> Result<bool, Fault> {
+    let closed = close_alone(shared, alloc, pass)?;
+    let untouched = is_untouched(&closed, config);
+    drop(closed);
+    Ok(untouched)
+}
+
+/// The same, and whether the book is closed as it was opened.
+#[derive(Clone, Copy)]
+struct Opening {
+    asked: Asked,
     untouched: bool,
 }
 
@@ -50,21 +82,10 @@ fn open_for_peers<K: Label, R: Wait>(
 {
     let config = Config::new(false, 50, 20, 1_000)?;
     let shared: Shared<K> = Shared::open(alloc, config, 7, 8, blanks)?;
-    let mut pass = shared.pass(rt, alloc)?;
-    let counts = see(rt, &shared, alloc, &mut pass, Query::Counts);
-    let next = number(rt, &shared, alloc)?;
-    let known = drain(rt, &shared, alloc, &mut pass, 7);
-    let unknown = drain(rt, &shared, alloc, &mut pass, 8);
-    let closed = close_alone(shared, alloc, pass)?;
-    let untouched = is_untouched(&closed, config);
-    drop(closed);
-    Ok(Opening {
-        counts,
-        next,
-        known,
-        unknown,
-        untouched,
-    })
+    let WithOne { shared, mut pass } = with_pass(rt, shared, alloc)?;
+    let asked = ask_at(rt, &shared, alloc, &mut pass);
+    let untouched = close_untouched(shared, alloc, pass, config)?;
+    Ok(Opening { asked, untouched })
 }
 
 fn opened<R: Wait>(rt: &R, alloc: Global) -> Result<Opening, Fault> {
@@ -89,11 +110,23 @@ fn counts_seven(seen: Seen) -> bool {
 
 #[test]
 fn a_book_is_opened_as_it_is_told(rt: HostRuntime) -> Result<(), Fail> {
-    let opening = opened(&rt, rt.alloc())?;
-    assert!(rt; counts_seven(opening.counts?));
-    assert!(rt; opening.next == 1);
-    assert!(rt; opening.known == (9, "refused") && opening.unknown == (15, "refused"));
-    assert!(rt; opening.untouched);
+    let Opening { asked, untouched } = opened(&rt, rt.alloc())?;
+    assert!(rt; counts_seven(asked.counts?));
+    assert!(rt; asked.next == Ok(1));
+    assert!(rt; asked.known == (9, "refused") && asked.unknown == (15, "refused"));
+    assert!(rt; untouched);
+    Ok(())
+}
+
+/// Registers i1 at 0 for 90 seconds, by a new pass.
+fn register_first<K: Label, R: Wait>(
+    rt: &R,
+    shared: &Shared<K>,
+    alloc: Global,
+) -> Result<(), Fault> {
+    let mut pass = shared.pass(rt, alloc)?;
+    ask(rt, shared, alloc, &mut pass, registration(alloc, "i1"), 0);
+    drop(pass);
     Ok(())
 }
 
@@ -105,10 +138,24 @@ fn see_first<K: Label, R: Wait>(
     ms: u64,
 ) -> Result<Seen, Fault> {
     let mut pass = shared.pass(rt, alloc)?;
-    let first = key(alloc, "i1")?;
-    let seen = see_at(rt, shared, alloc, &mut pass, Query::One(first), ms);
+    let seen = match key(alloc, "i1") {
+        Ok(first) => see_at(rt, shared, alloc, &mut pass, Query::One(first), ms),
+        Err(fault) => Err(fault),
+    };
     drop(pass);
     seen
+}
+
+/// What is seen of it at the end of its lease, and a millisecond later.
+fn see_twice<K: Label, R: Wait>(
+    rt: &R,
+    shared: &Shared<K>,
+    alloc: Global,
+) -> Result<(Seen, Seen), Fault> {
+    register_first(rt, shared, alloc)?;
+    let at_end = see_first(rt, shared, alloc, 90_000)?;
+    let later = see_first(rt, shared, alloc, 90_001)?;
+    Ok((at_end, later))
 }
 
 /// What is seen of it where its lease ends, and a millisecond later, without preservation.
@@ -120,14 +167,11 @@ fn see_it_end<K: Label, R: Wait>(
     requires names { (blanks.steps.name ≡ K.steps) × (blanks.counted.name ≡ K.counted) × (blanks.added.name ≡ K.added) × (blanks.removed.name ≡ K.removed) }
     requires parts { (blanks.steps.parts ≡ K.parts) × (blanks.counted.parts ≡ K.parts) × (blanks.added.parts ≡ K.parts) × (blanks.removed.parts ≡ K.parts) × (K.parts ≡ 1025) }
 {
-    let shared: Shared<K> = Shared::open(alloc, Config::new(false, 85, 30, 60_000)?, 0, 0, blanks)?;
-    let mut pass = shared.pass(rt, alloc)?;
-    let command = registration(alloc, "i1");
-    ask(rt, &shared, alloc, &mut pass, command, 0);
-    drop(pass);
-    let at_end = see_first(rt, &shared, alloc, 90_000)?;
-    let later = see_first(rt, &shared, alloc, 90_001)?;
-    Ok((at_end, later))
+    let config = Config::new(false, 85, 30, 60_000)?;
+    let shared: Shared<K> = Shared::open(alloc, config, 0, 0, blanks)?;
+    let seen = see_twice(rt, &shared, alloc);
+    drop(shared);
+    seen
 }
 
 fn seen_to_end<R: Wait>(rt: &R, alloc: Global) -> Result<(Seen, Seen), Fault> {

@@ -1,7 +1,7 @@
 //! Passes that are made, and one that is missing at the close.
 ghost use Rattle.std.specs.Prelude.{◌≡◌};
 
-use crate::tests::asks::{only, open, play};
+use crate::tests::asks::{Two, WithTwo, only, open, play, with_both};
 use eu_base::Fault;
 use eu_model::Tally;
 use eu_shared::{Blanks, Label, MOST_PASSES, Pass, Shared, Unclosed, close};
@@ -49,7 +49,24 @@ fn refused_close<K: Label>(
     }
 }
 
-/// Closes the book without pass 1.
+/// What closing the book with pass 0 alone is refused by.
+fn refused_without_one<K: Label>(
+    shared: Shared<K>,
+    alloc: Global,
+    two: Two<K>,
+) -> Result<Refusal, Fault> {
+    let Two { zero, one } = two;
+    drop(one);
+    match only(alloc, zero) {
+        Ok(passes) => refused_close(shared, alloc, passes),
+        Err(fault) => {
+            drop(shared);
+            Err(fault)
+        }
+    }
+}
+
+/// The same, once both passes have asked.
 fn close_without_one<K: Label, R: Wait>(
     rt: &R,
     alloc: Global,
@@ -59,11 +76,9 @@ fn close_without_one<K: Label, R: Wait>(
     requires parts { (blanks.steps.parts ≡ K.parts) × (blanks.counted.parts ≡ K.parts) × (blanks.added.parts ≡ K.parts) × (blanks.removed.parts ≡ K.parts) × (K.parts ≡ 1025) }
 {
     let shared = open::<K>(alloc, blanks)?;
-    let mut zero = shared.pass(rt, alloc)?;
-    let mut one = shared.pass(rt, alloc)?;
-    play(rt, &shared, alloc, &mut zero, &mut one);
-    let passes = only(alloc, zero)?;
-    refused_close(shared, alloc, passes)
+    let WithTwo { shared, mut two } = with_both(rt, shared, alloc)?;
+    play(rt, &shared, alloc, &mut two);
+    refused_without_one(shared, alloc, two)
 }
 
 fn refused<R: Wait>(rt: &R, alloc: Global) -> Result<Refusal, Fault> {

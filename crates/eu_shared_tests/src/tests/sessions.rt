@@ -1,14 +1,15 @@
 //! Sessions over a pass.
 ghost use Rattle.std.specs.Prelude.{◌≡◌};
 
-use crate::tests::asks::{close_alone, open};
+use crate::tests::asks::{WithOne, close_alone, open, with_pass};
 use eu_base::Fault;
 use eu_clock::ListClock;
 use eu_model::Tally;
 use eu_routes::Routes;
+use eu_seat::Seat;
 use eu_session::serve_session;
 use eu_settle::settle;
-use eu_shared::{Blanks, Label, Seat};
+use eu_shared::{Blanks, Label, Pass, Shared};
 use eu_stream::Writing;
 use std::alloc::Global;
 use std::marker::Brand;
@@ -49,6 +50,38 @@ fn serve<K: Label, R: Wait>(alloc: Global, seat: &mut Seat<'_, K, R>) -> Result<
     Ok(written?.as_slice() == RESPONSES.as_bytes())
 }
 
+/// A pass after a session, and whether the session wrote what it is to.
+#[derive(Drop)]
+struct AfterSession<K: Label> {
+    pass: Pass<K>,
+    written: Result<bool, Fault>,
+}
+
+/// Has a session ask through a pass of a book.
+fn serve_at<K: Label, R: Wait>(
+    rt: &R,
+    shared: &Shared<K>,
+    alloc: Global,
+    pass: Pass<K>,
+) -> AfterSession<K> {
+    let mut seat = Seat { pass, shared, rt };
+    let written = serve(alloc, &mut seat);
+    let Seat {
+        pass,
+        shared: _,
+        rt: _,
+    } = seat;
+    AfterSession { pass, written }
+}
+
+/// Whether a book of which one pass was made is settled once it is closed.
+fn close_settled<K: Label>(shared: Shared<K>, alloc: Global, pass: Pass<K>) -> Result<bool, Fault> {
+    let closed = close_alone(shared, alloc, pass)?;
+    let settled = settle(&closed).is_ok();
+    drop(closed);
+    Ok(settled)
+}
+
 /// Whether a session over the only pass of a book writes what it is to, what the pass counts, and whether the book that is closed
 /// then is settled.
 fn serve_alone<K: Label, R: Wait>(
@@ -60,22 +93,10 @@ fn serve_alone<K: Label, R: Wait>(
     requires parts { (blanks.steps.parts ≡ K.parts) × (blanks.counted.parts ≡ K.parts) × (blanks.added.parts ≡ K.parts) × (blanks.removed.parts ≡ K.parts) × (K.parts ≡ 1025) }
 {
     let shared = open::<K>(alloc, blanks)?;
-    let pass = shared.pass(rt, alloc)?;
-    let mut seat = Seat {
-        pass,
-        shared: &shared,
-        rt,
-    };
-    let written = serve(alloc, &mut seat);
-    let Seat {
-        pass,
-        shared: _,
-        rt: _,
-    } = seat;
+    let WithOne { shared, pass } = with_pass(rt, shared, alloc)?;
+    let AfterSession { pass, written } = serve_at(rt, &shared, alloc, pass);
     let tally = pass.tallies();
-    let closed = close_alone(shared, alloc, pass)?;
-    let settled = settle(&closed).is_ok();
-    drop(closed);
+    let settled = close_settled(shared, alloc, pass)?;
     Ok((written?, tally, settled))
 }
 

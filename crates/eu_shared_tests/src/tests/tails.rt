@@ -1,7 +1,7 @@
 //! A book with a peer, through the lock, until its journal is full and beyond.
 ghost use Rattle.std.specs.Prelude.{◌≡◌};
 
-use crate::tests::asks::{ask, close_alone, registration, renewal};
+use crate::tests::asks::{WithOne, ask, close_alone, registration, renewal, with_pass};
 use eu_base::{Codes, Config, Fault};
 use eu_book::MOST_ENTRIES;
 use eu_model::Command;
@@ -132,14 +132,14 @@ fn are_all_answered<K: Label, R: Wait>(
         && are_answered(rt, shared, alloc, pass, 65_536, LATER.as_slice())
 }
 
-/// What comes of a book whose only pass asks for all, as long as it is to.
-fn find<K: Label, R: Wait>(rt: &R, alloc: Global, blanks: Blanks) -> Result<Findings, Fault>
-    requires names { (blanks.steps.name ≡ K.steps) × (blanks.counted.name ≡ K.counted) × (blanks.added.name ≡ K.added) × (blanks.removed.name ≡ K.removed) }
-    requires parts { (blanks.steps.parts ≡ K.parts) × (blanks.counted.parts ≡ K.parts) × (blanks.added.parts ≡ K.parts) × (blanks.removed.parts ≡ K.parts) × (K.parts ≡ 1025) }
-{
-    let shared: Shared<K> = Shared::open(alloc, Config::new(true, 85, 30, 60_000)?, 0, 1, blanks)?;
-    let mut pass = shared.pass(rt, alloc)?;
-    let answered = are_all_answered(rt, &shared, alloc, &mut pass);
+/// The log of a pass is trimmed, and its book closed, once it has asked, and was answered so.
+fn close_trimmed<K: Label>(
+    shared: Shared<K>,
+    alloc: Global,
+    pass: Pass<K>,
+    answered: bool,
+) -> Result<Findings, Fault> {
+    let mut pass = pass;
     pass.trim();
     let logged = pass.log().len();
     let closed = close_alone(shared, alloc, pass)?;
@@ -152,6 +152,17 @@ fn find<K: Label, R: Wait>(rt: &R, alloc: Global, blanks: Blanks) -> Result<Find
     };
     drop(closed);
     Ok(findings)
+}
+
+/// What comes of a book whose only pass asks for all, as long as it is to.
+fn find<K: Label, R: Wait>(rt: &R, alloc: Global, blanks: Blanks) -> Result<Findings, Fault>
+    requires names { (blanks.steps.name ≡ K.steps) × (blanks.counted.name ≡ K.counted) × (blanks.added.name ≡ K.added) × (blanks.removed.name ≡ K.removed) }
+    requires parts { (blanks.steps.parts ≡ K.parts) × (blanks.counted.parts ≡ K.parts) × (blanks.added.parts ≡ K.parts) × (blanks.removed.parts ≡ K.parts) × (K.parts ≡ 1025) }
+{
+    let shared: Shared<K> = Shared::open(alloc, Config::new(true, 85, 30, 60_000)?, 0, 1, blanks)?;
+    let WithOne { shared, mut pass } = with_pass(rt, shared, alloc)?;
+    let answered = are_all_answered(rt, &shared, alloc, &mut pass);
+    close_trimmed(shared, alloc, pass, answered)
 }
 
 fn found<R: Wait>(rt: &R, alloc: Global) -> Result<Findings, Fault> {

@@ -8,7 +8,8 @@ use eu_clock::ListClock;
 use eu_model::{Query, View};
 use eu_peer::InProcess;
 use eu_routes::Routes;
-use eu_shared::{Blanks, Label, Seat, Shared};
+use eu_seat::Seat;
+use eu_shared::{Blanks, Label, Shared};
 use eu_workers::{Ended, Site, run_replicator};
 use std::alloc::Global;
 use std::marker::Brand;
@@ -52,8 +53,29 @@ fn work<K: Label, L: Label, R: Wait>(
     let pass = site.shared.pass(site.rt, site.alloc)?;
     let mut clock = clock(site.alloc);
     let (pass, ended) = run_replicator(site, 0, pass, peer, &mut clock, TURNS);
+    drop(clock);
     drop(pass);
     Ok(ended)
+}
+
+/// What the replicator of one server does on its way to the other.
+fn replicate_by<K: Label, L: Label, R: Wait>(
+    rt: &R,
+    alloc: Global,
+    here: &Shared<K>,
+    peer: &mut Way<'_, L, R>,
+) -> Result<Ended, Fault> {
+    let routes = Routes::new(alloc)?;
+    let site = Site {
+        rt,
+        alloc,
+        shared: here,
+        routes: &routes,
+        gate: &Open,
+    };
+    let ended = work(&site, peer);
+    drop(routes);
+    ended
 }
 
 /// What the replicator of one server does that tells the other.
@@ -64,15 +86,7 @@ fn replicate<K: Label, L: Label, R: Wait>(
     there: &Shared<L>,
 ) -> Result<Ended, Fault> {
     let mut peer = way(rt, alloc, there)?;
-    let routes = Routes::new(alloc)?;
-    let site = Site {
-        rt,
-        alloc,
-        shared: here,
-        routes: &routes,
-        gate: &Open,
-    };
-    let ended = work(&site, &mut peer);
+    let ended = replicate_by(rt, alloc, here, &mut peer);
     drop(peer);
     ended
 }
@@ -99,7 +113,9 @@ fn register<K: Label, R: Wait>(
     id: &str,
 ) -> Result<(), Fault> {
     let mut pass = shared.pass(rt, alloc)?;
-    register_by(rt, shared, alloc, &mut pass, id)
+    let registered = register_by(rt, shared, alloc, &mut pass, id);
+    drop(pass);
+    registered
 }
 
 /// The leases that a view of counts tells.
@@ -116,7 +132,10 @@ fn held<K: Label, R: Wait>(rt: &R, alloc: Global, shared: &Shared<K>) -> Result<
     let mut pass = shared.pass(rt, alloc)?;
     let view = pass.read(rt, shared, alloc, &Query::Counts, moment);
     drop(pass);
-    Ok(leases(&view?))
+    let view = view?;
+    let held = leases(&view);
+    drop(view);
+    Ok(held)
 }
 
 /// What two replicators did, and how many leases each server holds then.
@@ -146,7 +165,32 @@ fn meet<K: Label + Send + Sync, L: Label + Send + Sync, R: Threads + Wait + Sync
     })
 }
 
-/// The same of two servers that are opened for it, each with one peer.
+/// A server with one peer.
+fn open<K: Label>(alloc: Global, blanks: Blanks) -> Result<Shared<K>, Fault>
+    requires names { (blanks.steps.name ≡ K.steps) × (blanks.counted.name ≡ K.counted) × (blanks.added.name ≡ K.added) × (blanks.removed.name ≡ K.removed) }
+    requires parts { (blanks.steps.parts ≡ K.parts) × (blanks.counted.parts ≡ K.parts) × (blanks.added.parts ≡ K.parts) × (blanks.removed.parts ≡ K.parts) × (K.parts ≡ 1025) }
+{
+    let config = Config::new(true, 85, 30, 60_000)?;
+    Ok(Shared::open(alloc, config, 0, 1, blanks)?)
+}
+
+/// The same of a server and another one that is opened for it.
+fn open_other<K: Label + Send + Sync, L: Label + Send + Sync, R: Threads + Wait + Sync>(
+    rt: &R,
+    alloc: Global,
+    here: &Shared<K>,
+    others: Blanks,
+) -> Result<Meeting, Fault>
+    requires other_names { (others.steps.name ≡ L.steps) × (others.counted.name ≡ L.counted) × (others.added.name ≡ L.added) × (others.removed.name ≡ L.removed) }
+    requires other_parts { (others.steps.parts ≡ L.parts) × (others.counted.parts ≡ L.parts) × (others.added.parts ≡ L.parts) × (others.removed.parts ≡ L.parts) × (L.parts ≡ 1025) }
+{
+    let there = open::<L>(alloc, others)?;
+    let meeting = meet(rt, alloc, here, &there);
+    drop(there);
+    meeting
+}
+
+/// The same of two servers that are opened for it.
 fn open_both<K: Label + Send + Sync, L: Label + Send + Sync, R: Threads + Wait + Sync>(
     rt: &R,
     alloc: Global,
@@ -158,10 +202,10 @@ fn open_both<K: Label + Send + Sync, L: Label + Send + Sync, R: Threads + Wait +
     requires other_names { (others.steps.name ≡ L.steps) × (others.counted.name ≡ L.counted) × (others.added.name ≡ L.added) × (others.removed.name ≡ L.removed) }
     requires other_parts { (others.steps.parts ≡ L.parts) × (others.counted.parts ≡ L.parts) × (others.added.parts ≡ L.parts) × (others.removed.parts ≡ L.parts) × (L.parts ≡ 1025) }
 {
-    let config = Config::new(true, 85, 30, 60_000)?;
-    let here: Shared<K> = Shared::open(alloc, config, 0, 1, blanks)?;
-    let there: Shared<L> = Shared::open(alloc, config, 0, 1, others)?;
-    meet(rt, alloc, &here, &there)
+    let here = open::<K>(alloc, blanks)?;
+    let meeting = open_other::<K, L, R>(rt, alloc, &here, others);
+    drop(here);
+    meeting
 }
 
 fn met<R: Threads + Wait + Sync>(rt: &R, alloc: Global) -> Result<Meeting, Fault> {

@@ -187,6 +187,20 @@ struct Told {
     all: Ended,
 }
 
+/// A worker for one turn, with this pass.
+fn ready<'a, K: Label>(
+    alloc: Global,
+    pass: Pass<K>,
+    work: Work<Once<'a>, FirstChooser, Losing<'a>>,
+) -> Hand<'a, K> {
+    Worker::Ready(Job {
+        pass,
+        clock: ListClock::new(Vec::new(alloc)),
+        limit: 1,
+        work,
+    })
+}
+
 /// Adds a worker for one turn, with a pass of its own.
 fn push<'a, K: Label, R: Wait>(
     rt: &R,
@@ -195,14 +209,13 @@ fn push<'a, K: Label, R: Wait>(
     hands: &mut Vec<Hand<'a, K>>,
     work: Work<Once<'a>, FirstChooser, Losing<'a>>,
 ) -> Result<(), Fault> {
-    let pass = shared.pass(rt, alloc)?;
-    hands.push(Worker::Ready(Job {
-        pass,
-        clock: ListClock::new(Vec::new(alloc)),
-        limit: 1,
-        work,
-    }))?;
-    Ok(())
+    match shared.pass(rt, alloc) {
+        Ok(pass) => Ok(hands.push(ready(alloc, pass, work))?),
+        Err(fault) => {
+            drop(work);
+            Err(fault)
+        }
+    }
 }
 
 /// Adds each timer's worker.
@@ -233,31 +246,35 @@ fn push_replicators<'a, K: Label, R: Wait>(
     Ok(())
 }
 
-/// Each timer's worker, behind them a session worker, which is numbered 1 all the same, and the replicators of peers 1 and 0.
-fn hands<'a, K: Label, R: Wait>(
-    rt: &R,
-    alloc: Global,
-    shared: &Shared<K>,
-    counts: &'a Counts,
-    is_broken: bool,
-) -> Result<Vec<Hand<'a, K>>, Fault> {
-    let mut hands = Vec::new(alloc);
-    push_timers(rt, alloc, shared, &mut hands)?;
+/// One connection, whose writer may be broken.
+fn connection(alloc: Global, counts: &Counts, is_broken: bool) -> Once<'_> {
     let writer = Keeping {
         kept: Vec::new(alloc),
         is_flushed: false,
         is_broken,
         flushes: &counts.flushes,
     };
-    let source = Once {
+    Once {
         connection: Some((LISTING, writer)),
         taken: &counts.taken,
         ended: &counts.ended,
         answered: &counts.answered,
-    };
-    push(rt, alloc, shared, &mut hands, Work::Sessions { source })?;
-    push_replicators(rt, alloc, shared, &mut hands, &counts.sent)?;
-    Ok(hands)
+    }
+}
+
+/// Adds each timer's worker, behind them a session worker, which is numbered 1 all the same, and the replicators of peers 1 and 0.
+fn push_all<'a, K: Label, R: Wait>(
+    rt: &R,
+    alloc: Global,
+    shared: &Shared<K>,
+    hands: &mut Vec<Hand<'a, K>>,
+    counts: &'a Counts,
+    is_broken: bool,
+) -> Result<(), Fault> {
+    push_timers(rt, alloc, shared, hands)?;
+    let source = connection(alloc, counts, is_broken);
+    push(rt, alloc, shared, hands, Work::Sessions { source })?;
+    push_replicators(rt, alloc, shared, hands, &counts.sent)
 }
 
 /// The number and one of the peer whose tasks a pass drained first.
@@ -310,7 +327,38 @@ fn run_at<K: Label + Send + Sync, R: Threads + Wait + Sync>(
         gate,
     };
     run_all(&site, workers);
+    drop(routes);
     Ok(())
+}
+
+/// Adds all to a list without workers, and has each work in one turn.
+fn run_hands<'a, K: Label + Send + Sync, R: Threads + Wait + Sync>(
+    rt: &R,
+    alloc: Global,
+    shared: &Shared<K>,
+    hands: &mut Vec<Hand<'a, K>>,
+    gate: &Counting<'_>,
+    counts: &'a Counts,
+    is_broken: bool,
+) -> Result<(), Fault> {
+    push_all(rt, alloc, shared, hands, counts, is_broken)?;
+    run_at(rt, alloc, shared, gate, hands.as_mut_slice())
+}
+
+/// What was counted, before what any worker did.
+fn counted(gate: &Counting<'_>, counts: &Counts) -> Told {
+    Told {
+        turns: gate.turns.load(Ordering::SeqCst),
+        reads: gate.reads.load(Ordering::SeqCst),
+        replies: gate.replies.load(Ordering::SeqCst),
+        taken: counts.taken.load(Ordering::SeqCst),
+        ended: counts.ended.load(Ordering::SeqCst),
+        early: gate.early.load(Ordering::SeqCst),
+        answered: counts.answered.load(Ordering::SeqCst),
+        sent: counts.sent.load(Ordering::SeqCst),
+        drained: 0,
+        all: Ended::default(),
+    }
 }
 
 /// What the workers of a book that is shared did, each in one turn.
@@ -322,24 +370,30 @@ fn work<K: Label + Send + Sync, R: Threads + Wait + Sync>(
     counts: &Counts,
     is_broken: bool,
 ) -> Result<Told, Fault> {
-    let mut workers = hands(rt, alloc, shared, counts, is_broken)?;
-    run_at(rt, alloc, shared, gate, workers.as_mut_slice())?;
-    let mut told = Told {
-        turns: gate.turns.load(Ordering::SeqCst),
-        reads: gate.reads.load(Ordering::SeqCst),
-        replies: gate.replies.load(Ordering::SeqCst),
-        taken: counts.taken.load(Ordering::SeqCst),
-        ended: counts.ended.load(Ordering::SeqCst),
-        early: gate.early.load(Ordering::SeqCst),
-        answered: counts.answered.load(Ordering::SeqCst),
-        sent: counts.sent.load(Ordering::SeqCst),
-        drained: 0,
-        all: Ended::default(),
-    };
+    let mut workers = Vec::new(alloc);
+    let ran = run_hands(rt, alloc, shared, &mut workers, gate, counts, is_broken);
+    let mut told = counted(gate, counts);
     for worker in workers {
         tell(&mut told, worker);
     }
+    ran?;
     Ok(told)
+}
+
+/// Has a client register, by a new pass.
+fn register_client<K: Label, R: Wait>(
+    rt: &R,
+    alloc: Global,
+    shared: &Shared<K>,
+) -> Result<(), Fault> {
+    let mut pass = shared.pass(rt, alloc)?;
+    let is_registered = registers(rt, shared, alloc, &mut pass);
+    drop(pass);
+    if is_registered {
+        Ok(())
+    } else {
+        Err(Fault::OutOfMemory)
+    }
 }
 
 /// The same, once a client has registered, of which two peers are to be told.
@@ -349,12 +403,7 @@ fn work_after<K: Label + Send + Sync, R: Threads + Wait + Sync>(
     shared: &Shared<K>,
     trouble: Trouble,
 ) -> Result<Told, Fault> {
-    let mut pass = shared.pass(rt, alloc)?;
-    let is_registered = registers(rt, shared, alloc, &mut pass);
-    drop(pass);
-    if !is_registered {
-        return Err(Fault::OutOfMemory);
-    }
+    register_client(rt, alloc, shared)?;
     let counts = Counts {
         taken: AtomicU64::new(0),
         ended: AtomicU64::new(0),
@@ -384,7 +433,9 @@ fn run<K: Label + Send + Sync, R: Threads + Wait + Sync>(
     requires parts { (blanks.steps.parts ≡ K.parts) × (blanks.counted.parts ≡ K.parts) × (blanks.added.parts ≡ K.parts) × (blanks.removed.parts ≡ K.parts) × (K.parts ≡ 1025) }
 {
     let shared: Shared<K> = Shared::open(alloc, Config::new(true, 85, 30, 60_000)?, 0, 2, blanks)?;
-    work_after(rt, alloc, &shared, trouble)
+    let told = work_after(rt, alloc, &shared, trouble);
+    drop(shared);
+    told
 }
 
 fn ran<R: Threads + Wait + Sync>(rt: &R, alloc: Global, trouble: Trouble) -> Result<Told, Fault> {
@@ -498,14 +549,14 @@ impl Gate for Register {
     }
 }
 
-/// As many session workers as a server may have, to which no connection comes.
-fn sixteen<'a, K: Label, R: Wait>(
+/// Adds as many session workers as a server may have, to which no connection comes.
+fn push_sixteen<'a, K: Label, R: Wait>(
     rt: &R,
     alloc: Global,
     shared: &Shared<K>,
+    hands: &mut Vec<Hand<'a, K>>,
     answered: &'a AtomicU64,
-) -> Result<Vec<Hand<'a, K>>, Fault> {
-    let mut hands = Vec::new(alloc);
+) -> Result<(), Fault> {
     for _worker in 0..16 {
         let source = Once {
             connection: None,
@@ -513,9 +564,43 @@ fn sixteen<'a, K: Label, R: Wait>(
             ended: answered,
             answered,
         };
-        push(rt, alloc, shared, &mut hands, Work::Sessions { source })?;
+        push(rt, alloc, shared, hands, Work::Sessions { source })?;
     }
-    Ok(hands)
+    Ok(())
+}
+
+/// Has workers come to the gate.
+fn come_by<K: Label + Send + Sync, R: Threads + Wait + Sync>(
+    rt: &R,
+    alloc: Global,
+    shared: &Shared<K>,
+    gate: &Register,
+    workers: &mut [Hand<'_, K>],
+) -> Result<(), Fault> {
+    let routes = Routes::new(alloc)?;
+    let site = Site {
+        rt,
+        alloc,
+        shared,
+        routes: &routes,
+        gate,
+    };
+    run_all(&site, workers);
+    drop(routes);
+    Ok(())
+}
+
+/// Adds the sixteen to a list without workers, and has them come to the gate.
+fn come_all<'a, K: Label + Send + Sync, R: Threads + Wait + Sync>(
+    rt: &R,
+    alloc: Global,
+    shared: &Shared<K>,
+    gate: &Register,
+    workers: &mut Vec<Hand<'a, K>>,
+    answered: &'a AtomicU64,
+) -> Result<(), Fault> {
+    push_sixteen(rt, alloc, shared, workers, answered)?;
+    come_by(rt, alloc, shared, gate, workers.as_mut_slice())
 }
 
 /// By which numbers they come to the gate, a bit for each.
@@ -524,22 +609,14 @@ fn come<K: Label + Send + Sync, R: Threads + Wait + Sync>(
     alloc: Global,
     shared: &Shared<K>,
 ) -> Result<u64, Fault> {
-    let routes = Routes::new(alloc)?;
     let gate = Register {
         came: AtomicU64::new(0),
     };
     let answered = AtomicU64::new(0);
-    let mut workers = sixteen(rt, alloc, shared, &answered)?;
-    let site = Site {
-        rt,
-        alloc,
-        shared,
-        routes: &routes,
-        gate: &gate,
-    };
-    run_all(&site, workers.as_mut_slice());
-    drop(site);
+    let mut workers = Vec::new(alloc);
+    let came = come_all(rt, alloc, shared, &gate, &mut workers, &answered);
     drop(workers);
+    came?;
     Ok(gate.came.load(Ordering::SeqCst))
 }
 
@@ -553,7 +630,9 @@ fn come_to<K: Label + Send + Sync, R: Threads + Wait + Sync>(
     requires parts { (blanks.steps.parts ≡ K.parts) × (blanks.counted.parts ≡ K.parts) × (blanks.added.parts ≡ K.parts) × (blanks.removed.parts ≡ K.parts) × (K.parts ≡ 1025) }
 {
     let shared: Shared<K> = Shared::open(alloc, Config::new(true, 85, 30, 60_000)?, 0, 0, blanks)?;
-    come(rt, alloc, &shared)
+    let came = come(rt, alloc, &shared);
+    drop(shared);
+    came
 }
 
 fn came<R: Threads + Wait + Sync>(rt: &R, alloc: Global) -> Result<u64, Fault> {

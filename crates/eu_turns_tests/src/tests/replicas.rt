@@ -2,7 +2,7 @@
 ghost use Rattle.std.specs.Prelude.{◌≡◌};
 
 use eu_base::{App, Config, Fault, Id, Instance, Key, Moment, Rest, Status};
-use eu_book::Book;
+use eu_book::{Book, Receipt};
 use eu_clock::{FirstChooser, ListClock};
 use eu_model::{Command, Query, View};
 use eu_peer::InProcess;
@@ -24,23 +24,51 @@ impl Gate for Open {
     }
 }
 
+/// The key of that id of A.
+fn key(alloc: Global, id: &str) -> Result<Key, Fault> {
+    let app = App::read(alloc, "A")?;
+    match Id::read(alloc, id) {
+        Ok(id) => Ok(Key { app, id }),
+        Err(fault) => {
+            drop(app);
+            Err(fault)
+        }
+    }
+}
+
+/// An instance that is UP, for 90 seconds.
+fn instance(key: Key, rest: Rest) -> Instance {
+    Instance {
+        key,
+        status: Status::Up,
+        overridden: Status::Unknown,
+        dirty: 5,
+        secs: 90,
+        interval: 30,
+        rest,
+    }
+}
+
 /// A client that is UP registers, of that id of A, for 90 seconds.
 pub fn registration(alloc: Global, id: &str) -> Result<Command, Fault> {
-    let app = App::read(alloc, "A")?;
-    let id = Id::read(alloc, id)?;
     let rest = Rest::of_host(alloc, "h")?;
-    Ok(Command::Register {
-        instance: Instance {
-            key: Key { app, id },
-            status: Status::Up,
-            overridden: Status::Unknown,
-            dirty: 5,
-            secs: 90,
-            interval: 30,
-            rest,
-        },
-        replicated: false,
-    })
+    match key(alloc, id) {
+        Ok(key) => Ok(Command::Register {
+            instance: instance(key, rest),
+            replicated: false,
+        }),
+        Err(fault) => {
+            drop(rest);
+            Err(fault)
+        }
+    }
+}
+
+/// Whether a command was accepted.
+fn is_accepted(answer: Result<Receipt, Fault>) -> bool {
+    let is_accepted = answer.is_ok();
+    drop(answer);
+    is_accepted
 }
 
 /// Whether a client registers A/i1 at the moment 0.
@@ -54,9 +82,9 @@ pub fn registers<K: Label, R: Wait>(
         return false;
     };
     match registration(alloc, "i1") {
-        Ok(command) => pass
-            .ask(rt, shared, alloc, command, moment, &mut FirstChooser)
-            .is_ok(),
+        Ok(command) => {
+            is_accepted(pass.ask(rt, shared, alloc, command, moment, &mut FirstChooser))
+        }
         Err(_) => false,
     }
 }
@@ -75,7 +103,11 @@ fn held(alloc: Global, book: &Book) -> u64 {
         return 0;
     };
     match book.read(alloc, &Query::Counts, moment) {
-        Ok(view) => leases(&view),
+        Ok(view) => {
+            let held = leases(&view);
+            drop(view);
+            held
+        }
         Err(_) => 0,
     }
 }
@@ -100,10 +132,12 @@ fn replicate<K: Label, R: Wait>(
 ) -> Result<Ended, Fault> {
     let mut pass = site.shared.pass(site.rt, site.alloc)?;
     if !registers(site.rt, site.shared, site.alloc, &mut pass) {
+        drop(pass);
         return Err(Fault::OutOfMemory);
     }
     let mut clock = ListClock::new(Vec::new(site.alloc));
     let (pass, ended) = run_replicator(site, number, pass, peer, &mut clock, TURNS);
+    drop(clock);
     drop(pass);
     Ok(ended)
 }
@@ -137,7 +171,9 @@ fn send_from<K: Label, R: Wait>(
         routes: &routes,
         gate: &Open,
     };
-    reach(&site, number, config)
+    let reached = reach(&site, number, config);
+    drop(routes);
+    reached
 }
 
 /// What a replicator did in these turns for the peer of that number after a registration, and how many leases the other server holds
@@ -153,7 +189,9 @@ fn send<K: Label, R: Wait>(
     requires parts { (blanks.steps.parts ≡ K.parts) × (blanks.counted.parts ≡ K.parts) × (blanks.added.parts ≡ K.parts) × (blanks.removed.parts ≡ K.parts) × (K.parts ≡ 1025) }
 {
     let shared: Shared<K> = Shared::open(alloc, config, 0, 1, blanks)?;
-    send_from(rt, alloc, &shared, number, config)
+    let sent = send_from(rt, alloc, &shared, number, config);
+    drop(shared);
+    sent
 }
 
 fn sent<R: Wait>(rt: &R, alloc: Global, number: u32) -> Result<(Ended, u64), Fault> {

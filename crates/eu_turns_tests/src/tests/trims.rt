@@ -3,7 +3,9 @@ ghost use Rattle.std.specs.Prelude.{◌≡◌};
 
 use crate::tests::replicas::{registers, server};
 use eu_base::{Config, Fault};
+use eu_book::Book;
 use eu_clock::{FirstChooser, ListClock};
+use eu_peer::InProcess;
 use eu_routes::Routes;
 use eu_shared::{Blanks, Label, Pass, Shared};
 use eu_workers::{
@@ -74,8 +76,13 @@ fn make_stale<K: Label, R: Wait>(
 fn stale<K: Label, R: Wait>(site: &Site<'_, K, R, Twice>) -> Result<(Pass<K>, u64), Fault> {
     site.gate.renew();
     let mut pass = site.shared.pass(site.rt, site.alloc)?;
-    let number = make_stale(site, &mut pass)?;
-    Ok((pass, number))
+    match make_stale(site, &mut pass) {
+        Ok(number) => Ok((pass, number)),
+        Err(fault) => {
+            drop(pass);
+            Err(fault)
+        }
+    }
 }
 
 /// What is left in the log of a worker's pass, where the entry of that number was made before its turns.
@@ -124,38 +131,67 @@ impl<K: Label, R: Wait> Source for Renewing<'_, K, R> {
 
 const RENEWAL: &str = "PUT /eureka/apps/A/i1 HTTP/1.1\r\nHost: x\r\n\r\n";
 
+/// What sessions over these connections leave.
+fn after_renewals<K: Label, R: Wait>(
+    site: &Site<'_, K, R, Twice>,
+    source: &mut Renewing<'_, K, R>,
+) -> Result<Left, Fault> {
+    let (pass, before) = stale(site)?;
+    let mut clock = clock(site.alloc);
+    let worked = run_sessions(site, 1, pass, source, &mut clock, LIMIT);
+    drop(clock);
+    Ok(what_is_left(worked, before))
+}
+
 /// What sessions leave.
 fn after_sessions<K: Label, R: Wait>(site: &Site<'_, K, R, Twice>) -> Result<Left, Fault> {
-    let (pass, before) = stale(site)?;
     let mut source = Renewing {
         rt: site.rt,
         shared: site.shared,
         alloc: site.alloc,
         other: site.shared.pass(site.rt, site.alloc)?,
     };
-    let worked = run_sessions(site, 1, pass, &mut source, &mut clock(site.alloc), LIMIT);
+    let left = after_renewals(site, &mut source);
     drop(source);
-    Ok(what_is_left(worked, before))
+    left
 }
 
 /// What the evictor leaves.
 fn after_eviction<K: Label, R: Wait>(site: &Site<'_, K, R, Twice>) -> Result<Left, Fault> {
     let (pass, before) = stale(site)?;
-    let worked = run_evictor(site, pass, &mut clock(site.alloc), &mut FirstChooser, LIMIT);
+    let mut clock = clock(site.alloc);
+    let worked = run_evictor(site, pass, &mut clock, &mut FirstChooser, LIMIT);
+    drop(clock);
     Ok(what_is_left(worked, before))
 }
 
 /// What the bucket's worker leaves.
 fn after_roll<K: Label, R: Wait>(site: &Site<'_, K, R, Twice>) -> Result<Left, Fault> {
     let (pass, before) = stale(site)?;
-    let worked = run_bucket(site, pass, &mut clock(site.alloc), LIMIT);
+    let mut clock = clock(site.alloc);
+    let worked = run_bucket(site, pass, &mut clock, LIMIT);
+    drop(clock);
     Ok(what_is_left(worked, before))
 }
 
 /// What the threshold's worker leaves.
 fn after_update<K: Label, R: Wait>(site: &Site<'_, K, R, Twice>) -> Result<Left, Fault> {
     let (pass, before) = stale(site)?;
-    let worked = run_threshold(site, pass, &mut clock(site.alloc), LIMIT);
+    let mut clock = clock(site.alloc);
+    let worked = run_threshold(site, pass, &mut clock, LIMIT);
+    drop(clock);
+    Ok(what_is_left(worked, before))
+}
+
+/// What the replicator leaves that tells this peer.
+fn after_batch_for<K: Label, R: Wait>(
+    site: &Site<'_, K, R, Twice>,
+    peer: &mut InProcess<Book, ListClock>,
+) -> Result<Left, Fault> {
+    let (pass, before) = stale(site)?;
+    let mut clock = clock(site.alloc);
+    let worked = run_replicator(site, 0, pass, peer, &mut clock, LIMIT);
+    drop(clock);
     Ok(what_is_left(worked, before))
 }
 
@@ -164,11 +200,10 @@ fn after_batch<K: Label, R: Wait>(
     site: &Site<'_, K, R, Twice>,
     config: Config,
 ) -> Result<Left, Fault> {
-    let (pass, before) = stale(site)?;
     let mut peer = server(site.alloc, config)?;
-    let worked = run_replicator(site, 0, pass, &mut peer, &mut clock(site.alloc), LIMIT);
+    let left = after_batch_for(site, &mut peer);
     drop(peer);
-    Ok(what_is_left(worked, before))
+    left
 }
 
 /// What each worker leaves after two turns.
@@ -211,7 +246,9 @@ fn work_on<K: Label, R: Wait>(
             turns: AtomicU64::new(0),
         },
     };
-    work_at(&site, config)
+    let leaving = work_at(&site, config);
+    drop(routes);
+    leaving
 }
 
 /// The same at a book with one peer, at which nothing is held.
@@ -225,7 +262,9 @@ fn work<K: Label, R: Wait>(
     requires parts { (blanks.steps.parts ≡ K.parts) × (blanks.counted.parts ≡ K.parts) × (blanks.added.parts ≡ K.parts) × (blanks.removed.parts ≡ K.parts) × (K.parts ≡ 1025) }
 {
     let shared: Shared<K> = Shared::open(alloc, config, 0, 1, blanks)?;
-    work_on(rt, alloc, &shared, config)
+    let leaving = work_on(rt, alloc, &shared, config);
+    drop(shared);
+    leaving
 }
 
 fn worked<R: Wait>(rt: &R, alloc: Global) -> Result<Leaving, Fault> {

@@ -29,21 +29,30 @@ pub fn register<K: Label, R: Wait>(
 ) -> Result<(), Fault> {
     let moment = Moment::new(0).ok_or(Fault::BadStamp)?;
     let command = registration(alloc, id)?;
-    let asked = pass.ask(rt, shared, alloc, command, moment, &mut FirstChooser);
-    let fault = asked.err();
-    match fault {
-        Some(fault) => Err(fault),
-        None => Ok(()),
+    let receipt = pass.ask(rt, shared, alloc, command, moment, &mut FirstChooser)?;
+    drop(receipt);
+    Ok(())
+}
+
+/// Registers each client by a pass.
+fn register_each<K: Label, R: Wait>(
+    rt: &R,
+    shared: &Shared<K>,
+    alloc: Global,
+    pass: &mut Pass<K>,
+) -> Result<(), Fault> {
+    for id in CLIENTS {
+        register(rt, shared, alloc, pass, id)?;
     }
+    Ok(())
 }
 
 /// Registers each client.
 fn register_all<K: Label, R: Wait>(rt: &R, shared: &Shared<K>, alloc: Global) -> Result<(), Fault> {
     let mut pass = shared.pass(rt, alloc)?;
-    for id in CLIENTS {
-        register(rt, shared, alloc, &mut pass, id)?;
-    }
-    Ok(())
+    let registered = register_each(rt, shared, alloc, &mut pass);
+    drop(pass);
+    registered
 }
 
 /// The ids of these keys, each after a space.
@@ -66,17 +75,42 @@ fn victims<K: Label>(alloc: Global, pass: &Pass<K>) -> Result<(u64, String), All
     }
 }
 
-/// Whom the evictor evicts in one turn at the late moment, where it draws the words 3 and 0, and when.
-fn evicts<K: Label, R: Wait>(site: &Site<'_, K, R, Open>) -> Result<(u64, String), Fault> {
-    let alloc = site.alloc;
+/// A clock that stands at the late moment.
+fn late(alloc: Global) -> Result<ListClock, Fault> {
     let late = Moment::new(u64::from(LATE)).ok_or(Fault::BadStamp)?;
-    let mut clock = ListClock::new(Vec::from_slice(alloc, &[late])?);
-    let mut chooser = ListChooser::new(Vec::from_slice(alloc, &[3, 0])?);
-    let pass = site.shared.pass(site.rt, alloc)?;
-    let (pass, _) = run_evictor(site, pass, &mut clock, &mut chooser, 1);
-    let seen = victims(alloc, &pass);
+    Ok(ListClock::new(Vec::from_slice(alloc, &[late])?))
+}
+
+/// Whom the evictor evicts in one turn at the moment of a clock, where it draws these words, and when.
+fn evicts_by<K: Label, R: Wait>(
+    site: &Site<'_, K, R, Open>,
+    clock: &mut ListClock,
+    chooser: &mut ListChooser,
+) -> Result<(u64, String), Fault> {
+    let pass = site.shared.pass(site.rt, site.alloc)?;
+    let (pass, _) = run_evictor(site, pass, clock, chooser, 1);
+    let seen = victims(site.alloc, &pass);
     drop(pass);
     Ok(seen?)
+}
+
+/// The same, where it draws the words 3 and 0.
+fn evicts_at<K: Label, R: Wait>(
+    site: &Site<'_, K, R, Open>,
+    clock: &mut ListClock,
+) -> Result<(u64, String), Fault> {
+    let mut chooser = ListChooser::new(Vec::from_slice(site.alloc, &[3, 0])?);
+    let seen = evicts_by(site, clock, &mut chooser);
+    drop(chooser);
+    seen
+}
+
+/// The same at the late moment.
+fn evicts<K: Label, R: Wait>(site: &Site<'_, K, R, Open>) -> Result<(u64, String), Fault> {
+    let mut clock = late(site.alloc)?;
+    let seen = evicts_at(site, &mut clock);
+    drop(clock);
+    seen
 }
 
 /// The same over a book with the four clients.
@@ -94,7 +128,9 @@ fn evicts_of<K: Label, R: Wait>(
         routes: &routes,
         gate: &Open,
     };
-    evicts(&site)
+    let evicted = evicts(&site);
+    drop(routes);
+    evicted
 }
 
 /// The same, of a registry without preservation that lets half of them go.
@@ -108,7 +144,9 @@ fn evicts_half<K: Label, R: Wait>(
 {
     let config = Config::new(false, 50, 30, 60_000)?;
     let shared: Shared<K> = Shared::open(alloc, config, 0, 0, blanks)?;
-    evicts_of(rt, alloc, &shared)
+    let evicted = evicts_of(rt, alloc, &shared);
+    drop(shared);
+    evicted
 }
 
 fn evicted<R: Wait>(rt: &R, alloc: Global) -> Result<(u64, String), Fault> {

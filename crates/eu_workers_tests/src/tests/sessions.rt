@@ -177,9 +177,13 @@ fn push<'a, K: Label, R: Wait>(
     limit: u64,
     work: Work<Once<'a>, FirstChooser, Nobody>,
 ) -> Result<(), Fault> {
-    let pass = shared.pass(rt, alloc)?;
-    hands.push(hand(alloc, pass, limit, work))?;
-    Ok(())
+    match shared.pass(rt, alloc) {
+        Ok(pass) => Ok(hands.push(hand(alloc, pass, limit, work))?),
+        Err(fault) => {
+            drop(work);
+            Err(fault)
+        }
+    }
 }
 
 /// Adds two session workers.
@@ -209,6 +213,18 @@ fn push_timers<'a, K: Label, R: Wait>(
     push(rt, alloc, shared, hands, 1, Work::Threshold)
 }
 
+/// Adds two session workers, and each timer's for one turn.
+fn push_all<'a, K: Label, R: Wait>(
+    rt: &R,
+    alloc: Global,
+    shared: &Shared<K>,
+    hands: &mut Vec<Hand<'a, K>>,
+    answered: &'a AtomicU64,
+) -> Result<(), Fault> {
+    push_sessions(rt, alloc, shared, hands, answered)?;
+    push_timers(rt, alloc, shared, hands)
+}
+
 /// Two session workers, and each timer's for one turn.
 fn hands<'a, K: Label, R: Wait>(
     rt: &R,
@@ -217,9 +233,13 @@ fn hands<'a, K: Label, R: Wait>(
     answered: &'a AtomicU64,
 ) -> Result<Vec<Hand<'a, K>>, Fault> {
     let mut hands = Vec::new(alloc);
-    push_sessions(rt, alloc, shared, &mut hands, answered)?;
-    push_timers(rt, alloc, shared, &mut hands)?;
-    Ok(hands)
+    match push_all(rt, alloc, shared, &mut hands, answered) {
+        Ok(()) => Ok(hands),
+        Err(fault) => {
+            drop(hands);
+            Err(fault)
+        }
+    }
 }
 
 /// Keeps the pass of a worker that is done, and counts what it did.
@@ -240,6 +260,18 @@ fn keep<K: Label>(
     Ok(())
 }
 
+/// The same of all workers.
+fn keep_all<K: Label>(
+    passes: &mut Vec<Pass<K>>,
+    all: &mut Ended,
+    hands: Vec<Hand<'_, K>>,
+) -> Result<(), Fault> {
+    for hand in hands {
+        keep(passes, all, hand)?;
+    }
+    Ok(())
+}
+
 /// The passes of those that are done, and what they did in all.
 fn gather<K: Label>(
     alloc: Global,
@@ -247,15 +279,20 @@ fn gather<K: Label>(
 ) -> Result<(Vec<Pass<K>>, Ended), Fault> {
     let mut passes = Vec::new(alloc);
     let mut all = Ended::default();
-    for hand in hands {
-        keep(&mut passes, &mut all, hand)?;
+    match keep_all(&mut passes, &mut all, hands) {
+        Ok(()) => Ok((passes, all)),
+        Err(fault) => {
+            drop(passes);
+            Err(fault)
+        }
     }
-    Ok((passes, all))
 }
 
 /// Whether a closed book is settled.
 fn settles(closed: Closed) -> bool {
-    settle(&closed).is_ok()
+    let settles = settle(&closed).is_ok();
+    drop(closed);
+    settles
 }
 
 /// Whether the book is settled once it is closed.
@@ -269,6 +306,37 @@ fn is_settled<K: Label>(shared: Shared<K>, alloc: Global, passes: Vec<Pass<K>>) 
     }
 }
 
+/// A gate that nobody has passed.
+fn new_gate<R: Clock>(rt: &R) -> Crossing<'_, R> {
+    Crossing {
+        rt,
+        reads: AtomicU64::new(0),
+        held: AtomicBool::new(false),
+        replied: AtomicBool::new(false),
+    }
+}
+
+/// Has them work at a book that is shared, through a gate.
+fn work_through<K: Label + Send + Sync, R: Threads + Wait + Clock + Sync>(
+    rt: &R,
+    alloc: Global,
+    shared: &Shared<K>,
+    gate: &Crossing<'_, R>,
+    workers: &mut [Hand<'_, K>],
+) -> Result<(), Fault> {
+    let routes = Routes::new(alloc)?;
+    let site = Site {
+        rt,
+        alloc,
+        shared,
+        routes: &routes,
+        gate,
+    };
+    run_all(&site, workers);
+    drop(routes);
+    Ok(())
+}
+
 /// Has them work at a book that is shared.
 fn work<K: Label + Send + Sync, R: Threads + Wait + Clock + Sync>(
     rt: &R,
@@ -276,22 +344,10 @@ fn work<K: Label + Send + Sync, R: Threads + Wait + Clock + Sync>(
     shared: &Shared<K>,
     workers: &mut [Hand<'_, K>],
 ) -> Result<(), Fault> {
-    let routes = Routes::new(alloc)?;
-    let gate = Crossing {
-        rt,
-        reads: AtomicU64::new(0),
-        held: AtomicBool::new(false),
-        replied: AtomicBool::new(false),
-    };
-    let site = Site {
-        rt,
-        alloc,
-        shared,
-        routes: &routes,
-        gate: &gate,
-    };
-    run_all(&site, workers);
-    Ok(())
+    let gate = new_gate(rt);
+    let worked = work_through(rt, alloc, shared, &gate, workers);
+    drop(gate);
+    worked
 }
 
 /// The passes of all workers of a book that is shared, and what they did.
@@ -302,11 +358,35 @@ fn cross<K: Label + Send + Sync, R: Threads + Wait + Clock + Sync>(
     answered: &AtomicU64,
 ) -> Result<(Vec<Pass<K>>, Ended), Fault> {
     let mut workers = hands(rt, alloc, shared, answered)?;
-    work(rt, alloc, shared, workers.as_mut_slice())?;
-    gather(alloc, workers)
+    match work(rt, alloc, shared, workers.as_mut_slice()) {
+        Ok(()) => gather(alloc, workers),
+        Err(fault) => {
+            drop(workers);
+            Err(fault)
+        }
+    }
 }
 
-/// What all did, how many answers were right, and whether the book was settled.
+/// What all did, how many answers were right, and whether the book was settled, once they work at it.
+fn run_on<K: Label + Send + Sync, R: Threads + Wait + Clock + Sync>(
+    rt: &R,
+    alloc: Global,
+    shared: Shared<K>,
+) -> Result<(Ended, u64, bool), Fault> {
+    let answered = AtomicU64::new(0);
+    match cross(rt, alloc, &shared, &answered) {
+        Ok((passes, all)) => {
+            let right = answered.load(Ordering::SeqCst);
+            Ok((all, right, is_settled(shared, alloc, passes)))
+        }
+        Err(fault) => {
+            drop(shared);
+            Err(fault)
+        }
+    }
+}
+
+/// The same at a book at which nothing is held.
 fn run<K: Label + Send + Sync, R: Threads + Wait + Clock + Sync>(
     rt: &R,
     alloc: Global,
@@ -316,10 +396,7 @@ fn run<K: Label + Send + Sync, R: Threads + Wait + Clock + Sync>(
     requires parts { (blanks.steps.parts ≡ K.parts) × (blanks.counted.parts ≡ K.parts) × (blanks.added.parts ≡ K.parts) × (blanks.removed.parts ≡ K.parts) × (K.parts ≡ 1025) }
 {
     let shared: Shared<K> = Shared::open(alloc, Config::new(true, 85, 30, 60_000)?, 0, 0, blanks)?;
-    let answered = AtomicU64::new(0);
-    let (passes, all) = cross(rt, alloc, &shared, &answered)?;
-    let right = answered.load(Ordering::SeqCst);
-    Ok((all, right, is_settled(shared, alloc, passes)))
+    run_on(rt, alloc, shared)
 }
 
 fn ran<R: Threads + Wait + Clock + Sync>(

@@ -128,6 +128,28 @@ fn ticking(alloc: Global) -> Result<ListClock, Fault> {
     Ok(ListClock::new(moments))
 }
 
+/// The same for a book that is shared, at the moments of a clock.
+fn work_by<K: Label, R: Wait>(
+    rt: &R,
+    alloc: Global,
+    shared: &Shared<K>,
+    clock: &mut ListClock,
+    go: Go,
+    limits: Limits,
+) -> Result<Timers, Fault> {
+    let routes = Routes::new(alloc)?;
+    let site = Site {
+        rt,
+        alloc,
+        shared,
+        routes: &routes,
+        gate: &Always { go },
+    };
+    let timers = work_at(&site, clock, limits);
+    drop(routes);
+    timers
+}
+
 /// The same for a book that is shared.
 fn work_on<K: Label, R: Wait>(
     rt: &R,
@@ -137,15 +159,9 @@ fn work_on<K: Label, R: Wait>(
     limits: Limits,
 ) -> Result<Timers, Fault> {
     let mut clock = ticking(alloc)?;
-    let routes = Routes::new(alloc)?;
-    let site = Site {
-        rt,
-        alloc,
-        shared,
-        routes: &routes,
-        gate: &Always { go },
-    };
-    work_at(&site, &mut clock, limits)
+    let timers = work_by(rt, alloc, shared, &mut clock, go, limits);
+    drop(clock);
+    timers
 }
 
 /// The same for a book at which nothing is held.
@@ -160,7 +176,9 @@ fn work<K: Label, R: Wait>(
     requires parts { (blanks.steps.parts ≡ K.parts) × (blanks.counted.parts ≡ K.parts) × (blanks.added.parts ≡ K.parts) × (blanks.removed.parts ≡ K.parts) × (K.parts ≡ 1025) }
 {
     let shared: Shared<K> = Shared::open(alloc, Config::new(true, 85, 30, 60_000)?, 0, 0, blanks)?;
-    work_on(rt, alloc, &shared, go, limits)
+    let timers = work_on(rt, alloc, &shared, go, limits);
+    drop(shared);
+    timers
 }
 
 fn worked<R: Wait>(rt: &R, alloc: Global, go: Go, limits: Limits) -> Result<Timers, Fault> {
@@ -240,9 +258,12 @@ fn begins<K: Label>(pass: &Pass<K>) -> Option<u64> {
     }
 }
 
-/// The first entry of a journal that is closed with one pass.
-fn first_entry<K: Label>(shared: Shared<K>, alloc: Global, pass: Pass<K>) -> Result<u64, Fault> {
-    let passes = one(alloc, pass)?;
+/// The first entry of a journal that is closed with these passes.
+fn closed_first<K: Label>(
+    shared: Shared<K>,
+    alloc: Global,
+    passes: Vec<Pass<K>>,
+) -> Result<u64, Fault> {
     match close(shared, alloc, passes) {
         Ok(closed) => {
             let first = closed.first;
@@ -257,13 +278,36 @@ fn first_entry<K: Label>(shared: Shared<K>, alloc: Global, pass: Pass<K>) -> Res
     }
 }
 
+/// The first entry of a journal that is closed with one pass.
+fn first_entry<K: Label>(shared: Shared<K>, alloc: Global, pass: Pass<K>) -> Result<u64, Fault> {
+    match one(alloc, pass) {
+        Ok(passes) => closed_first(shared, alloc, passes),
+        Err(fault) => {
+            drop(shared);
+            Err(fault)
+        }
+    }
+}
+
 fn one<K: Label>(alloc: Global, pass: Pass<K>) -> Result<Vec<Pass<K>>, Fault> {
     let mut passes = Vec::new(alloc);
     passes.push(pass)?;
     Ok(passes)
 }
 
-/// So many turns of the bucket's worker at a book, and its pass.
+/// So many turns of the bucket's worker, and its pass.
+fn roll_at<K: Label, R: Wait>(
+    site: &Site<'_, K, R, Always>,
+    turns: u64,
+) -> Result<(Pass<K>, Ended), Fault> {
+    let pass = site.shared.pass(site.rt, site.alloc)?;
+    let mut clock = ListClock::new(Vec::new(site.alloc));
+    let rolled = run_bucket(site, pass, &mut clock, turns);
+    drop(clock);
+    Ok(rolled)
+}
+
+/// The same at a book.
 fn roll_on<K: Label, R: Wait>(
     rt: &R,
     alloc: Global,
@@ -278,19 +322,18 @@ fn roll_on<K: Label, R: Wait>(
         routes: &routes,
         gate: &Always { go: Go::On },
     };
-    let mut clock = ListClock::new(Vec::new(alloc));
-    let pass = shared.pass(rt, alloc)?;
-    Ok(run_bucket(&site, pass, &mut clock, turns))
+    let rolled = roll_at(&site, turns);
+    drop(routes);
+    rolled
 }
 
-/// What is left of so many turns at a book.
-fn leave_of<K: Label, R: Wait>(
-    rt: &R,
+/// What is left of a worker's turns, once its book is closed.
+fn leave_by<K: Label>(
     alloc: Global,
-    turns: u64,
     shared: Shared<K>,
+    pass: Pass<K>,
+    ended: Ended,
 ) -> Result<Left, Fault> {
-    let (pass, ended) = roll_on(rt, alloc, &shared, turns)?;
     let logged = pass.log().len();
     let begins = begins(&pass);
     let first = first_entry(shared, alloc, pass)?;
@@ -300,6 +343,22 @@ fn leave_of<K: Label, R: Wait>(
         begins,
         first,
     })
+}
+
+/// What is left of so many turns at a book.
+fn leave_of<K: Label, R: Wait>(
+    rt: &R,
+    alloc: Global,
+    turns: u64,
+    shared: Shared<K>,
+) -> Result<Left, Fault> {
+    match roll_on(rt, alloc, &shared, turns) {
+        Ok((pass, ended)) => leave_by(alloc, shared, pass, ended),
+        Err(fault) => {
+            drop(shared);
+            Err(fault)
+        }
+    }
 }
 
 /// The same at a book at which nothing is held.

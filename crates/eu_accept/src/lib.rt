@@ -1,0 +1,10 @@
+//! Connections as they are accepted and as they end, and the pace of a server's timers.
+#![tactic(auto)]
+
+mod acceptor;
+mod pace;
+
+pub use acceptor::{
+    Acceptor, Connections, LINGER_BYTES, LINGER_MS, READ_TIMEOUT_MS, Timeouts, WRITE_TIMEOUT_MS,
+};
+pub use pace::Pace;

@@ -1,0 +1,5 @@
+//! Tests of the registry.
+#![tactic(auto)]
+
+#[cfg(test)]
+mod tests;

@@ -1,0 +1,4 @@
+//! The tests, by what they are of.
+mod registry;
+mod steps;
+mod texts;

@@ -1,0 +1,5 @@
+//! Tests of whole servers.
+#![tactic(auto)]
+
+#[cfg(test)]
+mod tests;

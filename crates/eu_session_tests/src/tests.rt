@@ -1,0 +1,5 @@
+//! The tests, by what they are of.
+mod batches;
+mod served;
+mod sessions;
+mod texts;

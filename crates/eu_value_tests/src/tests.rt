@@ -1,0 +1,7 @@
+//! The tests, by the crates that they are of.
+mod base;
+mod choice;
+mod clock;
+mod model;
+mod outbox;
+mod page;

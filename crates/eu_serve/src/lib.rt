@@ -1,4 +1,4 @@
-//! A server: connections that are accepted, workers that serve them, and timers, over one shared book.
+//! A server: workers that serve connections, and timers, over one shared book.
 #![tactic(auto)]
 
 mod no_peer;

@@ -1,4 +1,4 @@
-//! Texts put together from their parts. (Formats are long to prove.)
+//! Texts put together from their parts.
 use std::alloc::{AllocError, Global};
 
 pub fn push_number(out: &mut String, number: u64) -> Result<(), AllocError> {

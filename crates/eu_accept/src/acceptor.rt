@@ -26,14 +26,14 @@ pub const LINGER_BYTES: usize = 65_536;
 /// The bytes that are dropped at once.
 const PIECE: usize = 4_096;
 
-/// For how long a connection is waited for, in milliseconds, above 0; and how much of it is dropped at its end.
+/// For how long a connection is waited for, in milliseconds, and how much of it is dropped at its end.
 #[derive(Clone, Copy, Debug, PartialEq, Eq)]
 pub struct Timeouts {
-    /// A read.
+    /// A read; 0 counts as 1.
     pub read: u64,
-    /// A write.
+    /// A write; 0 counts as 1.
     pub write: u64,
-    /// All reads after the last response.
+    /// All reads after the last response; with 0 there is none.
     pub linger: u64,
     /// The most bytes that these drop.
     pub linger_bytes: usize,
@@ -130,11 +130,11 @@ fn is_passing(kind: ErrorKind) -> bool
     }
 }
 
-/// Has a connection send each response at once and wait no longer than that.
+/// Has a connection send each response at once and wait no longer than that. (The system takes no timeout of 0.)
 fn prepare(stream: &TcpStream, timeouts: Timeouts) -> io::Result<()> {
     stream.set_nodelay(true)?;
-    stream.set_read_timeout(Some(Duration::from_millis(timeouts.read)))?;
-    stream.set_write_timeout(Some(Duration::from_millis(timeouts.write)))
+    stream.set_read_timeout(Some(Duration::from_millis(timeouts.read.max(1))))?;
+    stream.set_write_timeout(Some(Duration::from_millis(timeouts.write.max(1))))
 }
 
 /// Waits for the next connection, and gives its two sides. One that can't be prepared has gone, and is passed over.

@@ -30,7 +30,7 @@ impl<'a, R: Wait + Clock> Pace<'a, R> {
 
     /// Tells the timers that the sessions have ended.
     pub fn end(&self) {
-        self.schedules.lock(self.rt).have_ended = true;
+        self.schedules.lock(self.rt).end();
         self.ended.notify_all();
     }
 
@@ -46,11 +46,7 @@ impl<'a, R: Wait + Clock> Pace<'a, R> {
             left,
             |schedules| !schedules.have_ended,
         );
-        if schedules.have_ended {
-            return Ok(Go::Stop);
-        }
-        schedules.begin(timer, Instant::now(self.rt)?);
-        Ok(Go::On)
+        Ok(schedules.turn(timer, Instant::now(self.rt)?))
     }
 }
 

@@ -4,6 +4,7 @@
 mod faults;
 mod instances;
 mod names;
+mod order;
 mod rest;
 mod settings;
 mod statuses;
@@ -14,6 +15,7 @@ mod trees;
 pub use faults::Fault;
 pub use instances::Instance;
 pub use names::{App, Id, Key};
+pub use order::keys_are_ordered;
 pub use rest::{Rest, has_fraction};
 pub use settings::Config;
 pub use statuses::Status;

@@ -1,9 +1,9 @@
 //! The timers of a server: which there are, and how far apart their turns are.
-ghost use Rattle.std.specs.Prelude.{◌≡◌, ◌-◌, ◌*◌};
+ghost use Rattle.std.specs.Prelude.{◌≡◌, ◌-◌, ◌*◌, if◌then◌else◌, true};
 ghost use Rattle.std.specs.Duration.{as_nanos};
 ghost use Rattle.eu_gate.specs.Timers.{begun, nanos_left, number_of, paced, schedule_of, timer_of, IsStart};
 
-use crate::gate::{BUCKET, EVICTOR, THRESHOLD};
+use crate::gate::{BUCKET, EVICTOR, Go, THRESHOLD};
 use std::time::{Duration, Instant};
 
 /// The milliseconds between two ends of minutes (`MeasuredRate` in Eureka).
@@ -145,8 +145,27 @@ impl Schedules {
         }
     }
 
+    /// Notes that the sessions have ended: no timer takes a further turn.
+    pub fn end(&mut self)
+        ensures { self.new ≡ record self.old { have_ended = true } }
+    {
+        self.have_ended = true;
+    }
+
+    /// Begins a turn of a timer, at that time, and lets it go on; `Stop` where the sessions have ended, and then nothing changes.
+    pub fn turn(&mut self, timer: Timer, now: Instant) -> Go
+        ensures go { result ≡ (if self.old.have_ended then Go.Stop else Go.On) }
+        ensures turn { self.new ≡ (if self.old.have_ended then self.old else begun timer now self.old) }
+    {
+        if self.have_ended {
+            return Go::Stop;
+        }
+        self.begin(timer, now);
+        Go::On
+    }
+
     /// Begins a turn of a timer, at that time.
-    pub fn begin(&mut self, timer: Timer, now: Instant)
+    fn begin(&mut self, timer: Timer, now: Instant)
         ensures { self.new ≡ begun timer now self.old }
     {
         match timer {

@@ -54,13 +54,12 @@ fn value_of(config: &Config, expected: u64) -> u64
 }
 
 /// How many of so many leases one eviction pass may take out: all but the percentage, which is rounded down
-/// (`AbstractInstanceRegistry.evict` in Eureka). The caller hands in at most 65,536 leases and at most 100 per cent.
+/// (`AbstractInstanceRegistry.evict` in Eureka); none where the percentage is above 100.
 pub fn evict_limit(size: usize, percent: u32) -> usize
-    requires size { size ≤ 65536 }
-    requires percent { percent ≤ 100 }
     ensures { result ≡ size - size * percent / 100 }
 {
-    size - size * percent as usize / 100
+    let size = size as u128;
+    size.saturating_sub(size * u128::from(percent) / 100) as usize
 }
 
 impl Threshold {

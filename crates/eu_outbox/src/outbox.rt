@@ -10,7 +10,7 @@ use std::alloc::{AllocError, Global};
 use std::marker::Model;
 
 /// The tasks that wait for a peer, and the batch that is in flight to it. Contracts see both lists, and how many more tasks can be
-/// put without taking memory (`TaskBatcher` in Eureka).
+/// put without taking memory (`AcceptorExecutor` in Eureka).
 #[derive(Debug, Drop)]
 pub struct Outbox {
     waiting: Line,

@@ -1,2 +1,3 @@
 mod TurnLemmas
+pub mod KeepLemmas
 mod LawLemmas

@@ -9,7 +9,7 @@ use Rattle.eu_shared.specs.Closing.{IsReason}
 abbrev pub IsStart : Fault → Type 0
 IsStart f = (f ≡ OutOfMemory) ⊎ (f ≡ TooManyPasses)
 
--- its book could not be closed, or wasn't settled
+-- its book could not be closed, for want of memory or as a pass is missing, or wasn't settled
 abbrev pub IsClose : Fault → Type 0
 IsClose f = ((sums : Tally) × (totals : Tally) × IsReason f sums totals) ⊎ (f ≡ Mismatch)
 

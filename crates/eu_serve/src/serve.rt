@@ -1,11 +1,14 @@
 //! A server.
 ghost use Rattle.std.specs.Prelude.{◌≡◌, ◌≤◌, ◌<◌, ◌⊎◌, ℕ, Ok, Err, IfOk, IfErr, OnOk};
 ghost use Rattle.std.specs.Io.KnownBytes.{Appends};
+ghost use Rattle.eu_book.specs.Account.{IsLawful};
+ghost use Rattle.eu_book.specs.Peers.{state_of};
 ghost use Rattle.eu_serve.specs.Ends.{IsClose, IsEnd, IsStart};
 ghost use Rattle.eu_serve.specs.Served.{served_text};
 ghost use Rattle.eu_serve.specs.Unlimited.{IsUnlimited};
 ghost use Rattle.eu_settle.specs.Settled.{IsMismatch, IsSettled};
 ghost use Rattle.eu_settle.specs.declared.settling.Mismatch.{Mismatch};
+ghost use Rattle.eu_shared.specs.Closing.{account_of};
 
 use crate::no_peer::NoPeer;
 use eu_accept::{Acceptor, Connections, Timeouts};
@@ -40,7 +43,7 @@ pub struct Plan {
     pub sessions: u32,
     /// The milliseconds between two turns of each timer; 0 counts as 1.
     pub periods: Periods,
-    /// For how many milliseconds, above 0, it waits for a connection, and how much of one it drops at its end.
+    /// For how many milliseconds it waits for a connection, and how much of one it drops at its end.
     pub timeouts: Timeouts,
 }
 
@@ -168,8 +171,8 @@ fn gather<K: Label, R: Wait + Clock, H: Chooser + Drop>(
     Ok(served)
 }
 
-/// Has all workers work until the sessions have ended. Gives their passes, and tells how many connections were served. `OutOfMemory`, and
-/// the faults of `make_workers`; after one no worker has worked.
+/// Has all workers work until the sessions have ended. Gives their passes, for which there is room before one works, and tells how many
+/// connections were served. `OutOfMemory`, and the faults of `make_workers`.
 fn run_workers<
     'a,
     K: Label + Send + Sync,
@@ -217,12 +220,14 @@ fn judge<K: Label>(closed: Result<Closed, Unclosed<K>>) -> Result<Closed, Fault>
     }
 }
 
-/// Closes a book, for which nobody waits any more, and settles it. The faults are those of `judge`.
+/// Closes a book, for which nobody waits any more (`eu_shared::close`), and settles it. The faults are those of `judge`.
 fn close_book<K: Label>(
     shared: Shared<K>,
     alloc: Global,
     passes: Vec<Pass<K>>,
 ) -> Result<Closed, Fault>
+    ensures lawful { IfOk result (λ c. IsLawful (account_of c)) }
+    ensures plain { IfOk result (λ c. (c.base ≡ state_of (account_of c).base) × (c.end ≡ state_of (account_of c).state)) }
     ensures settled { IfOk result (λ c. IsSettled c.first c.logs.items c.entries.items) }
     ensures fault { IfErr result IsClose }
 {
@@ -238,10 +243,11 @@ pub struct Outcome {
     pub closed: Closed,
 }
 
-/// Serves by a plan, and gives the book, closed and settled, rather than writing a line.
+/// Serves by a plan, and gives the book, closed and settled, rather than writing a line: its entries lead from the base to the end, and the
+/// log of each worker is its part of them.
 ///
-/// The book has the names and parts of its blanks. The faults are those of `serve_on`, and come when they do there, but for `Write`: nothing
-/// is written.
+/// The blanks are four new ledgers of 1,025 parts each, as `Shared::open` takes them. The faults are those of `serve_on`, and come when they
+/// do there, but for `Write`: nothing is written.
 pub fn serve_book<
     K: Label + Send + Sync,
     R: Threads + Wait + Clock + Sync,
@@ -256,6 +262,8 @@ pub fn serve_book<
 ) -> Result<Outcome, Fault>
     requires names { (blanks.steps.name ≡ K.steps) × (blanks.counted.name ≡ K.counted) × (blanks.added.name ≡ K.added) × (blanks.removed.name ≡ K.removed) }
     requires parts { (blanks.steps.parts ≡ K.parts) × (blanks.counted.parts ≡ K.parts) × (blanks.added.parts ≡ K.parts) × (blanks.removed.parts ≡ K.parts) × (K.parts ≡ 1025) }
+    ensures lawful { IfOk result (λ o. IsLawful (account_of o.closed)) }
+    ensures plain { IfOk result (λ o. (o.closed.base ≡ state_of (account_of o.closed).base) × (o.closed.end ≡ state_of (account_of o.closed).state)) }
     ensures settled { IfOk result (λ o. IsSettled o.closed.first o.closed.logs.items o.closed.entries.items) }
     ensures fault { IfErr result IsEnd }
 {

@@ -312,30 +312,57 @@ fn served_that_is_not_flushed_is_a_failed_write(rt: HostRuntime) -> Result<(), F
     Ok(())
 }
 
-/// How many peers a server has that serves nobody.
-fn peers<R: Threads + Wait + Clock + Sync>(
+/// Where the journal begins of the book that a server by a plan hands back, how many leases were added, and how many logs and peers there are.
+fn handed_back<R: Threads + Wait + Clock + Sync>(
     rt: &R,
     alloc: Global,
     listener: &TcpListener,
-) -> Result<usize, Fault> {
-    let plan = plan(0, 10_000)?;
+    plan: &Plan,
+) -> Result<(u64, u64, usize, usize), Fault> {
     let outcome = serve_book::<Brand, R, FirstChooser>(
         rt,
         alloc,
         listener,
-        &plan,
+        plan,
         FirstChooser,
         Blanks::new(),
     )?;
-    let peers = outcome.closed.end.queues.as_slice().len();
+    let closed = &outcome.closed;
+    let told = (
+        closed.first,
+        closed.totals.added,
+        closed.logs.len(),
+        closed.end.queues.as_slice().len(),
+    );
     drop(outcome);
-    Ok(peers)
+    Ok(told)
 }
 
+/// The same, and whether a client beside it registers.
+fn serve_one<R: Threads + Wait + Clock + Sync + Net<Listener = TcpListener, Stream = TcpStream>>(
+    rt: &R,
+    alloc: Global,
+    listener: &TcpListener,
+    address: SocketAddr,
+    plan: &Plan,
+) -> (Result<(u64, u64, usize, usize), Fault>, bool) {
+    thread::join(
+        rt,
+        || handed_back(rt, alloc, listener, plan),
+        || is_answered(rt, alloc, address, REGISTRATION, REGISTERED),
+    )
+}
+
+/// Two workers and three timers have a log each, and a server has no peers.
 #[test]
-fn a_server_has_no_peers(rt: HostRuntime) -> Result<(), Fail> {
-    let (listener, _) = listen(&rt)?;
-    assert!(rt; peers(&rt, rt.alloc(), &listener)? == 0);
+fn a_book_is_handed_back_as_it_was_served(rt: HostRuntime) -> Result<(), Fail> {
+    let (listener, address) = listen(&rt)?;
+    let mut plan = plan(1, 10_000)?;
+    // No minute ends, so the journal doesn't begin anew.
+    plan.periods.bucket = 900_000;
+    let (told, answered) = serve_one(&rt, rt.alloc(), &listener, address, &plan);
+    assert!(rt; answered);
+    assert!(rt; told? == (0, 1, 5, 0));
     Ok(())
 }
 

@@ -1,11 +1,10 @@
 -- A book that sessions ask goes on by runs
-use Rattle.std.proofs.Common.{◌≡◌, ℕ, ◌+◌, Bool, List, [], ◌∷◌, ◌++◌, length, Option, None, Result, Ok, Err, refl, sym, ap, ◌∙◌, subst, inl, inr, append_assoc, append-nil, length-append, arith}
+use Rattle.std.proofs.Common.{◌≡◌, ℕ, List, [], ◌∷◌, ◌++◌, length, Result, Ok, Err, refl, sym, ap, ◌∙◌, subst, inl, inr, append_assoc, append-nil, length-append, arith}
 use Rattle.std.specs.Prelude.{cond}
 use Rattle.std.proofs.lemmas.Bool.Decides.{eqb_tells}
 use Rattle.eu_base.specs.declared.faults.Fault.{Fault}
 use Rattle.eu_book.specs.Account.{Account, cleared, entry, grown, most_entries, ready}
 use Rattle.eu_book.proofs.HistoryLemmas.{run_on}
-use Rattle.eu_framing.specs.declared.request.Request.{Request}
 use Rattle.eu_http.specs.declared.exchange.Answer.{Answer}
 use Rattle.eu_http.specs.declared.exchange.Answer.TheVariants.{Did, Saw}
 use Rattle.eu_http.specs.declared.exchange.Ask.{Ask}
@@ -15,12 +14,10 @@ use Rattle.eu_http.specs.declared.exchange.Outcome.TheVariants.{Refused, Forbidd
 use Rattle.eu_model.specs.declared.commands.Entry.{Entry}
 use Rattle.eu_model.specs.Server.{PlainServer}
 use Rattle.eu_model.specs.ServerAnswers as model
-use Rattle.eu_session.specs.declared.faults.SessionFault.{SessionFault}
-use Rattle.eu_session.specs.declared.faults.SessionFault.TheVariants.{Read, Write, OutOfMemory}
 use Rattle.eu_session.specs.Book.{BookAsks, BookTurns, BookSession, GrewBy, RunsFrom, entry_of, entries_of, AddsTurn, AddTurns}
-use Rattle.eu_session.specs.Chain.{Chain, Pairs}
-use Rattle.eu_session.specs.Session.{Ends}
+use Rattle.eu_session.specs.Chain.{Pairs}
 use Rattle.eu_session.specs.Turn.{State, Turn, Step, ComesOf}
+use Rattle.eu_session.proofs.KeepLemmas.{session_keeps}
 
 stays : (a b : Account) → b ≡ a → GrewBy a [] b
 stays a b e = subst (GrewBy a []) (sym e) (record { dropped = []; more = sym (append-nil a.entries); begins = λ _. (refl, refl); steps = omega (arith); run = λ s at. (s, refl, at) })
@@ -112,30 +109,14 @@ module _ {C : Type 0} (tells : C → ℕ → C → Type 0) where
         goes_on old.desk mid.desk new.desk here.0 others.0 here.2 others.2,
       )
 
-  -- it went on by some entries
-  abbrev Grew : Account → Account → Type 0
-  Grew a b = (entries : List Entry) × GrewBy a entries b
+-- it went on by some entries
+abbrev Grew : Account → Account → Type 0
+Grew a b = (entries : List Entry) × GrewBy a entries b
 
-  same : (a b : Account) → b ≡ a → Grew a b
-  same a b e = ([], stays a b e)
-
-  by_turn : (old new : State Account C) (t : Turn) → Steps old t new → Grew old.desk new.desk
-  by_turn old new t step = let adds = turn old new t step in (adds.0, adds.2)
-
-  ends : (n : ℕ) (old new : State Account C) (before after : Option (List ℕ)) (failed_reader failed_writer : Bool) (result : Result ℕ SessionFault)
-      → Ends (λ s ask m r s'. BookAsks s ask m r s') tells n old new before after failed_reader failed_writer result → Grew old.desk new.desk
-  ends n old new before after failed_reader failed_writer (Ok m) (inl e) = same old.desk new.desk e.1.untouched.desk_is
-  ends n old new before after failed_reader failed_writer (Ok m) (inr (is, inl closes)) = by_turn old new closes.turn closes.step
-  ends n old new before after failed_reader failed_writer (Ok m) (inr (is, inr refuses)) = same old.desk new.desk refuses.untouched.desk_is
-  ends n old new before after failed_reader failed_writer (Err Read) e = same old.desk new.desk e.1.desk_is
-  ends n old new before after failed_reader failed_writer (Err Write) (failed, inl loses) = by_turn old new loses.turn loses.step
-  ends n old new before after failed_reader failed_writer (Err Write) (failed, inr loses) = same old.desk new.desk loses.untouched.desk_is
-  ends n old new before after failed_reader failed_writer (Err OutOfMemory) (keeps, inl untouched) = same old.desk new.desk untouched.desk_is
-  ends n old new before after failed_reader failed_writer (Err OutOfMemory) (keeps, inr (inl unasked)) = same old.desk new.desk unasked.desk_is
-  ends n old new before after failed_reader failed_writer (Err OutOfMemory) (keeps, inr (inr (t, step))) = by_turn old new t step
-
-  pub book_session : BookSession tells
-  book_session old new before after failed_reader failed_writer result session =
-      let answered = book_turns old session.last session.goes_on.turns session.goes_on.chain in
-      let ended = ends session.n session.last _ session.held after failed_reader failed_writer result session.ends in
-      (answered.0 ++ ended.0, goes_on old.desk session.last.desk new.desk answered.0 ended.0 answered.2 ended.1)
+pub book_session : {C : Type 0} (tells : C → ℕ → C → Type 0) → BookSession tells
+book_session tells old new before after failed_reader failed_writer result session =
+    session_keeps (λ a ask t r b. BookAsks a ask t r b) Grew
+    (λ a b e. ([], stays a b e))
+    (λ a b c one two. (one.0 ++ two.0, goes_on a b c one.0 two.0 one.1 two.1))
+    (λ a ask t r b is. (entry_of a.totals.steps t ask r, asks a b ask t r is))
+    tells old new before after failed_reader failed_writer result session

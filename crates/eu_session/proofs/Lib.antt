@@ -1,5 +1,6 @@
 mod BookLemmas
 pub mod ChainLemmas
 mod FaultLemmas
+pub mod KeepLemmas
 mod SessionLemmas
 mod TurnLemmas

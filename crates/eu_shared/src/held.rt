@@ -235,8 +235,8 @@ impl<K: Label> Held<K> {
     }
 
     /// Begins the journal anew (`Book::checkpoint`), for a pass, which has seen then where it begins. Registry, queues, totals, and
-    /// the pass's log and tallies stay; it keeps the journal as it was until it is answered again or makes another checkpoint. `AllocError` where no memory is
-    /// left, which changes neither the book nor the pass.
+    /// the pass's log and tallies stay; the pass keeps the journal as it was until it is answered again or makes another checkpoint.
+    /// `AllocError` where no memory is left, which changes neither the book nor the pass.
     pub fn checkpoint(&mut self, alloc: Global, pass: &mut Pass<K>) -> Result<(), AllocError>
         ensures book { OnOk result (self.new ≡ record { book = cleared self.old.book; made = self.old.made }) }
         ensures pass { OnOk result (pass.new ≡ shown pass.old self.old.book.totals.steps) }

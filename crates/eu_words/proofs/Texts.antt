@@ -1,11 +1,15 @@
 -- Words cut at spaces, digits, and names
-use Rattle.std.proofs.Common.{◌≡◌, ℕ, zero, suc, ◌+◌, ◌-◌, ◌*◌, ◌^◌, ◌<◌, ◌≤◌, Bool, true, false, ◌&&◌, List, [], ◌∷◌, length, get_or, take, drop, refl, arith, None, nat_lt, nat_le, ◌==◌, cond, eq-eqb}
-use Rattle.std.proofs.lemmas.Bool.{ne_eqb, false_from_ne_true, leb-true}
+use Rattle.std.proofs.Common.{◌≡◌, ℕ, zero, suc, ◌+◌, ◌-◌, ◌*◌, ◌^◌, ◌<◌, ◌≤◌, Bool, true, false, ◌&&◌, List, [], ◌∷◌, length, get_or, take, drop, refl, sym, ap, ◌∙◌, arith, None, nat_lt, nat_le, ◌==◌, cond, eq-eqb}
+use Rattle.std.proofs.lemmas.Bool.{ne_eqb, false_from_ne_true, false≢true, leb-true}
 use Rattle.std.proofs.lemmas.Str.{IsUtf8-from_is_utf8, is_utf8-from_IsUtf8, digit_value_digit}
 use Rattle.std.proofs.Math.Nat.{pow-suc}
 use Rattle.std.specs.List.{onto_first}
 use Rattle.std.specs.Str.{all_ascii_digits, is_utf8, IsUtf8}
 use Rattle.std.specs.Char.{is_ascii_digit, digit_value}
+use Rattle.std.specs.Prelude.{Result, Ok, Err}
+use Rattle.eu_base.specs.declared.faults.Fault.{Fault}
+use Rattle.eu_base.specs.declared.faults.Fault.TheVariants as faults
+use Rattle.eu_base.specs.Fault.{fault_number}
 use Rattle.eu_words.specs.Words.{words_of, end_at, is_name, number}
 
 -- the first word ends before the first space
@@ -89,3 +93,13 @@ some_length w low high u = rw (is_utf8-from_IsUtf8 w u) (grind arith)
 pub some_name : (w : List ℕ) → (w ≡ [] → ⊥) → (255 < length w → ⊥) → IsUtf8 w → is_name w ≡ true
 some_name [] filled short u = absurd (filled refl)
 some_name (x ∷ xs) filled short u = some_length (x ∷ xs) (omega arith) (omega (arith, short)) u
+
+abbrev number_in : {X : Type 0} → Result X Fault → ℕ
+number_in (Ok x) = 0
+number_in (Err f) = fault_number f
+
+-- want of memory is no other fault
+pub other_faults : {X : Type 0} (r : Result X Fault) (f g : Fault) → r ≡ Err f → f ≡ faults.OutOfMemory → (fault_number g == 3) ≡ false → r ≡ Err g → ⊥
+other_faults {X} r f g is memory other e =
+    let at : fault_number g ≡ 3 = sym (ap (λ (x : Result X Fault). number_in x) e) ∙ ap (λ (x : Result X Fault). number_in x) is ∙ ap fault_number memory in
+    false≢true (sym other ∙ eq-eqb (fault_number g) 3 at)

@@ -1,5 +1,5 @@
 //! The words of a line.
-ghost use Rattle.std.specs.Prelude.{◌≡◌, ◌≢◌, ◌∷◌, ◌^◌, ◌<◌, ◌≤◌, List, ℕ, IfOk, Err};
+ghost use Rattle.std.specs.Prelude.{◌≡◌, ◌≢◌, ◌∷◌, ◌^◌, ◌<◌, ◌≤◌, List, ℕ, IfOk, IsSome, Err};
 ghost use Rattle.std.specs.Str.{bytes_eq};
 ghost use Rattle.eu_words.specs.Words.{words_of, words_left, number, Gives, word_at, absent_at, number_at, moment_at, app_at, id_at, key_at, status_at, maybe_status_at, secs_at, number_of, stamp_at, dirty_at, source_at, peers_at, peer_at, code_at, codes_of, IsCodes, end_at};
 
@@ -152,10 +152,11 @@ impl<'a> Words<'a> {
         Moment::new(ms).ok_or(LineError::Bad)
     }
 
-    /// An application, else `Bad`; `OutOfMemory`.
+    /// An application, else `Bad`; `OutOfMemory`, where the word is one.
     #[tactic(auto, unfolding(crate::specs::Words::app_at))]
     pub fn app_at(&mut self, alloc: Global) -> Result<App, LineError>
-        ensures { Gives (λ a. a) result self.new (app_at self.old) }
+        ensures said { Gives (λ a. a) result self.new (app_at self.old) }
+        ensures memory { result ≡ Err LineError.OutOfMemory → IsSome (app_at self.old) }
     {
         let word = self.next_word()?;
         let Ok(text) = str::from_utf8(word) else {
@@ -168,10 +169,11 @@ impl<'a> Words<'a> {
         }
     }
 
-    /// The id of an instance, else `Bad`; `OutOfMemory`.
+    /// The id of an instance, else `Bad`; `OutOfMemory`, where the word is one.
     #[tactic(auto, unfolding(crate::specs::Words::id_at))]
     pub fn id_at(&mut self, alloc: Global) -> Result<Id, LineError>
-        ensures { Gives (λ i. i) result self.new (id_at self.old) }
+        ensures said { Gives (λ i. i) result self.new (id_at self.old) }
+        ensures memory { result ≡ Err LineError.OutOfMemory → IsSome (id_at self.old) }
     {
         let word = self.next_word()?;
         let Ok(text) = str::from_utf8(word) else {

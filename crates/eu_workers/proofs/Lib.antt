@@ -1,4 +1,4 @@
 pub mod TimerLemmas
 pub mod Crossing
 pub mod AllLemmas
-pub mod TrimLemmas
+pub mod TurnLemmas

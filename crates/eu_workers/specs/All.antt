@@ -8,16 +8,24 @@ use Rattle.eu_workers.specs.declared.all.Work.TheVariants.{Sessions, Evictor, Bu
 use Rattle.eu_workers.specs.declared.all.Worker.{Worker}
 use Rattle.eu_workers.specs.declared.all.Worker.TheVariants.{Ready, Numbered, Done}
 use Rattle.eu_workers.specs.declared.ended.Ended.{Ended}
-use Rattle.eu_workers.specs.Ended.{IsWithin}
+use Rattle.eu_workers.specs.Returned.{TakesTurns}
 use Rattle.eu_workers.specs.Timers.{AsksOnly}
 
 -- what a worker did with its pass, by its work
 abbrev pub IsWorked : {S H P : Type 0} → Work S H P → ℕ → Caller → Caller → Ended → Type 0
-IsWorked (Sessions source) limit p q e = IsWithin limit e
+IsWorked (Sessions source) limit p q e = TakesTurns limit p q e
 IsWorked (Evictor chooser) limit p q e = AsksOnly Evict limit p q e
 IsWorked Bucket limit p q e = AsksOnly Roll limit p q e
 IsWorked Threshold limit p q e = AsksOnly Update limit p q e
-IsWorked (Replicator number peer) limit p q e = IsWithin limit e
+IsWorked (Replicator number peer) limit p q e = TakesTurns limit p q e
+
+-- what is left of a work is one of its kind
+abbrev pub IsLeftOf : {S H P : Type 0} → Work S H P → Work S H P → Type 0
+IsLeftOf {S} {H} {P} (Sessions source) left = (s : S) × (left ≡ Sessions s)
+IsLeftOf {S} {H} {P} (Evictor chooser) left = (h : H) × (left ≡ Evictor h)
+IsLeftOf {S} {H} {P} Bucket left = left ≡ Bucket
+IsLeftOf {S} {H} {P} Threshold left = left ≡ Threshold
+IsLeftOf {S} {H} {P} (Replicator number peer) left = (p : P) × (left ≡ Replicator number p)
 
 module _ {K S C H P : Type 0} where
   -- a job was done so
@@ -26,7 +34,7 @@ module _ {K S C H P : Type 0} where
 
   -- a worker that did its job, and gives back with what it worked
   abbrev pub DidJob : Job K S C H P → Worker K S C H P → Type 0
-  DidJob job w = (q : Caller) × (e : Ended) × (left : Work S H P) × (w ≡ Done q e left) × IsDoneBy job q e
+  DidJob job w = (q : Caller) × (e : Ended) × (left : Work S H P) × (w ≡ Done q e left) × IsDoneBy job q e × IsLeftOf job.work left
 
   -- a worker is numbered, if it is ready
   abbrev pub IsNumbered : Worker K S C H P → Worker K S C H P → Type 0

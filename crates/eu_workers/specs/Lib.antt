@@ -1,4 +1,4 @@
 pub mod Ended
-pub mod Trims
+pub mod Returned
 pub mod Timers
 pub mod All

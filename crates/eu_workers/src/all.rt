@@ -1,6 +1,6 @@
 //! All workers of a server, each in a thread of its own.
 ghost use Rattle.std.specs.Prelude.{◌≡◌, ℕ, ◌<◌, length, slice_index_or};
-ghost use Rattle.eu_workers.specs.All.{HasRun, IsEnded, IsNumbered, IsWorked};
+ghost use Rattle.eu_workers.specs.All.{HasRun, IsEnded, IsLeftOf, IsNumbered, IsWorked};
 
 use crate::ended::Ended;
 use crate::replicator::run_replicator;
@@ -115,7 +115,8 @@ fn take_turns<K: Label, R: Wait, G: Gate, S: Source, C: Clock, H: Chooser, P: Pe
     clock: &mut C,
     limit: u64,
 ) -> (Pass<K>, Ended)
-    ensures { IsWorked work.old limit pass result.0 result.1 }
+    ensures done { IsWorked work.old limit pass result.0 result.1 }
+    ensures left { IsLeftOf work.old work.new }
 {
     match work {
         Work::Sessions { source } => run_sessions(site, who, pass, source, clock, limit),
@@ -194,8 +195,8 @@ fn run_each<
 }
 
 /// Has each worker that is ready, or has its number already, do its job, in a thread of its own, and returns when all have ended. Where
-/// no thread can be made the jobs are done one after another, in their order; where some can, those that have none are done after those
-/// before them. Takes no memory.
+/// no thread can be made the jobs are done one after another, in their order; where some can, nothing is said of the order of the others.
+/// Takes no memory.
 ///
 /// Session workers that are ready are numbered from 1, in their order. Workers that are at work, or done, stay as they are.
 ///

@@ -1,6 +1,5 @@
 //! Workers that tell a peer what waits for it.
-ghost use Rattle.eu_workers.specs.Ended.{IsWithin};
-ghost use Rattle.eu_workers.specs.Trims.{IsTrimmed};
+ghost use Rattle.eu_workers.specs.Returned.{HasTurn, TakesTurns};
 
 use crate::ended::Ended;
 use crate::site::Site;
@@ -19,7 +18,7 @@ fn turn<K: Label, R: Wait, G: Gate, P: Peer, C: Clock>(
     peer: &mut P,
     clock: &mut C,
 ) -> bool
-    ensures { IsTrimmed seat.new.pass }
+    ensures { HasTurn seat.old.pass seat.new.pass }
 {
     let sent = replicate_turn(site.alloc, seat, number, peer, clock);
     seat.pass.trim();
@@ -39,7 +38,7 @@ pub fn run_replicator<K: Label, R: Wait, G: Gate, P: Peer, C: Clock>(
     clock: &mut C,
     limit: u64,
 ) -> (Pass<K>, Ended)
-    ensures { IsWithin limit result.1 }
+    ensures { TakesTurns limit pass result.0 result.1 }
 {
     let mut seat = Seat {
         pass,

@@ -1,7 +1,6 @@
 //! Workers that serve sessions.
 ghost use Rattle.std.specs.Prelude.{◌≡◌};
-ghost use Rattle.eu_workers.specs.Ended.{IsWithin};
-ghost use Rattle.eu_workers.specs.Trims.{IsTrimmed};
+ghost use Rattle.eu_workers.specs.Returned.{HasTurn, IsAsked, TakesTurns};
 
 use crate::ended::Ended;
 use crate::gated::{GatedSink, GatedSource};
@@ -22,7 +21,9 @@ fn serve<K: Label, R: Wait, G: Gate, C: Clock, I: Read, O: Write>(
     clock: &mut C,
     reader: &mut I,
     writer: &mut O,
-) -> Result<u32, SessionFault> {
+) -> Result<u32, SessionFault>
+    ensures { IsAsked seat.old.pass seat.new.pass }
+{
     let mut source = GatedSource::new(reader, site.gate, who);
     let mut sink = GatedSink::new(writer, site.gate, who);
     serve_session(site.alloc, site.routes, seat, clock, &mut source, &mut sink)
@@ -37,7 +38,7 @@ fn turn<K: Label, R: Wait, G: Gate, S: Source, C: Clock>(
     source: &mut S,
     connection: (S::Reader, S::Writer),
 ) -> bool
-    ensures { IsTrimmed seat.new.pass }
+    ensures { HasTurn seat.old.pass seat.new.pass }
 {
     let (mut reader, mut writer) = connection;
     let served = serve(site, who, seat, clock, &mut reader, &mut writer);
@@ -60,7 +61,7 @@ pub fn run_sessions<K: Label, R: Wait, G: Gate, S: Source, C: Clock>(
     clock: &mut C,
     limit: u64,
 ) -> (Pass<K>, Ended)
-    ensures { IsWithin limit result.1 }
+    ensures { TakesTurns limit pass result.0 result.1 }
 {
     let mut seat = Seat {
         pass,

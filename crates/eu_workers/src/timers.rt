@@ -1,7 +1,8 @@
 //! Workers that ask for the same command, turn after turn.
 ghost use Rattle.std.specs.Prelude.{◌≡◌};
 ghost use Rattle.eu_model.specs.declared.commands.Command.TheVariants as command;
-ghost use Rattle.eu_workers.specs.Timers.{command_of, is_due_after, AsksOnly, Tidies};
+ghost use Rattle.eu_workers.specs.Returned.{Tidies};
+ghost use Rattle.eu_workers.specs.Timers.{command_of, is_due_after, AsksOnly};
 
 use crate::ended::Ended;
 use crate::site::Site;

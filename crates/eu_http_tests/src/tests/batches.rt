@@ -405,6 +405,29 @@ fn tasks_are_written(rt: HostRuntime) {
     assert!(rt; is_task(rt.alloc(), Action::StatusUpdate, down, true, text) == Ok(true));
 }
 
+/// Whether that is what is written of three tasks on lease A/i1: a heartbeat, the end of an override, and a cancel.
+fn are_tasks(alloc: Global, text: &str) -> Result<bool, Fault> {
+    let mut tasks = Vec::new(alloc);
+    tasks.push(task(alloc, Action::Heartbeat, None, true)?)?;
+    tasks.push(task(
+        alloc,
+        Action::DeleteStatusOverride,
+        Some(Status::Starting),
+        true,
+    )?)?;
+    tasks.push(task(alloc, Action::Cancel, None, false)?)?;
+    let written = batch_text(alloc, &tasks);
+    drop(tasks);
+    Ok(written?.as_str() == text)
+}
+
+#[test]
+fn tasks_are_written_in_order(rt: HostRuntime) {
+    let text =
+        r#"{"replicationList":[{"action":"Heartbeat","appName":"A","id":"i1","lastDirtyTimestamp":"5","overriddenStatus":"UNKNOWN","status":"UP"},{"action":"DeleteStatusOverride","appName":"A","id":"i1","lastDirtyTimestamp":"5","overriddenStatus":"UNKNOWN","status":"STARTING"},{"action":"Cancel","appName":"A","id":"i1"}]}"#;
+    assert!(rt; are_tasks(rt.alloc(), text) == Ok(true));
+}
+
 /// Whether a batch is one registration by a peer, of an instance of which that is written.
 fn registers(alloc: Global, batch: &str, text: &str) -> Result<bool, Fault> {
     let commands = read(alloc, batch)?;

@@ -121,4 +121,6 @@ fn a_pass_may_evict_all_but_the_percentage(rt: HostRuntime) {
     assert_eq!(rt; evict_limit(4, 0), 4);
     assert_eq!(rt; evict_limit(4, 100), 0);
     assert_eq!(rt; evict_limit(10, 85), 2);
+    assert_eq!(rt; evict_limit(usize::MAX, 0), usize::MAX);
+    assert_eq!(rt; evict_limit(usize::MAX, 101), 0);
 }

@@ -402,20 +402,6 @@ const LOOK: &str = "GET /eureka/status HTTP/1.1\r\nHost: x\r\nConnection: close\
 const LOOKED: &str =
     "HTTP/1.1 200 OK\r\nContent-Type: text/plain; charset=utf-8\r\nContent-Length: 79\r\nConnection: close\r\n\r\nheld 0\nexpected 7\nthreshold 10\nlast 0\npreservation off\npermitted yes\nstatuses \n";
 
-/// A connection to that address, once somebody listens there.
-fn connect<R: Net<Stream = TcpStream> + Clock>(
-    rt: &R,
-    address: SocketAddr,
-) -> io::Result<TcpStream> {
-    for _turn in 0..1_000 {
-        if let Ok(stream) = TcpStream::connect(rt, address) {
-            return Ok(stream);
-        }
-        thread::sleep(rt, Duration::from_millis(10));
-    }
-    TcpStream::connect(rt, address)
-}
-
 /// What a client reads of its connection that sends a request.
 fn answered(alloc: Global, stream: TcpStream, request: &str) -> io::Result<Vec<u8>> {
     let mut stream = stream;
@@ -424,62 +410,6 @@ fn answered(alloc: Global, stream: TcpStream, request: &str) -> io::Result<Vec<u
     let mut answer = Vec::new(alloc);
     stream.read_to_end(&mut answer)?;
     Ok(answer)
-}
-
-/// What a client reads that asks for the status page.
-fn look<R: Net<Stream = TcpStream> + Clock>(
-    rt: &R,
-    alloc: Global,
-    address: SocketAddr,
-) -> io::Result<Vec<u8>> {
-    let stream = connect(rt, address)?;
-    answered(alloc, stream, LOOK)
-}
-
-/// A run of a server for one client, and what that reads.
-fn run_server<R: Threads + Wait + Clock + Net<Listener = TcpListener, Stream = TcpStream> + Sync>(
-    rt: &R,
-    alloc: Global,
-    port: &str,
-    address: SocketAddr,
-) -> (Ran, io::Result<Vec<u8>>) {
-    let words = [
-        "eureka",
-        "serve",
-        "--port",
-        port,
-        "--sessions",
-        "1",
-        "--expected",
-        "7",
-        "--preservation",
-        "off",
-        "--percent",
-        "50",
-        "--interval",
-        "20",
-    ];
-    thread::join(
-        rt,
-        || run(rt, alloc, words.as_slice(), ""),
-        || look(rt, alloc, address),
-    )
-}
-
-#[test]
-fn a_server_goes_by_its_options(rt: HostRuntime) -> Result<(), Fail> {
-    let free = TcpListener::bind(&rt, "127.0.0.1:0")?;
-    let address = free.local_addr()?;
-    drop(free);
-    let alloc = rt.alloc();
-    let port = format!(in alloc; "{}", address.port())?;
-    let (ran, answer) = run_server(&rt, alloc, &port, address);
-    assert!(rt; answer?.as_slice() == LOOKED.as_bytes());
-    assert!(rt; ran.status == 0);
-    assert!(rt; ran.out.as_slice() == b"served 1\n".as_slice());
-    let told = format!(in alloc; "listening on 127.0.0.1:{port}\n")?;
-    assert!(rt; ran.err.as_slice() == told.as_bytes());
-    Ok(())
 }
 
 /// The port of the line that a server writes once it listens.
@@ -498,6 +428,52 @@ fn address_told<R: Wait + Clock>(machine: &Machine<'_, R>) -> io::Result<SocketA
         thread::sleep(machine.rt, Duration::from_millis(10));
     }
     Err(Error::from(ErrorKind::TimedOut))
+}
+
+/// What a client of a machine's server reads that asks for the status page.
+fn look<R: Wait + Clock + Net<Stream = TcpStream>>(
+    machine: &Machine<'_, R>,
+) -> io::Result<Vec<u8>> {
+    let address = address_told(machine)?;
+    let stream = TcpStream::connect(machine.rt, address)?;
+    answered(machine.alloc, stream, LOOK)
+}
+
+/// A run of a server with these words for one client, and what that reads.
+fn run_server<R: Threads + Wait + Clock + Net<Listener = TcpListener, Stream = TcpStream> + Sync>(
+    rt: &R,
+    alloc: Global,
+    words: &[&str],
+) -> (Ran, io::Result<Vec<u8>>) {
+    let machine = prepared(rt, alloc, words, "", Broken::Nothing);
+    let (status, answer) = thread::join(rt, || start(&machine), || look(&machine));
+    (kept_by(machine, status), answer)
+}
+
+#[test]
+fn a_server_goes_by_its_options(rt: HostRuntime) -> Result<(), Fail> {
+    let words = [
+        "eureka",
+        "serve",
+        "--port",
+        "0",
+        "--sessions",
+        "1",
+        "--expected",
+        "7",
+        "--preservation",
+        "off",
+        "--percent",
+        "50",
+        "--interval",
+        "20",
+    ];
+    let (ran, answer) = run_server(&rt, rt.alloc(), words.as_slice());
+    assert!(rt; answer?.as_slice() == LOOKED.as_bytes());
+    assert!(rt; ran.status == 0);
+    assert!(rt; ran.out.as_slice() == b"served 1\n".as_slice());
+    assert!(rt; port_of(ran.err.as_slice()) != None);
+    Ok(())
 }
 
 /// Whether a new client that sends a request is answered at once, by an answer of that status.
@@ -543,6 +519,42 @@ fn is_gone<R: Net<Stream = TcpStream> + Clock>(
         "GET /eureka/apps/A/{id} HTTP/1.1\r\nHost: x\r\nConnection: close\r\n\r\n"
     )?;
     is_told(rt, alloc, address, &request, "HTTP/1.1 404 ")
+}
+
+/// A renewal of a lease that isn't there.
+const RENEWAL: &str = "PUT /eureka/apps/A/zz HTTP/1.1\r\nHost: x\r\nConnection: close\r\n\r\n";
+
+/// A run of a server of two sessions, and whether two clients at once are told that one has registered, and that what the other renews
+/// isn't held.
+fn run_for_two<R: Threads + Wait + Clock + Net<Listener = TcpListener, Stream = TcpStream> + Sync>(
+    rt: &R,
+    alloc: Global,
+) -> (Ran, io::Result<(bool, bool)>) {
+    let words = ["eureka", "serve", "--port", "0", "--sessions", "2"];
+    let machine = prepared(rt, alloc, words.as_slice(), "", Broken::Nothing);
+    let (status, told) = thread::join(
+        rt,
+        || start(&machine),
+        || {
+            let address = address_told(&machine)?;
+            let (registered, renewed) = thread::join(
+                rt,
+                || is_registered(rt, alloc, address, "i1"),
+                || is_told(rt, alloc, address, RENEWAL, "HTTP/1.1 404 "),
+            );
+            Ok((registered?, renewed?))
+        },
+    );
+    (kept_by(machine, status), told)
+}
+
+#[test]
+fn two_clients_are_served_at_once(rt: HostRuntime) -> Result<(), Fail> {
+    let (ran, told) = run_for_two(&rt, rt.alloc());
+    assert!(rt; told? == (true, true));
+    assert!(rt; ran.status == 0);
+    assert!(rt; ran.out.as_slice() == b"served 2\n".as_slice());
+    Ok(())
 }
 
 /// The page of that server, where two of four leases have gone.

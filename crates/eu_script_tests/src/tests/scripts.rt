@@ -468,7 +468,7 @@ fn a_pass_evicts_many(rt: HostRuntime) {
     assert!(rt; joined_prints(rt.alloc(), false, 0, 300, MANY, MANY_PRINTED) == Ok(true));
 }
 
-const BAD: [(&[u8], &[u8], u64); 61] = [
+const BAD: [(&[u8], &[u8], u64); 64] = [
     (
         b"open 1\nregister 0 A i1 90 UP UNKNOWN 0 c\nrenew 0 A\n",
         b"opened\n204\n",
@@ -543,6 +543,9 @@ const BAD: [(&[u8], &[u8], u64); 61] = [
     (b"open 1\nroll 0 0\n", b"opened\n", 2),
     (b"open 1\nupdate c\n", b"opened\n", 2),
     (b"open 1\nlook 0 A\n", b"opened\n", 2),
+    (b"open 1\nlook 0 A \n", b"opened\n", 2),
+    (b"open 1\nlook 0  i1\n", b"opened\n", 2),
+    (b"open 1\nlook 0 \xff i1\n", b"opened\n", 2),
     (b"open 1\nlook 0 A i1 c\n", b"opened\n", 2),
     (b"open 1\nevict 0 0\n", b"opened\n", 2),
     (b"open 1\npage\n", b"opened\n", 2),
@@ -584,35 +587,39 @@ fn bad_lines_are_told(rt: HostRuntime) {
     }
 }
 
-/// A script that registers a client of an application with a name of so many bytes.
-fn named(alloc: Global, length: usize) -> Result<Vec<u8>, AllocError> {
+/// A script that registers a client, whose application and id have names of so many bytes.
+fn named(alloc: Global, app: usize, id: usize) -> Result<Vec<u8>, AllocError> {
     let mut text = Vec::from_slice(alloc, b"open 1\nregister 0 ")?;
-    text.extend_from_slice(vec![in alloc; b'x'; length]?.as_slice())?;
-    text.extend_from_slice(b" i1 90 UP UNKNOWN 0 c\n")?;
+    text.extend_from_slice(vec![in alloc; b'x'; app]?.as_slice())?;
+    text.push(b' ')?;
+    text.extend_from_slice(vec![in alloc; b'y'; id]?.as_slice())?;
+    text.extend_from_slice(b" 90 UP UNKNOWN 0 c\n")?;
     Ok(text)
 }
 
 /// Whether that ends so and prints this.
 fn named_ends(
     alloc: Global,
-    length: usize,
+    app: usize,
+    id: usize,
     wanted: Result<(), ScriptFault>,
     printed: &[u8],
 ) -> Result<bool, AllocError> {
-    let text = named(alloc, length)?;
+    let text = named(alloc, app, id)?;
     Ok(ends(alloc, &mut text.as_slice(), wanted, printed))
 }
 
 #[test]
 fn names_have_a_longest(rt: HostRuntime) {
     let cases = [
-        (255usize, Ok(()), b"opened\n204\n".as_slice()),
-        (256, Err(ScriptFault::BadLine(2)), b"opened\n"),
+        (255usize, 255usize, Ok(()), b"opened\n204\n".as_slice()),
+        (256, 1, Err(ScriptFault::BadLine(2)), b"opened\n"),
+        (1, 256, Err(ScriptFault::BadLine(2)), b"opened\n"),
     ];
-    for (length, wanted, printed) in cases {
+    for (app, id, wanted, printed) in cases {
         assert!(rt;
-            named_ends(rt.alloc(), length, wanted, printed) == Ok(true),
-            "at {length}"
+            named_ends(rt.alloc(), app, id, wanted, printed) == Ok(true),
+            "at {app}, {id}"
         );
     }
 }

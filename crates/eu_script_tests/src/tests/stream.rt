@@ -1,6 +1,4 @@
-use eu_stream::{
-    Discarding, MOST_TRIES, ReadFault, Reading, Sink, Source, WriteFault, Writing, write_whole,
-};
+use eu_stream::{Discarding, ReadFault, Reading, Sink, Source, WriteFault, Writing, write_whole};
 use std::alloc::Global;
 use std::io::{self, Error, ErrorKind, Read, Write};
 
@@ -79,7 +77,7 @@ fn come<S: Source>(source: &mut S) -> Result<(usize, u8), ReadFault> {
 #[test]
 fn a_reader_is_tried_again_and_then_fails(rt: HostRuntime) {
     let mut reader = Shaky {
-        interruptions: MOST_TRIES - 1,
+        interruptions: 15,
         bytes: b"ab".as_slice(),
     };
     let mut reading = Reading::new(&mut reader);
@@ -104,12 +102,12 @@ fn interrupted(alloc: Global, interruptions: usize) -> (Result<usize, WriteFault
 #[test]
 fn too_many_interruptions_are_a_failure(rt: HostRuntime) {
     let mut reader = Shaky {
-        interruptions: MOST_TRIES,
+        interruptions: 16,
         bytes: b"ab".as_slice(),
     };
     assert!(rt; come(&mut Reading::new(&mut reader)) == Err(ReadFault));
-    assert!(rt; interrupted(rt.alloc(), MOST_TRIES) == (Err(WriteFault), 0));
-    assert!(rt; interrupted(rt.alloc(), MOST_TRIES - 1) == (Ok(1), 1));
+    assert!(rt; interrupted(rt.alloc(), 16) == (Err(WriteFault), 0));
+    assert!(rt; interrupted(rt.alloc(), 15) == (Ok(1), 1));
 }
 
 /// Fails at its first call with such an error, and does well after that.

@@ -72,7 +72,8 @@ fn a_list_of_moments_is_told_and_its_last_one_stays(rt: HostRuntime) {
     assert!(rt; moments_of(rt.alloc(), &[]) == Ok((0, 0, 0)));
 }
 
-/// A machine whose clock fails at first, then reads 1.5 s, a time too far away, nothing, and 0.9 s from there on.
+/// A machine whose clock fails at first, then reads 1.5 s, times too far away (by far, and by one millisecond), nothing, the last moment, and
+/// 0.9 s from there on.
 #[derive(Drop)]
 struct Machine {
     reads: Cell<u32>,
@@ -89,7 +90,9 @@ impl rt::Clock for Machine {
         match read {
             1 => Ok(Duration::from_millis(1_500)),
             2 => Ok(Duration::from_secs(1 << 62)),
-            0 | 3 => Err(Error::from(ErrorKind::Unsupported)),
+            3 => Ok(Duration::from_millis((1 << 62) + 1)),
+            5 => Ok(Duration::from_millis(1 << 62)),
+            0 | 4 => Err(Error::from(ErrorKind::Unsupported)),
             _ => Ok(Duration::from_millis(900)),
         }
     }
@@ -101,7 +104,7 @@ fn a_machine_whose_clock_fails_tells_its_last_moment(rt: HostRuntime) {
         reads: Cell::new(0),
     };
     let mut clock = SystemClock::new(&machine);
-    for ms in [0, 1_500, 1_500, 1_500, 900] {
+    for ms in [0, 1_500, 1_500, 1_500, 1_500, 1 << 62, 900] {
         assert_eq!(rt; clock.now().ms(), ms);
     }
 }

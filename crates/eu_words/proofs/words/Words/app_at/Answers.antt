@@ -1,15 +1,28 @@
 use Rattle.std.proofs.Common.{◌∙◌, refl}
+use Rattle.eu_base.specs.declared.faults.Fault.TheVariants as faults
 use Rattle.eu_words.specs.Words.{app_at}
-use Rattle.eu_words.proofs.Texts.{no_name, some_name}
+use Rattle.eu_words.proofs.Texts.{no_name, other_faults, some_name}
 use Rattle.eu_words.proofs.words.Words.app_at.Goals as goal
 
-pub returns-in_default : goal.returns-in_default
+pub returns-in_default-clause-said : goal.returns-in_default-clause-said
 unfolding app_at
-returns-in_default c = rw (c.in_ok-word.ensures.said, no_name _ c.in_default.ensures.cases.0) refl
+returns-in_default-clause-said c = rw (c.in_ok-word.ensures.said, no_name _ c.in_default.ensures.cases.0) refl
 
-pub returns-in-Ok-read : goal.returns-in-Ok-read
+pub returns-in-Ok-read-clause-said : goal.returns-in-Ok-read-clause-said
 unfolding app_at
-returns-in-Ok-read c =
+returns-in-Ok-read-clause-said c =
     let utf8 = c.in-Ok.ensures.cases in
     let read = c.in-Ok-read.ensures in
     rw (c.in_ok-word.ensures.said, some_name _ (λ e. let h = read.empty.1 (utf8.0 ∙ e) in cc) (λ e. let h = read.too_long.1 (rw utf8.0 e) in cc) utf8.1, read.value, utf8.0) refl
+
+pub returns-in-Err-OutOfMemory-clause-memory : goal.returns-in-Err-OutOfMemory-clause-memory
+unfolding app_at
+returns-in-Err-OutOfMemory-clause-memory c =
+    let utf8 = c.in-Ok.ensures.cases in
+    let read = c.read.ensures in
+    let fault = c.in-Err-OutOfMemory in
+    λ _. rw (
+      c.in_ok-word.ensures.said,
+      some_name _ (λ e. other_faults c.read.result _ faults.Empty fault.is fault.field-0-is refl (read.empty.1 (utf8.0 ∙ e)))
+          (λ e. other_faults c.read.result _ faults.TooLong fault.is fault.field-0-is refl (read.too_long.1 (rw utf8.0 e))) utf8.1,
+    ) refl

@@ -130,7 +130,7 @@ fn is_passing(kind: ErrorKind) -> bool
     }
 }
 
-/// Has a connection send each response at once and wait no longer than that. (The system takes no timeout of 0.)
+/// Has a connection send each response at once and wait no longer than that. (std refuses a timeout of 0.)
 fn prepare(stream: &TcpStream, timeouts: Timeouts) -> io::Result<()> {
     stream.set_nodelay(true)?;
     stream.set_read_timeout(Some(Duration::from_millis(timeouts.read.max(1))))?;

@@ -10,31 +10,57 @@ use std::test::Fail;
 use std::time::{Clock, Duration, Instant};
 use std::{io, thread};
 
-/// Whether a connection sends each response at once, and waits for a read or a write no longer than that.
-fn is_prepared(stream: &TcpStream, wait: Duration) -> io::Result<bool> {
-    let waits = stream.read_timeout()? == Some(wait) && stream.write_timeout()? == Some(wait);
+/// Whether a connection sends each response at once, and waits so long for a read and for a write.
+fn is_prepared(stream: &TcpStream, read: Duration, write: Duration) -> io::Result<bool> {
+    let waits = stream.read_timeout()? == Some(read) && stream.write_timeout()? == Some(write);
     Ok(waits && stream.nodelay()?)
+}
+
+/// The next connection of a listener, if it is prepared with such timeouts of a read and a write.
+fn next_prepared<R: Wait + Clock>(
+    rt: &R,
+    listener: &TcpListener,
+    read: u64,
+    write: u64,
+) -> io::Result<Option<(TcpStream, TcpStream)>> {
+    let timeouts = Timeouts {
+        read,
+        write,
+        ..Timeouts::of_server()
+    };
+    let periods = Periods::of_server(60_000);
+    let acceptor = Acceptor::new(rt, listener, Admission::new(1, 1), periods, timeouts)?;
+    let mut connections = Connections {
+        acceptor: &acceptor,
+    };
+    Ok(connections.next())
 }
 
 #[test]
 fn a_connection_is_prepared(rt: HostRuntime) -> Result<(), Fail> {
     let listener = TcpListener::bind(&rt, "127.0.0.1:0")?;
     let client = TcpStream::connect(&rt, listener.local_addr()?)?;
-    let periods = Periods::of_server(60_000);
-    let admission = Admission::new(1, 1);
-    let acceptor = Acceptor::new(&rt, &listener, admission, periods, Timeouts::of_server())?;
-    let next = Connections {
-        acceptor: &acceptor,
-    }
-    .next();
+    let next = next_prepared(&rt, &listener, 2_000, 3_000)?;
     drop(client);
-    let wait = Duration::from_secs(10);
+    let (read, write) = (Duration::from_secs(2), Duration::from_secs(3));
     assert!(rt;
         match next {
-            Some((reader, writer)) => is_prepared(&reader, wait)? && is_prepared(&writer, wait)?,
+            Some((reader, writer)) => is_prepared(&reader, read, write)?
+                && is_prepared(&writer, read, write)?,
             None => false,
         }
     );
+    Ok(())
+}
+
+/// Where it counted as none, no connection could be prepared, and each would be passed over.
+#[test]
+fn a_timeout_of_0_counts_as_1(rt: HostRuntime) -> Result<(), Fail> {
+    let listener = TcpListener::bind(&rt, "127.0.0.1:0")?;
+    let client = TcpStream::connect(&rt, listener.local_addr()?)?;
+    let next = next_prepared(&rt, &listener, 0, 0)?;
+    drop(client);
+    assert!(rt; next.is_some());
     Ok(())
 }
 

@@ -171,7 +171,7 @@ fn gather<K: Label, R: Wait + Clock, H: Chooser + Drop>(
     Ok(served)
 }
 
-/// Has all workers work until the sessions have ended. Gives their passes, for which there is room before one works, and tells how many
+/// Has all workers work until the sessions have ended. Gives their passes, room for which is made before any works, and tells how many
 /// connections were served. `OutOfMemory`, and the faults of `make_workers`.
 fn run_workers<
     'a,
@@ -244,7 +244,7 @@ pub struct Outcome {
 }
 
 /// Serves by a plan, and gives the book, closed and settled, rather than writing a line: its entries lead from the base to the end, and the
-/// log of each worker is its part of them.
+/// log of each worker, from the first entry's number on, is its part of them.
 ///
 /// The blanks are four new ledgers of 1,025 parts each, as `Shared::open` takes them. The faults are those of `serve_on`, and come when they
 /// do there, but for `Write`: nothing is written.

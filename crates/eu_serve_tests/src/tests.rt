@@ -312,13 +312,26 @@ fn served_that_is_not_flushed_is_a_failed_write(rt: HostRuntime) -> Result<(), F
     Ok(())
 }
 
-/// Where the journal begins of the book that a server by a plan hands back, how many leases were added, and how many logs and peers there are.
+/// What is told of a book that is handed back.
+#[derive(Clone, Copy, PartialEq, Eq)]
+struct HandedBack {
+    /// Where its journal begins.
+    first: u64,
+    /// How many leases were added.
+    added: u64,
+    /// How many logs there are.
+    logs: usize,
+    /// How many peers.
+    peers: usize,
+}
+
+/// What is told of the book that a server by a plan hands back.
 fn handed_back<R: Threads + Wait + Clock + Sync>(
     rt: &R,
     alloc: Global,
     listener: &TcpListener,
     plan: &Plan,
-) -> Result<(u64, u64, usize, usize), Fault> {
+) -> Result<HandedBack, Fault> {
     let outcome = serve_book::<Brand, R, FirstChooser>(
         rt,
         alloc,
@@ -328,12 +341,12 @@ fn handed_back<R: Threads + Wait + Clock + Sync>(
         Blanks::new(),
     )?;
     let closed = &outcome.closed;
-    let told = (
-        closed.first,
-        closed.totals.added,
-        closed.logs.len(),
-        closed.end.queues.as_slice().len(),
-    );
+    let told = HandedBack {
+        first: closed.first,
+        added: closed.totals.added,
+        logs: closed.logs.len(),
+        peers: closed.end.queues.as_slice().len(),
+    };
     drop(outcome);
     Ok(told)
 }
@@ -345,7 +358,7 @@ fn serve_one<R: Threads + Wait + Clock + Sync + Net<Listener = TcpListener, Stre
     listener: &TcpListener,
     address: SocketAddr,
     plan: &Plan,
-) -> (Result<(u64, u64, usize, usize), Fault>, bool) {
+) -> (Result<HandedBack, Fault>, bool) {
     thread::join(
         rt,
         || handed_back(rt, alloc, listener, plan),
@@ -362,7 +375,13 @@ fn a_book_is_handed_back_as_it_was_served(rt: HostRuntime) -> Result<(), Fail> {
     plan.periods.bucket = 900_000;
     let (told, answered) = serve_one(&rt, rt.alloc(), &listener, address, &plan);
     assert!(rt; answered);
-    assert!(rt; told? == (0, 1, 5, 0));
+    let wanted = HandedBack {
+        first: 0,
+        added: 1,
+        logs: 5,
+        peers: 0,
+    };
+    assert!(rt; told? == wanted);
     Ok(())
 }
 

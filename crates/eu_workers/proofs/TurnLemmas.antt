@@ -118,6 +118,7 @@ takes_none p e t r = record {
     tally = sym (plus_nothing p.tally);
     begins = omega (arith);
   };
+  idle = λ _. refl;
   trimmed = λ some. absurd (omega (arith, some, t));
 }
 
@@ -125,6 +126,7 @@ abbrev pub takes_more : (n : ℕ) (p q r s : Caller) (e e' : Ended) (refused : B
 takes_more n p q r s e e' refused takes asked tidies counts = record {
   within = counts_within n e e' refused takes.within counts;
   pass = comes_more p q r s takes.pass asked tidies;
+  idle = λ none. absurd (omega (arith, none, counts.0));
   trimmed = λ _. is_trimmed r s tidies;
 }
 
@@ -132,7 +134,7 @@ pub takes_turn : (n : ℕ) (p q s : Caller) (e e' : Ended) (refused : Bool) → 
 takes_turn n p q s e e' refused takes turn counts = takes_more n p q turn.0 s e e' refused takes turn.1 turn.2 counts
 
 abbrev pub takes_within : (n limit : ℕ) (p q : Caller) (e : Ended) → TakesTurns n p q e → n ≤ limit → TakesTurns limit p q e
-takes_within n limit p q e takes few = record { within = (takes.within.0, omega (arith, takes.within.1, few)); pass = takes.pass; trimmed = takes.trimmed }
+takes_within n limit p q e takes few = record { within = (takes.within.0, omega (arith, takes.within.1, few)); pass = takes.pass; idle = takes.idle; trimmed = takes.trimmed }
 
 -- ---- by who asks for it: sessions, and turns for a peer, over whatever holds the pass
 

@@ -13,7 +13,7 @@ abbrev pub done_by : List Logged → Tally
 done_by [] = nothing
 done_by (l ∷ ls) = plus (delta l.command l.reply) (done_by ls)
 
--- a pass was asked: its log went on by what it was answered, and its tallies by what that did
+-- a pass was asked: its log went on by some entries, and its tallies by what these did
 pub record IsAsked (p q : Caller) : Type 0 where
   pub added : List Logged
   pub number : q.number ≡ p.number
@@ -36,8 +36,8 @@ HasTurn p q = (mid : Caller) × IsAsked p mid × Tidies mid q
 abbrev pub IsTrimmed : Caller → Type 0
 IsTrimmed p = from_first p.seen p.log ≡ p.log
 
--- It is the pass that was handed in. Its log went on by what it was answered, and its tallies by what that did; but what is numbered below `first`, where it
--- has seen the journal begin, was trimmed from the log
+-- It is the pass that was handed in. Its log went on by some entries, and its tallies by what these did; but what is numbered below `first`, which is at most
+-- the greatest number with which it has seen the journal begin, was trimmed from the log
 pub record ComesBack (p q : Caller) : Type 0 where
   pub added : List Logged
   pub first : ℕ
@@ -46,8 +46,9 @@ pub record ComesBack (p q : Caller) : Type 0 where
   pub tally : q.tally ≡ plus p.tally (done_by added)
   pub begins : first ≤ q.seen
 
--- a worker had turns, and gives its pass back; after a turn its log is trimmed
+-- a worker had turns, and gives its pass back: as it was where there was none, else with a log that is trimmed
 pub record TakesTurns (limit : ℕ) (p q : Caller) (e : Ended) : Type 0 where
   pub within : IsWithin limit e
   pub pass : ComesBack p q
+  pub idle : e.turns ≡ 0 → q ≡ p
   pub trimmed : 0 < e.turns → IsTrimmed q

@@ -177,7 +177,7 @@ fn run_backwards<
     );
 }
 
-/// The same, but where no thread can be made after those before it.
+/// The same, but where no thread can be made after those before it that share one with it.
 fn run_each<
     K: Label + Send + Sync,
     R: Threads + Wait + Sync,
@@ -195,8 +195,7 @@ fn run_each<
 }
 
 /// Has each worker that is ready, or has its number already, do its job, in a thread of its own, and returns when all have ended. Where
-/// no thread can be made the jobs are done one after another, in their order; where some can, nothing is said of the order of the others.
-/// Takes no memory.
+/// fewer threads can be made, those that share one do their jobs one after another, in their order. Takes no memory.
 ///
 /// Session workers that are ready are numbered from 1, in their order. Workers that are at work, or done, stay as they are.
 ///

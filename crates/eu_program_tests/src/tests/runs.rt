@@ -524,8 +524,8 @@ fn is_gone<R: Net<Stream = TcpStream> + Clock>(
 /// A renewal of a lease that isn't there.
 const RENEWAL: &str = "PUT /eureka/apps/A/zz HTTP/1.1\r\nHost: x\r\nConnection: close\r\n\r\n";
 
-/// A run of a server of two sessions, and whether two clients at once are told that one has registered, and that what the other renews
-/// isn't held.
+/// A run of a server of two sessions, and whether two clients in threads of their own are told that one has registered, and that what the
+/// other renews isn't held.
 fn run_for_two<R: Threads + Wait + Clock + Net<Listener = TcpListener, Stream = TcpStream> + Sync>(
     rt: &R,
     alloc: Global,
@@ -549,7 +549,7 @@ fn run_for_two<R: Threads + Wait + Clock + Net<Listener = TcpListener, Stream = 
 }
 
 #[test]
-fn two_clients_are_served_at_once(rt: HostRuntime) -> Result<(), Fail> {
+fn two_clients_are_served(rt: HostRuntime) -> Result<(), Fail> {
     let (ran, told) = run_for_two(&rt, rt.alloc());
     assert!(rt; told? == (true, true));
     assert!(rt; ran.status == 0);

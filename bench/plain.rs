@@ -103,6 +103,7 @@ impl Registry {
         for key in &keys {
             self.leases.remove(key);
         }
+        self.expected = self.expected.saturating_sub(keys.len() as u64);
         keys
     }
 }

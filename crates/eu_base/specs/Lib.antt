@@ -5,3 +5,4 @@ pub mod Tree
 pub mod Rest
 pub mod Action
 pub mod Kept
+pub mod Settings

@@ -11,6 +11,7 @@ mod statuses;
 mod tasks;
 mod times;
 mod trees;
+mod values;
 
 pub use faults::Fault;
 pub use instances::Instance;

@@ -1,5 +1,5 @@
 //! The settings of a registry.
-ghost use Rattle.std.specs.Prelude.{◌≡◌, ◌≤◌, ◌<◌, ◌⊎◌, ◌↔◌, IfOk, IfErr};
+ghost use Rattle.std.specs.Prelude.{◌≡◌, ◌≤◌, ◌<◌, ◌⊎◌, ◌↔◌, IfOk, IfErr, IsTrue};
 
 use crate::faults::Fault;
 
@@ -49,5 +49,15 @@ impl Config {
             interval,
             evict_ms,
         })
+    }
+
+    /// Whether both are equal in every field. Takes no memory.
+    pub fn same(&self, other: &Config) -> bool
+        ensures { IsTrue result ↔ (self.now ≡ other.now) }
+    {
+        self.preservation == other.preservation
+            && self.percent == other.percent
+            && self.interval == other.interval
+            && self.evict_ms == other.evict_ms
     }
 }

@@ -17,7 +17,7 @@ use Rattle.eu_base.specs.declared.times.Stamp.{Stamp}
 use Rattle.eu_base.specs.Key.{key_cmp}
 use Rattle.eu_base.proofs.KeyLemmas.{keys_total, keys_exact, names_total, names_exact}
 use Rattle.eu_model.specs.declared.commands.Command.{Command}
-use Rattle.eu_model.specs.declared.commands.Command.TheVariants.{Register, Renew, Cancel, SetStatus, UnsetStatus, Adopt, Roll, Update, Evict, Drain, Landed, Lost}
+use Rattle.eu_model.specs.declared.commands.Command.TheVariants.{Register, Renew, Cancel, SetStatus, UnsetStatus, Adopt, Evict, Drain, Landed, Lost}
 use Rattle.eu_model.specs.declared.commands.Entry.{Entry}
 use Rattle.eu_model.specs.declared.commands.Reply.{Reply}
 use Rattle.eu_model.specs.declared.commands.Reply.TheVariants.{Done, NotFound}
@@ -203,26 +203,17 @@ keyed-step s (SetStatus k status dirty replicated) t r new step keyed =
     changes s k _ new.leases keyed (sets k (permits s) (get s.leases k) (get s.rows k.id) s.expected status dirty t (keyed k)) (ap (λ m. m.leases) step.1)
 keyed-step s (UnsetStatus k suggested dirty replicated) t r new step keyed =
     changes s k _ new.leases keyed (unsets k (permits s) (get s.leases k) (get s.rows k.id) s.expected suggested dirty t (keyed k)) (ap (λ m. m.leases) step.1)
-keyed-step s Roll t r new step keyed = subst Keyed (sym step.1) keyed
-keyed-step s Update t r new step keyed = subst Keyed (sym step.1) keyed
 keyed-step s Evict t r new step keyed = subst Keyed (sym step.3) (keyed-without key_of_record s.leases step.0 keyed)
 keyed-step s (Drain peer) t r new step keyed = absurd step
 keyed-step s (Landed peer codes) t r new step keyed = absurd step
 keyed-step s (Lost peer) t r new step keyed = absurd step
+keyed-step s c t r new step keyed = subst Keyed (sym step.1) keyed
 
 keyed-server : (s : Server) (c : Command) (t : ℕ) (r : Reply) (new : Server) → ServerStep s c t r new → Keyed s.machine → Keyed new.machine
 keyed-server s (Drain peer) t r new step keyed = subst (λ x. Keyed x.machine) (sym step.1.3) keyed
 keyed-server s (Landed peer codes) t r new step keyed = subst (λ x. Keyed x.machine) (sym step.1.3) keyed
 keyed-server s (Lost peer) t r new step keyed = subst (λ x. Keyed x.machine) (sym step.1.3) keyed
-keyed-server s (Register n replicated) t r new step keyed = keyed-step s.machine (Register n replicated) t r new.machine step.0 keyed
-keyed-server s (Adopt n) t r new step keyed = keyed-step s.machine (Adopt n) t r new.machine step.0 keyed
-keyed-server s (Renew k dirty overridden replicated) t r new step keyed = keyed-step s.machine (Renew k dirty overridden replicated) t r new.machine step.0 keyed
-keyed-server s (Cancel k replicated) t r new step keyed = keyed-step s.machine (Cancel k replicated) t r new.machine step.0 keyed
-keyed-server s (SetStatus k status dirty replicated) t r new step keyed = keyed-step s.machine (SetStatus k status dirty replicated) t r new.machine step.0 keyed
-keyed-server s (UnsetStatus k suggested dirty replicated) t r new step keyed = keyed-step s.machine (UnsetStatus k suggested dirty replicated) t r new.machine step.0 keyed
-keyed-server s Roll t r new step keyed = keyed-step s.machine Roll t r new.machine step.0 keyed
-keyed-server s Update t r new step keyed = keyed-step s.machine Update t r new.machine step.0 keyed
-keyed-server s Evict t r new step keyed = keyed-step s.machine Evict t r new.machine step.0 keyed
+keyed-server s c t r new step keyed = keyed-step s.machine c t r new.machine step.0 keyed
 
 keyed-run : (s : Server) (es : List Entry) (new : Server) → Run s es new → Keyed s.machine → Keyed new.machine
 keyed-run s [] new run keyed = subst (λ x. Keyed x.machine) (sym run) keyed

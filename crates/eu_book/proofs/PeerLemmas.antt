@@ -10,7 +10,7 @@ use Rattle.eu_base.specs.declared.faults.Fault.TheVariants.{NoPeer}
 use Rattle.eu_base.specs.declared.instances.Instance.{Instance}
 use Rattle.eu_core.specs.Stepped.{copies_of}
 use Rattle.eu_model.specs.declared.commands.Command.{Command}
-use Rattle.eu_model.specs.declared.commands.Command.TheVariants.{Register, Renew, Cancel, SetStatus, UnsetStatus, Adopt, Roll, Update, Evict, Drain, Landed, Lost}
+use Rattle.eu_model.specs.declared.commands.Command.TheVariants.{Register, Renew, Cancel, SetStatus, UnsetStatus, Drain, Landed, Lost}
 use Rattle.eu_model.specs.declared.commands.Reply.{Reply}
 use Rattle.eu_model.specs.declared.commands.Reply.TheVariants.{Batch, Settled}
 use Rattle.eu_model.specs.declared.queues.Queue.{Queue}
@@ -60,23 +60,12 @@ pop_copies m n (Some x) (Some y) rest old e is long some = let p = popped m x y 
 -- ---- what is told
 
 pub untold : (c : Command) (t : ℕ) (r : Reply) (i : Option Instance) → told_key c ≡ None → task_for c t r i ≡ None
-untold (Register n true) t r i e = refl
 untold (Register n false) t r i e = cc
-untold (Renew k dirty overridden true) t r i e = refl
 untold (Renew k dirty overridden false) t r i e = cc
-untold (Cancel k true) t r i e = refl
 untold (Cancel k false) t r i e = cc
-untold (SetStatus k status dirty true) t r i e = refl
 untold (SetStatus k status dirty false) t r i e = cc
-untold (UnsetStatus k suggested dirty true) t r i e = refl
 untold (UnsetStatus k suggested dirty false) t r i e = cc
-untold (Adopt n) t r i e = refl
-untold Roll t r i e = refl
-untold Update t r i e = refl
-untold Evict t r i e = refl
-untold (Drain peer) t r i e = refl
-untold (Landed peer codes) t r i e = refl
-untold (Lost peer) t r i e = refl
+untold c t r i e = refl
 
 -- the registry's step alone, where nobody is told of it
 pub told_nobody : (p : Plain) (boxes : List Boxed) (c : Command) (t : ℕ) (reply : Reply) (new : Plain) → is_for_peers c ≡ false → told_key c ≡ None → Answers p c t (Ok reply) new

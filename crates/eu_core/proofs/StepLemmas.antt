@@ -8,6 +8,7 @@ use Rattle.std.specs.Ordering.{is_eq}
 use Rattle.std.specs.Prelude.{cond, Option, Some, None, Result, Ok, Err, IfErr, IsErrAnd, nat_lt, unwrap_or}
 use Rattle.std.specs.Option.{option_map, option_or}
 use Rattle.std.specs.FinMap.{FinMap, get, get-remove}
+use Rattle.eu_base.specs.declared.settings.Config.{Config}
 use Rattle.eu_base.specs.declared.statuses.Status.{Status}
 use Rattle.eu_base.specs.declared.statuses.Status.TheVariants.{Unknown}
 use Rattle.eu_base.specs.declared.times.Stamp.{Stamp}
@@ -19,7 +20,7 @@ use Rattle.eu_base.specs.Key.{key_cmp}
 use Rattle.eu_base.proofs.KeyLemmas.{keys_total}
 use Rattle.eu_model.specs.declared.views.Listed.{Listed}
 use Rattle.eu_model.specs.declared.commands.Command.{Command}
-use Rattle.eu_model.specs.declared.commands.Command.TheVariants.{Register, Renew, Cancel, SetStatus, UnsetStatus, Adopt, Roll, Update}
+use Rattle.eu_model.specs.declared.commands.Command.TheVariants.{Register, Renew, Cancel, SetStatus, UnsetStatus, Adopt, Roll, Update, Reconfigure}
 use Rattle.eu_model.specs.declared.commands.Reply.{Reply}
 use Rattle.eu_model.specs.declared.commands.Reply.TheVariants.{NotFound}
 use Rattle.eu_model.specs.Override.{rule, is_status}
@@ -34,7 +35,7 @@ use Rattle.eu_model.specs.Kept.{raised, kept, kept_one, kept_register, kept_rene
 use Rattle.eu_model.proofs.AnswerLemmas.{refused}
 use Rattle.eu_model.proofs.DeterminedLemmas.{reply_is, next_is}
 use Rattle.eu_model.proofs.CancelLemmas.{cancels, cancel_is_kept}
-use Rattle.eu_model.proofs.MinuteLemmas.{roll_is_kept, update_is_kept}
+use Rattle.eu_model.proofs.MinuteLemmas.{roll_is_kept, update_is_kept, reconfigure_is_kept}
 use Rattle.eu_model.proofs.StatusLemmas.{sets, set_is_kept, unsets, unset_is_kept}
 use Rattle.eu_model.proofs.RegisterLemmas.{register_is_kept}
 use Rattle.eu_model.proofs.AdoptLemmas.{adopts, adopt_is_kept}
@@ -255,6 +256,9 @@ module _ (t : ℕ) (p q : Plain) (r : Reply) where
 
   pub update_plain : Answers p Update t (Ok r) q → owns_nothing r ≡ true
   update_plain a = ap owns_nothing (reply_is Update t _ _ _ _ update_is_kept (λ s s' x h. h) p q r a)
+
+  pub reconfigure_plain : (config : Config) → Answers p (Reconfigure config) t (Ok r) q → owns_nothing r ≡ true
+  reconfigure_plain config a = ap owns_nothing (reply_is (Reconfigure config) t _ _ _ _ (reconfigure_is_kept config) (λ s s' x h. h) p q r a)
 
 -- ---- refusals
 

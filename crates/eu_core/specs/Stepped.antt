@@ -3,7 +3,7 @@ use Rattle.std.specs.Prelude.{◌≡◌, ℕ, Bool, true, false, nat_lt, if◌th
 use Rattle.eu_base.specs.declared.names.Key.{Key}
 use Rattle.eu_base.specs.declared.instances.Instance.{Instance}
 use Rattle.eu_model.specs.declared.commands.Command.{Command}
-use Rattle.eu_model.specs.declared.commands.Command.TheVariants.{Register, Renew, Cancel, SetStatus, UnsetStatus, Adopt, Roll, Update, Evict, Drain, Landed, Lost}
+use Rattle.eu_model.specs.declared.commands.Command.TheVariants.{Renew, SetStatus, UnsetStatus, Evict}
 use Rattle.eu_model.specs.declared.commands.Reply.{Reply}
 use Rattle.eu_model.specs.declared.commands.Reply.TheVariants.{Evicted}
 use Rattle.eu_model.specs.Plain.{Plain, held_under}

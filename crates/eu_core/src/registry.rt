@@ -333,12 +333,28 @@ impl Registry {
         Reply::Expected(self.threshold.expected())
     }
 
+    /// Takes other settings, while the registry runs (Eureka reads its `EurekaServerConfig` from properties, which may change so).
+    ///
+    /// From now on the threshold, and whether eviction is permitted, are those of the new settings, and a pass grants what it comes
+    /// later than the new interval after the pass before it. The number expected, the counted renewals, the previous pass, leases
+    /// and override rows stay. The reply is `Done`. Takes no memory.
+    pub fn reconfigure(&mut self, config: Config) -> Reply
+        ensures { (t : ℕ) → Answers self.old (Command.Reconfigure config) t (Ok result) self.new }
+    {
+        self.threshold.reconfigure(config);
+        Reply::Done
+    }
+
     /// Evicts leases that have expired at the moment, where eviction is permitted (`AbstractInstanceRegistry.evict` in Eureka).
     ///
     /// Each lease is granted what this pass comes later than one interval after the pass before it; at the first pass nothing.
     /// Of the leases that have expired at most the share goes that the settings' percentage leaves, drawn by the chooser from
-    /// their keys in key order; the override rows of their ids go with them. The number expected and the counted renewals
-    /// stay. This is the previous pass from now on, also where eviction isn't permitted.
+    /// their keys in key order; the override rows of their ids go with them. This is the previous pass from now on, also where
+    /// eviction isn't permitted.
+    ///
+    /// Each victim is one fewer expected, but never fewer than none, and the threshold is that of the number that is left
+    /// (`AbstractInstanceRegistry.internalCancel` in Eureka). Whether the pass is permitted, and the share, are still those of the
+    /// registry before it. The counted renewals stay.
     ///
     /// The reply is `Evicted` with the victims in the order in which they were drawn. Refused with `OutOfMemory` alone; that
     /// changes nothing, and no word is asked.
@@ -386,6 +402,7 @@ impl Registry {
             replies,
             chooser,
         )?;
+        self.threshold.left_by(passed.victims.len());
         self.previous = Some(moment);
         Ok(passed)
     }

@@ -11,7 +11,7 @@ ghost use Rattle.eu_core.specs.Stepped.{AreOf, Acts, Steps, amends, copies_of, t
 
 use crate::prepare::{Prepared, bring, copies, fill, repeated};
 use crate::registry::Registry;
-use eu_base::{Fault, Instance, Key, Moment, Stamp, Status};
+use eu_base::{Config, Fault, Instance, Key, Moment, Stamp, Status};
 use eu_clock::Chooser;
 use eu_model::{Command, Reply};
 use std::alloc::{AllocError, Global};
@@ -28,10 +28,11 @@ pub struct Stepped {
 impl Registry {
     /// Takes one step by a command at the moment, and gives so many equal replies and so many copies of the instance that is
     /// held under the command's key after it: none where no lease is held then, or where the command names no key (`Roll`,
-    /// `Update`, `Evict`).
+    /// `Update`, `Reconfigure`, `Evict`).
     ///
     /// No command for a peer (`Drain`, `Landed`, `Lost`) is handed in. The step is that of the command's call: `register`,
-    /// `renew`, `cancel`, `set_status`, `unset_status`, `adopt`, `roll`, `update` or `evict`, whose replies and refusals it has.
+    /// `renew`, `cancel`, `set_status`, `unset_status`, `adopt`, `roll`, `update`, `reconfigure` or `evict`, whose replies and
+    /// refusals it has.
     /// Refused with `Full` or `Exhausted` where that call is, and else with `OutOfMemory`, also where no memory is left for
     /// replies and copies; a refusal changes nothing, and asks the chooser for no word. Only an `Evict` asks it.
     pub fn step<C: Chooser>(
@@ -58,6 +59,7 @@ impl Registry {
             Command::Cancel { key, .. } => self.step_cancel(alloc, key, replies),
             Command::Roll => self.step_roll(alloc, replies),
             Command::Update => self.step_update(alloc, replies),
+            Command::Reconfigure { config } => self.step_reconfigure(alloc, config, replies),
             Command::Evict => self.step_evict(alloc, moment, replies, chooser),
             command => self.step_on_lease(alloc, command, moment, replies, held),
         }
@@ -150,6 +152,24 @@ impl Registry {
     {
         let room = Vec::with_capacity(alloc, replies as usize)?;
         let reply = self.update();
+        Ok(Stepped {
+            replies: fill(alloc, room, &reply, replies),
+            held: Vec::new(alloc),
+        })
+    }
+
+    fn step_reconfigure(
+        &mut self,
+        alloc: Global,
+        config: &Config,
+        replies: u32,
+    ) -> Result<Stepped, Fault>
+        ensures ok { IfOk result (λ s. (t m : ℕ) → Acts self.old (Command.Reconfigure config.now) t replies m s.replies.items s.held.items self.new) }
+        ensures refused { IfErr result (λ f. (t : ℕ) → Answers self.old (Command.Reconfigure config.now) t (Err f) self.old) }
+        ensures err { OnErr result (self.new ≡ self.old) }
+    {
+        let room = Vec::with_capacity(alloc, replies as usize)?;
+        let reply = self.reconfigure(*config);
         Ok(Stepped {
             replies: fill(alloc, room, &reply, replies),
             held: Vec::new(alloc),

@@ -1,9 +1,8 @@
--- Each key that is due stands once in its list, and so in its front
-use Rattle.std.proofs.Common.{ℕ, ◌<◌, Bool, true, false, List, map, take, sym, subst, ◌∙◌, arith}
+-- Each key that is due stands once in its list
+use Rattle.std.proofs.Common.{ℕ, Bool, true, false, List, map, sym, subst}
 use Rattle.std.specs.List.{IsDistinct}
 use Rattle.std.specs.FinMap.{FinMap, entries, entries_sorted}
-use Rattle.std.proofs.lemmas.List.{get_or-take, length-take}
-use Rattle.std.proofs.lemmas.Map.Keys.{IsDistinct-from_sorted, IsDistinct-from_apart, apart_from_distinct}
+use Rattle.std.proofs.lemmas.Map.Keys.{IsDistinct-from_sorted}
 use Rattle.eu_base.specs.declared.names.Key.{Key}
 use Rattle.eu_base.specs.Key.{key_cmp, key_eq}
 use Rattle.eu_base.proofs.KeyLemmas.{key_eq-tie}
@@ -19,8 +18,3 @@ IsDistinct-due true m moment extra =
     let keys : List Key = map (λ e. e.0) (entries m) in
     let apart = IsDistinct-from_sorted key_cmp keys (sorted_keys key_cmp (entries m) (entries_sorted m)) in
     IsDistinct-passing (λ (l : Listed). kept_expired l moment extra) key_eq (entries m) (subst (λ (e : Key → Key → Bool). IsDistinct e keys) (sym key_eq-tie) apart)
-
-pub IsDistinct-take : (n : ℕ) (ks : List Key) → IsDistinct key_eq ks → IsDistinct key_eq (take n ks)
-IsDistinct-take n ks h = IsDistinct-from_apart key_eq (take n ks) (λ i j d lt inside.
-    let low : j < n = omega (arith, inside, length-take n ks) in
-    (λ t. key_eq (get_or-take n ks i d (omega (arith, lt, low)) t) (get_or-take n ks j d low t)) ∙ apart_from_distinct key_eq ks i j d h lt (omega (arith, inside, length-take n ks)))

@@ -64,6 +64,7 @@ asks_for (route.OfApp app) replicated body moment = Ok (Some (Look (query.OfApp 
 asks_for (route.One key) replicated body moment = Ok (Some (Look (query.One key) ∷ []))
 asks_for route.Delta replicated body moment = Ok None
 asks_for route.StatusPage replicated body moment = Ok for_page
+asks_for (route.Reconfigure settings) replicated body moment = Ok (change (command.Reconfigure settings))
 
 -- what a request asks at a moment, or its first fault
 abbrev pub asks_of : Request → ℕ → Result (Option (List Said)) Fault

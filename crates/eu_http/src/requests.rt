@@ -117,6 +117,7 @@ fn asks_for(alloc: Global, route: Route, request: &Request, moment: Moment) -> R
             dirty,
             replicated,
         }),
+        Route::Reconfigure(config) => Ask::Do(Command::Reconfigure { config }),
         Route::All => Ask::See(Query::All),
         Route::OfApp(app) => Ask::See(Query::OfApp(app)),
         Route::One(key) => Ask::See(Query::One(key)),
@@ -137,7 +138,7 @@ fn asks_for(alloc: Global, route: Route, request: &Request, moment: Moment) -> R
 ///
 /// - `NoRoute`: no route has that path and method;
 /// - `BadPath`: a segment of the path is no name;
-/// - `BadValue`: a value of the query is no stamp, or no status, or one that is needed is missing;
+/// - `BadValue`: a value of the query is no stamp, no status or no setting, or one that is needed is missing;
 /// - `NotJson`: the body of a registration isn't UTF-8;
 /// - the faults of `eu_json::read_instance`;
 /// - `BadBatch`: the body of a batch isn't UTF-8, or isn't one (`eu_json::read_batch`).

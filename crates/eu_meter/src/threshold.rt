@@ -124,11 +124,20 @@ impl Threshold {
         Ok(())
     }
 
-    /// A client has left: one fewer is expected, but never fewer than none (`PeerAwareInstanceRegistryImpl.cancel` in Eureka).
+    /// A client has left: one fewer is expected, but never fewer than none (`AbstractInstanceRegistry.internalCancel` in Eureka).
     pub fn left(&mut self)
         ensures { self.new ≡ record self.old { expected = self.old.expected - 1 } }
     {
-        self.expected = self.expected.saturating_sub(1);
+        self.left_by(1);
+    }
+
+    /// So many clients have left at once, as when a pass evicts their leases: so many fewer are expected, but never fewer than none
+    /// (`AbstractInstanceRegistry.internalCancel` in Eureka, which is called for each of them). The threshold is computed anew.
+    /// Takes no memory.
+    pub fn left_by(&mut self, clients: usize)
+        ensures { self.new ≡ record self.old { expected = self.old.expected - clients } }
+    {
+        self.expected = self.expected.saturating_sub(clients as u64);
         self.value = value_of(&self.config, self.expected);
     }
 
@@ -142,6 +151,15 @@ impl Threshold {
         if percent * self.expected < held * 100 || !self.config.preservation {
             self.expected = held;
         }
+        self.value = value_of(&self.config, self.expected);
+    }
+
+    /// Takes other settings: the threshold is that of these at once, and the number of clients that are expected stays (Eureka
+    /// reads its `EurekaServerConfig` from properties, which may change while it runs). Takes no memory.
+    pub fn reconfigure(&mut self, config: Config)
+        ensures { self.new ≡ record self.old { config = config } }
+    {
+        self.config = config;
         self.value = value_of(&self.config, self.expected);
     }
 }

@@ -4,7 +4,7 @@ use Rattle.std.specs.Prelude.{Bool, Ok}
 use Rattle.std.specs.FinMap.{len}
 use Rattle.eu_base.specs.Key.{key_cmp}
 use Rattle.eu_model.specs.declared.commands.Command.{Command}
-use Rattle.eu_model.specs.declared.commands.Command.TheVariants.{Register, Renew, Cancel, SetStatus, UnsetStatus, Adopt, Roll, Update, Evict, Drain, Landed, Lost}
+use Rattle.eu_model.specs.declared.commands.Command.TheVariants.{Register, Renew, Adopt, Drain, Landed, Lost}
 use Rattle.eu_model.specs.declared.commands.Entry.{Entry}
 use Rattle.eu_model.specs.declared.commands.Reply.{Reply}
 use Rattle.eu_model.specs.declared.commands.Reply.TheVariants.{Registered, Done, NotFound, Stale, Conflict, Last, Expected, Evicted, Batch, Settled}
@@ -64,47 +64,22 @@ counted_at_most_one (Renew k dirty overridden replicated) (Expected n) = omega (
 counted_at_most_one (Renew k dirty overridden replicated) (Evicted victims) = omega (arith)
 counted_at_most_one (Renew k dirty overridden replicated) (Batch tasks) = omega (arith)
 counted_at_most_one (Renew k dirty overridden replicated) Settled = omega (arith)
-counted_at_most_one (Register n replicated) r = omega (arith)
-counted_at_most_one (Adopt n) r = omega (arith)
-counted_at_most_one (Cancel k replicated) r = omega (arith)
-counted_at_most_one (SetStatus k status dirty replicated) r = omega (arith)
-counted_at_most_one (UnsetStatus k suggested dirty replicated) r = omega (arith)
-counted_at_most_one Roll r = omega (arith)
-counted_at_most_one Update r = omega (arith)
-counted_at_most_one Evict r = omega (arith)
-counted_at_most_one (Drain peer) r = omega (arith)
-counted_at_most_one (Landed peer codes) r = omega (arith)
-counted_at_most_one (Lost peer) r = omega (arith)
+counted_at_most_one c r = omega (arith)
 
 joined_at_most_one : (c : Command) (fresh : Bool) → added_by c (Registered fresh) ≤ 1
 joined_at_most_one (Register n replicated) true = omega (arith)
 joined_at_most_one (Register n replicated) false = omega (arith)
 joined_at_most_one (Adopt n) true = omega (arith)
 joined_at_most_one (Adopt n) false = omega (arith)
-joined_at_most_one (Renew k dirty overridden replicated) fresh = omega (arith)
-joined_at_most_one (Cancel k replicated) fresh = omega (arith)
-joined_at_most_one (SetStatus k status dirty replicated) fresh = omega (arith)
-joined_at_most_one (UnsetStatus k suggested dirty replicated) fresh = omega (arith)
-joined_at_most_one Roll fresh = omega (arith)
-joined_at_most_one Update fresh = omega (arith)
-joined_at_most_one Evict fresh = omega (arith)
-joined_at_most_one (Drain peer) fresh = omega (arith)
-joined_at_most_one (Landed peer codes) fresh = omega (arith)
-joined_at_most_one (Lost peer) fresh = omega (arith)
+joined_at_most_one c fresh = omega (arith)
 
 pub added_at_most_one : (s : Machine) (c : Command) (t : ℕ) (r : Reply) (new : Machine) → Step s c t r new → added_by c r ≤ 1
 added_at_most_one s (Register n replicated) t r new step = subst (λ r. added_by (Register n replicated) r ≤ 1) (sym step.0) (joined_at_most_one (Register n replicated) _)
 added_at_most_one s (Adopt n) t r new step = subst (λ r. added_by (Adopt n) r ≤ 1) (sym step.0) (joined_at_most_one (Adopt n) _)
-added_at_most_one s (Renew k dirty overridden replicated) t r new step = omega (arith)
-added_at_most_one s (Cancel k replicated) t r new step = omega (arith)
-added_at_most_one s (SetStatus k status dirty replicated) t r new step = omega (arith)
-added_at_most_one s (UnsetStatus k suggested dirty replicated) t r new step = omega (arith)
-added_at_most_one s Roll t r new step = omega (arith)
-added_at_most_one s Update t r new step = omega (arith)
-added_at_most_one s Evict t r new step = omega (arith)
 added_at_most_one s (Drain peer) t r new step = absurd step
 added_at_most_one s (Landed peer codes) t r new step = absurd step
 added_at_most_one s (Lost peer) t r new step = absurd step
+added_at_most_one s c t r new step = omega (arith)
 
 -- what a step of a server does to the leases
 server_accounts : (s : Server) (c : Command) (t : ℕ) (r : Reply) (new : Server) → ServerStep s c t r new
@@ -113,14 +88,8 @@ server_accounts s (Drain peer) t r new step = (omega (arith, ap (λ x. len x.mac
 server_accounts s (Landed peer codes) t r new step = (omega (arith, ap (λ x. len x.machine.leases) step.1.3), omega (arith))
 server_accounts s (Lost peer) t r new step = (omega (arith, ap (λ x. len x.machine.leases) step.1.3), omega (arith))
 server_accounts s (Register n replicated) t r new step = (leases_are_accounted s.machine (Register n replicated) t r new.machine step.0, added_at_most_one s.machine (Register n replicated) t r new.machine step.0)
-server_accounts s (Renew k dirty overridden replicated) t r new step = (leases_are_accounted s.machine (Renew k dirty overridden replicated) t r new.machine step.0, omega (arith))
-server_accounts s (Cancel k replicated) t r new step = (leases_are_accounted s.machine (Cancel k replicated) t r new.machine step.0, omega (arith))
-server_accounts s (SetStatus k status dirty replicated) t r new step = (leases_are_accounted s.machine (SetStatus k status dirty replicated) t r new.machine step.0, omega (arith))
-server_accounts s (UnsetStatus k suggested dirty replicated) t r new step = (leases_are_accounted s.machine (UnsetStatus k suggested dirty replicated) t r new.machine step.0, omega (arith))
 server_accounts s (Adopt n) t r new step = (leases_are_accounted s.machine (Adopt n) t r new.machine step.0, added_at_most_one s.machine (Adopt n) t r new.machine step.0)
-server_accounts s Roll t r new step = (leases_are_accounted s.machine Roll t r new.machine step.0, omega (arith))
-server_accounts s Update t r new step = (leases_are_accounted s.machine Update t r new.machine step.0, omega (arith))
-server_accounts s Evict t r new step = (leases_are_accounted s.machine Evict t r new.machine step.0, omega (arith))
+server_accounts s c t r new step = (leases_are_accounted s.machine c t r new.machine step.0, omega (arith))
 
 -- each plain form is that of some server
 pub raise_server : (p : PlainServer) → (s : Server) × (plain_server s ≡ p)

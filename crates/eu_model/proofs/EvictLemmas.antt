@@ -48,14 +48,14 @@ number-kept s t =
     ap (λ ks. number_of_victims s.config (permits s) (length ks) (len s.leases)) (due-kept s t)
     ∙ ap (number_of_victims s.config (permits s) (length (kept_due (plain s) t))) (sym (len-map_values key_cmp listed s.leases))
 
-victims-kept : (s : Machine) (t : ℕ) (victims : List Key) → AreVictims s t victims → AreKeptVictims (plain s) t victims
+pub victims-kept : (s : Machine) (t : ℕ) (victims : List Key) → AreVictims s t victims → AreKeptVictims (plain s) t victims
 victims-kept s t victims v = record {
   expired = subst (λ ks. All (Contains ks) victims) (due-kept s t) v.expired;
   once = v.once;
   number = v.number ∙ number-kept s t;
 }
 
-victims-raised : (s : Machine) (t : ℕ) (victims : List Key) → AreKeptVictims (plain s) t victims → AreVictims s t victims
+pub victims-raised : (s : Machine) (t : ℕ) (victims : List Key) → AreKeptVictims (plain s) t victims → AreVictims s t victims
 victims-raised s t victims v = record {
   expired = subst (λ ks. All (Contains ks) victims) (sym (due-kept s t)) v.expired;
   once = v.once;
@@ -67,7 +67,7 @@ module _ {K X Y : Type 0} {R : K → K → Ordering} (o : IsTotalOrder R) (same 
   map_values-without m [] = refl
   map_values-without m (k ∷ ks) = map_values-without (remove m k) ks ∙ ap (λ n. without n ks) (map_values-remove o same f m k)
 
-plain-evicted : (s : Machine) (t : ℕ) (victims : List Key) → plain (evicted s t victims) ≡ kept_evicted (plain s) t victims
+pub plain-evicted : (s : Machine) (t : ℕ) (victims : List Key) → plain (evicted s t victims) ≡ kept_evicted (plain s) t victims
 plain-evicted s t victims =
     let leases = map_values-without keys_total keys_exact listed s.leases victims in
     λ i. record (kept_evicted (plain s) t victims) { leases = leases i }

@@ -15,7 +15,7 @@ use Rattle.eu_base.specs.declared.statuses.Status.TheVariants.{Unknown}
 use Rattle.eu_base.specs.declared.times.Stamp.{Stamp}
 use Rattle.eu_base.specs.Key.{key_cmp, key_eq}
 use Rattle.eu_base.proofs.KeyLemmas.{keys_total, key_eq-ties, key_eq-flips}
-use Rattle.eu_model.specs.declared.commands.Command.TheVariants.{Register, Renew, Cancel, SetStatus, UnsetStatus, Adopt, Roll, Update, Evict, Drain, Landed, Lost}
+use Rattle.eu_model.specs.declared.commands.Command.TheVariants.{Register, Renew, Cancel, SetStatus, UnsetStatus, Adopt, Evict, Drain, Landed, Lost}
 use Rattle.eu_model.specs.declared.commands.Reply.TheVariants.{Registered, Done, NotFound}
 use Rattle.eu_model.specs.Change.{uncounted, renew, renew_as, set_status, unset_status, in_status, cancel, told, overridden_by}
 use Rattle.eu_model.specs.Delta.{added_by, removed_by}
@@ -28,7 +28,7 @@ use Rattle.eu_model.proofs.PassLemmas.{victims_have_expired}
 
 -- ---- how many leases a map holds
 
-apart : (v : Key) (ks : List Key) → AllByRecursion (λ y. key_eq v y ≡ false) ks → (i : ℕ) (d : Key) → i < length ks → eq_by_cmp key_cmp (get_or ks i d) v ≡ false
+pub apart : (v : Key) (ks : List Key) → AllByRecursion (λ y. key_eq v y ≡ false) ks → (i : ℕ) (d : Key) → i < length ks → eq_by_cmp key_cmp (get_or ks i d) v ≡ false
 apart v [] all i d lt = absurd (omega (arith, lt))
 apart v (k ∷ ks) all zero d lt = sym (key_eq-ties k v) ∙ key_eq-flips k v ∙ all.0
 apart v (k ∷ ks) all (suc i) d lt = apart v ks all.1 i d (omega (arith, lt))
@@ -137,8 +137,6 @@ leases_are_accounted s (SetStatus k status dirty replicated) t reply new step =
 leases_are_accounted s (UnsetStatus k suggested dirty replicated) t reply new step =
     let held = get s.leases k in
     omega (arith, ap (λ m. len m.leases) step.1 ∙ stays s.leases k held _ refl (unset_holds (permits s) held (get s.rows k.id) s.expected suggested dirty t))
-leases_are_accounted s Roll t reply new step = omega (arith, ap (λ m. len m.leases) step.1)
-leases_are_accounted s Update t reply new step = omega (arith, ap (λ m. len m.leases) step.1)
 leases_are_accounted s Evict t reply new step =
     let victims = step.0 in
     let held = λ (i : ℕ) (d : Key) (lt : i < length victims). ap is_some (victims_have_expired s t victims new (victims, refl, step.2, step.3) (get_or victims i d) (Contains-get_or victims i d lt)).1 in
@@ -148,3 +146,4 @@ leases_are_accounted s Evict t reply new step =
 leases_are_accounted s (Drain peer) t reply new step = absurd step
 leases_are_accounted s (Landed peer codes) t reply new step = absurd step
 leases_are_accounted s (Lost peer) t reply new step = absurd step
+leases_are_accounted s c t reply new step = omega (arith, ap (λ m. len m.leases) step.1)

@@ -3,7 +3,7 @@ use Rattle.std.proofs.Common.{◌≡◌, ℕ, List, refl, sym, ap, ◌∙◌}
 use Rattle.std.specs.Prelude.{Option, Some, None}
 use Rattle.eu_model.specs.declared.views.Query.TheVariants as asked
 use Rattle.eu_model.specs.declared.views.View.TheVariants as seen
-use Rattle.eu_model.specs.declared.commands.Command.TheVariants.{Register, Renew, Cancel, SetStatus, UnsetStatus, Adopt, Roll, Update, Evict, Drain, Landed, Lost}
+use Rattle.eu_model.specs.declared.commands.Command.TheVariants.{Register, Renew, Cancel, SetStatus, UnsetStatus, Adopt, Roll, Update, Reconfigure, Evict, Drain, Landed, Lost}
 use Rattle.eu_model.specs.Machine.{Machine}
 use Rattle.eu_model.specs.Plain.{plain}
 use Rattle.eu_model.specs.View.{listing}
@@ -16,7 +16,7 @@ use Rattle.eu_model.proofs.RenewLemmas.{renews, renew_is_kept, renew_fault-kept}
 use Rattle.eu_model.proofs.CancelLemmas.{cancel_is_kept}
 use Rattle.eu_model.proofs.StatusLemmas.{set_is_kept, unset_is_kept}
 use Rattle.eu_model.proofs.AdoptLemmas.{adopt_is_kept}
-use Rattle.eu_model.proofs.MinuteLemmas.{roll_is_kept, update_is_kept}
+use Rattle.eu_model.proofs.MinuteLemmas.{roll_is_kept, update_is_kept, reconfigure_is_kept}
 use Rattle.eu_model.proofs.EvictLemmas.{evict_alike}
 use Rattle.eu_model.proofs.OpeningLemmas.{kept_counts, counts-kept}
 use Rattle.eu_model.proofs.SeenLemmas.{one-kept}
@@ -31,6 +31,7 @@ steps_alike s s' (UnsetStatus k suggested dirty replicated) t reply new e step =
 steps_alike s s' (Adopt n) t reply new e step = alike _ _ _ _ (adopt_is_kept n t) s s' reply new e step
 steps_alike s s' Roll t reply new e step = alike _ _ _ _ roll_is_kept s s' reply new e step
 steps_alike s s' Update t reply new e step = alike _ _ _ _ update_is_kept s s' reply new e step
+steps_alike s s' (Reconfigure config) t reply new e step = alike _ _ _ _ (reconfigure_is_kept config) s s' reply new e step
 steps_alike s s' Evict t reply new e step = evict_alike s s' t reply new e step
 steps_alike s s' (Drain peer) t reply new e step = absurd step
 steps_alike s s' (Landed peer codes) t reply new e step = absurd step
@@ -43,16 +44,8 @@ faults_alike s s' (Renew k dirty overridden replicated) t e =
     renew_fault-kept k dirty overridden replicated t s
     ∙ ap (λ p. kept_renew_fault p (renews k dirty overridden replicated t p).counted) e
     ∙ sym (renew_fault-kept k dirty overridden replicated t s')
-faults_alike s s' (Cancel k replicated) t e = refl
-faults_alike s s' (SetStatus k status dirty replicated) t e = refl
-faults_alike s s' (UnsetStatus k suggested dirty replicated) t e = refl
 faults_alike s s' (Adopt n) t e = join_fault-kept s n.key ∙ ap (λ p. kept_join_fault p n.key) e ∙ sym (join_fault-kept s' n.key)
-faults_alike s s' Roll t e = refl
-faults_alike s s' Update t e = refl
-faults_alike s s' Evict t e = refl
-faults_alike s s' (Drain peer) t e = refl
-faults_alike s s' (Landed peer codes) t e = refl
-faults_alike s s' (Lost peer) t e = refl
+faults_alike s s' c t e = refl
 
 listings_alike : (app : Option (List ℕ)) (s s' : Machine) → plain s ≡ plain s' → listing app s ≡ listing app s'
 listings_alike app s s' e = listing-kept app s ∙ ap (kept_listing app) e ∙ sym (listing-kept app s')

@@ -15,6 +15,10 @@ pub mod AdoptLemmas
 pub mod EvictLemmas
 pub mod PassLemmas
 pub mod RunLemmas
+pub mod GrowthLemmas
+pub mod HistoryLemmas
+pub mod PassRunLemmas
+pub mod SilentLemmas
 pub mod RaiseLemmas
 pub mod HeldLemmas
 pub mod AccountLemmas

@@ -1,16 +1,17 @@
--- The end of a minute, and an update, depend on what is kept alone
+-- The end of a minute, an update and a change of the settings depend on what is kept alone
 use Rattle.std.proofs.Common.{◌≡◌, ℕ, refl, sym, ap}
 use Rattle.std.specs.Prelude.{None, Ok}
+use Rattle.eu_base.specs.declared.settings.Config.{Config}
 use Rattle.eu_base.specs.Key.{key_cmp}
-use Rattle.eu_model.specs.declared.commands.Command.TheVariants.{Roll, Update}
-use Rattle.eu_model.specs.declared.commands.Reply.TheVariants.{Last, Expected}
+use Rattle.eu_model.specs.declared.commands.Command.TheVariants.{Roll, Update, Reconfigure}
+use Rattle.eu_model.specs.declared.commands.Reply.TheVariants.{Done, Last, Expected}
 use Rattle.eu_model.specs.Marks.{last}
 use Rattle.eu_model.specs.Meter.{expected_after}
 use Rattle.eu_model.specs.Machine.{Machine}
-use Rattle.eu_model.specs.Step.{rolled, updated}
+use Rattle.eu_model.specs.Step.{rolled, updated, reconfigured}
 use Rattle.eu_model.specs.Plain.{Plain, listed, plain}
 use Rattle.eu_model.specs.Answers.{Answers}
-use Rattle.eu_model.specs.Kept.{kept_rolled, kept_updated}
+use Rattle.eu_model.specs.Kept.{kept_rolled, kept_updated, kept_reconfigured}
 use Rattle.eu_model.proofs.MarkLemmas.{since_minute, last_minute}
 use Rattle.eu_model.proofs.MapLemmas.{len-map_values}
 use Rattle.eu_model.proofs.AnswerLemmas.{IsKept, answered}
@@ -35,3 +36,9 @@ update_is_kept = record {
 
 pub update_answers : (t : ℕ) (p : Plain) → Answers p Update t (Ok (Expected (kept_updated p))) (record p { expected = kept_updated p })
 update_answers t p = answered Update t _ _ _ _ (λ q. None) update_is_kept (λ s. (refl, refl)) (λ s. refl) p refl
+
+pub reconfigure_is_kept : (config : Config) → IsKept (λ s. reconfigured s config) (λ s. Done) (λ p. kept_reconfigured p config) (λ p. Done)
+reconfigure_is_kept config = record { nexts = λ s. refl; replies = λ s. refl }
+
+pub reconfigure_answers : (config : Config) (t : ℕ) (p : Plain) → Answers p (Reconfigure config) t (Ok Done) (kept_reconfigured p config)
+reconfigure_answers config t p = answered (Reconfigure config) t _ _ _ _ (λ q. None) (reconfigure_is_kept config) (λ s. (refl, refl)) (λ s. refl) p refl

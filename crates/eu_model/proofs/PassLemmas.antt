@@ -1,17 +1,21 @@
 -- What is so of every eviction pass
-use Rattle.std.proofs.Common.{◌≡◌, ℕ, ◌≤◌, T, Bool, true, false, List, [], ◌∷◌, map, filter, length, refl, ap, ◌∙◌, subst, All, Contains, get_or, arith, min}
-use Rattle.std.specs.Prelude.{cond, Some, ◌&&◌, ◌||◌, not, nat_lt}
+use Rattle.std.proofs.Common.{◌≡◌, ℕ, suc, ◌≤◌, ◌<◌, T, Bool, true, false, List, [], ◌∷◌, map, filter, take, length, refl, sym, ap, ◌∙◌, subst, All, Contains, get_or, arith, min}
+use Rattle.std.specs.Prelude.{cond, Some, unwrap_or, ◌&&◌, ◌||◌, not, nat_lt}
+use Rattle.std.specs.List.{IsDistinct}
 use Rattle.std.specs.declared.cmp.Ordering.{Ordering}
 use Rattle.std.specs.declared.cmp.Ordering.TheVariants.{Less, Equal, Greater}
 use Rattle.std.specs.Ordering.{eq_by_cmp, is_eq, is_lt, ordering_reverse}
-use Rattle.std.specs.FinMap.{len, entries, entries_sorted, get-entries}
+use Rattle.std.specs.FinMap.{get, len, entries, entries_sorted, get-entries}
 use Rattle.std.specs.FinMap.Entries.{find, is_sorted, below_all}
 use Rattle.std.proofs.lemmas.Bool.Decides.{nat_tests}
 use Rattle.std.proofs.lemmas.Cmp.{tied_itself}
-use Rattle.std.proofs.lemmas.List.Elements.{All-nil, All-cons, All-map, All-filter, All-contains}
+use Rattle.std.proofs.lemmas.Option.{none-some}
+use Rattle.std.proofs.lemmas.List.{get_or-take, length-take}
+use Rattle.std.proofs.lemmas.Map.Keys.{IsDistinct-from_apart, apart_from_distinct}
+use Rattle.std.proofs.lemmas.List.Elements.{All-nil, All-cons, All-map, All-filter, All-contains, recursion_from_All}
 use Rattle.eu_base.specs.declared.names.Key.{Key}
-use Rattle.eu_base.specs.Key.{key_cmp}
-use Rattle.eu_base.proofs.KeyLemmas.{keys_total}
+use Rattle.eu_base.specs.Key.{key_cmp, key_eq}
+use Rattle.eu_base.proofs.KeyLemmas.{keys_total, key_eq-ties, key_eq-Decides}
 use Rattle.eu_model.specs.declared.commands.Reply.TheVariants.{Evicted}
 use Rattle.eu_model.specs.Record.{Record, is_expired}
 use Rattle.eu_model.specs.Marks.{last}
@@ -79,17 +83,67 @@ module _ (test : Record → Bool) where
       let more = is_sorted key_cmp es in
       after_one e es (first one more h) (passes es (second one more h))
 
-victims_are : (vs ws : List Key) → Evicted vs ≡ Evicted ws → vs ≡ ws
+  -- each stands once
+  once : (es : List (Key × Record)) → T (is_sorted key_cmp es) → IsDistinct key_eq (passing es)
+  unfolding IsDistinct
+  once [] h = tt
+  once (e ∷ es) h =
+      let ordered = below e.0 es (first (below_all key_cmp e.0 es) (is_sorted key_cmp es) h) in
+      let later = All-map (λ k. key_cmp e.0 k ≡ Less) (λ d. d.0) (filter (λ d. test d.1) es) (All-filter (λ d. test d.1) (λ d. key_cmp e.0 d.0 ≡ Less) es ordered) in
+      let others = once es (second (below_all key_cmp e.0 es) (is_sorted key_cmp es) h) in
+      elim (test e.1) as (λ b. IsDistinct key_eq (map (λ d. d.0) (cond b (e ∷ filter (λ d. test d.1) es) (filter (λ d. test d.1) es)))) [
+        | true ↦ (recursion_from_All (λ k. key_eq e.0 k ≡ false) (passing es) (λ i d lt. key_eq-ties e.0 (get_or (passing es) i d) ∙ ap is_eq (later i d lt)), others)
+        | false ↦ others
+      ]
+
+  -- a record that passes the test is among them
+  found : (es : List (Key × Record)) (k : Key) (r : Record) → find key_cmp k es ≡ Some r → test r ≡ true → Contains (passing es) k
+  found [] k r at is = absurd (none-some r at)
+  found (e ∷ es) k r at is =
+      elim (eq_by_cmp key_cmp k e.0) as (λ b. eq_by_cmp key_cmp k e.0 ≡ b → cond b (Some e.1) (find key_cmp k es) ≡ Some r → Contains (passing (e ∷ es)) k) [
+        | true ↦ λ tie here.
+            let same : k ≡ e.0 = (key_eq-Decides k e.0).0 (key_eq-ties k e.0 ∙ tie) in
+            let passed : test e.1 ≡ true = ap (λ o. test (unwrap_or o e.1)) here ∙ is in
+            subst (λ b. Contains (map (λ d. d.0) (cond b (e ∷ filter (λ d. test d.1) es) (filter (λ d. test d.1) es))) k) (sym passed) (0, omega arith, sym same)
+        | false ↦ λ tie there.
+            let inside = found es k r there is in
+            elim (test e.1) as (λ b. Contains (map (λ d. d.0) (cond b (e ∷ filter (λ d. test d.1) es) (filter (λ d. test d.1) es))) k) [
+              | true ↦ (suc inside.0, omega (arith, inside.1), inside.2)
+              | false ↦ inside
+            ]
+      ] refl at
+
+module _ (s : Machine) (t : ℕ) where
+  abbrev late : Record → Bool
+  late r = is_expired r t (extra_time s.config s.previous t)
+
+  -- whatever is due is held, and has expired
+  pub due_expired : (k : Key) → Contains (due s t) k → (r : Record) × (get s.leases k ≡ Some r) × (is_expired r t (extra_time s.config s.previous t) ≡ true)
+  due_expired k inside =
+      let p = All-contains (Passes late (entries s.leases)) (due s t) k (passes late (entries s.leases) (entries_sorted s.leases)) inside in
+      (p.0, get-entries s.leases k ∙ p.1, p.2)
+
+  -- and whatever is held and has expired is due, once
+  pub expired_due : (k : Key) (r : Record) → get s.leases k ≡ Some r → is_expired r t (extra_time s.config s.previous t) ≡ true → Contains (due s t) k
+  expired_due k r at is = found late (entries s.leases) k r (sym (get-entries s.leases k) ∙ at) is
+
+  pub due_once : IsDistinct key_eq (due s t)
+  due_once = once late (entries s.leases) (entries_sorted s.leases)
+
+-- what stands once in a list does in its front
+pub IsDistinct-take : (n : ℕ) (ks : List Key) → IsDistinct key_eq ks → IsDistinct key_eq (take n ks)
+IsDistinct-take n ks h = IsDistinct-from_apart key_eq (take n ks) (λ i j d lt inside.
+    let low : j < n = omega (arith, inside, length-take n ks) in
+    (λ t. key_eq (get_or-take n ks i d (omega (arith, lt, low)) t) (get_or-take n ks j d low t)) ∙ apart_from_distinct key_eq ks i j d h lt (omega (arith, inside, length-take n ks)))
+
+pub victims_are : (vs ws : List Key) → Evicted vs ≡ Evicted ws → vs ≡ ws
 victims_are vs ws e = cc
 
 pub victims_have_expired : VictimsHaveExpired
 victims_have_expired s t victims new step k inside =
-    let expired = All-contains (Contains (due s t)) step.0 k step.2.expired (subst (λ vs. Contains vs k) (victims_are victims step.0 step.1) inside) in
-    let test = λ (r : Record). is_expired r t (extra_time s.config s.previous t) in
-    let p = All-contains (Passes test (entries s.leases)) (due s t) k (passes test (entries s.leases) (entries_sorted s.leases)) expired in
-    (p.0, get-entries s.leases k ∙ p.1, p.2)
+    due_expired s t k (All-contains (Contains (due s t)) step.0 k step.2.expired (subst (λ vs. Contains vs k) (victims_are victims step.0 step.1) inside))
 
-number_of : (s : Machine) (t : ℕ) (victims : List Key) (v : List Key) → Evicted victims ≡ Evicted v → AreVictims s t v → length victims ≡ number_evicted s t
+pub number_of : (s : Machine) (t : ℕ) (victims : List Key) (v : List Key) → Evicted victims ≡ Evicted v → AreVictims s t v → length victims ≡ number_evicted s t
 number_of s t victims v e are = ap length (victims_are victims v e) ∙ are.number
 
 pub passes_keep_the_share : PassesKeepTheShare

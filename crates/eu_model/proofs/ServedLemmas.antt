@@ -4,7 +4,7 @@ use Rattle.std.specs.Prelude.{Ok, Err, slice_get, slice_set}
 use Rattle.eu_base.specs.declared.faults.Fault.{Fault}
 use Rattle.eu_base.specs.declared.faults.Fault.TheVariants.{NoPeer}
 use Rattle.eu_model.specs.declared.commands.Command.{Command}
-use Rattle.eu_model.specs.declared.commands.Command.TheVariants.{Register, Renew, Cancel, SetStatus, UnsetStatus, Adopt, Roll, Update, Evict, Drain, Landed, Lost}
+use Rattle.eu_model.specs.declared.commands.Command.TheVariants.{Drain, Landed, Lost}
 use Rattle.eu_model.specs.declared.commands.Reply.{Reply}
 use Rattle.eu_model.specs.declared.commands.Reply.TheVariants.{Batch, Settled}
 use Rattle.eu_model.specs.declared.queues.Queue.{Queue}
@@ -25,29 +25,13 @@ is_machine_step : (s : Server) (c : Command) (t : ℕ) (reply : Reply) (new : Se
 is_machine_step s (Drain peer) t reply new e step = cc
 is_machine_step s (Landed peer codes) t reply new e step = cc
 is_machine_step s (Lost peer) t reply new e step = cc
-is_machine_step s (Register n replicated) t reply new e step = step
-is_machine_step s (Renew k dirty overridden replicated) t reply new e step = step
-is_machine_step s (Cancel k replicated) t reply new e step = step
-is_machine_step s (SetStatus k status dirty replicated) t reply new e step = step
-is_machine_step s (UnsetStatus k suggested dirty replicated) t reply new e step = step
-is_machine_step s (Adopt n) t reply new e step = step
-is_machine_step s Roll t reply new e step = step
-is_machine_step s Update t reply new e step = step
-is_machine_step s Evict t reply new e step = step
+is_machine_step s c t reply new e step = step
 
 is_machine_fault : (s : Server) (c : Command) (t : ℕ) → is_for_peers c ≡ false → server_fault s c t ≡ fault s.machine c t
 is_machine_fault s (Drain peer) t e = cc
 is_machine_fault s (Landed peer codes) t e = cc
 is_machine_fault s (Lost peer) t e = cc
-is_machine_fault s (Register n replicated) t e = refl
-is_machine_fault s (Renew k dirty overridden replicated) t e = refl
-is_machine_fault s (Cancel k replicated) t e = refl
-is_machine_fault s (SetStatus k status dirty replicated) t e = refl
-is_machine_fault s (UnsetStatus k suggested dirty replicated) t e = refl
-is_machine_fault s (Adopt n) t e = refl
-is_machine_fault s Roll t e = refl
-is_machine_fault s Update t e = refl
-is_machine_fault s Evict t e = refl
+is_machine_fault s c t e = refl
 
 -- a step of the registry, whose task goes into each queue, is a step of the server
 pub registry_answers : (p : Plain) (qs : List Queue) (c : Command) (t : ℕ) (reply : Reply) (new : Plain) → is_for_peers c ≡ false → Answers p c t (Ok reply) new

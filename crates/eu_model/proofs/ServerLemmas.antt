@@ -1,5 +1,5 @@
 -- What a server does depends on what is kept of its machine, and on its queues; what peers and timers do queues nothing
-use Rattle.std.proofs.Common.{◌≡◌, ℕ, true, false, List, map, Option, Some, None, refl, sym, ap, ◌∙◌}
+use Rattle.std.proofs.Common.{◌≡◌, ℕ, false, List, map, Option, Some, None, refl, sym, ap, ◌∙◌}
 use Rattle.std.specs.Prelude.{slice_get, slice_set}
 use Rattle.std.specs.Option.{option_map}
 use Rattle.std.specs.FinMap.{get}
@@ -7,7 +7,7 @@ use Rattle.std.proofs.lemmas.List.{map-id}
 use Rattle.eu_base.specs.declared.faults.Fault.{Fault}
 use Rattle.eu_base.specs.declared.names.Key.{Key}
 use Rattle.eu_model.specs.declared.commands.Command.{Command}
-use Rattle.eu_model.specs.declared.commands.Command.TheVariants.{Register, Renew, Cancel, SetStatus, UnsetStatus, Adopt, Roll, Update, Evict, Drain, Landed, Lost}
+use Rattle.eu_model.specs.declared.commands.Command.TheVariants.{Register, Renew, Cancel, SetStatus, UnsetStatus, Drain, Landed, Lost}
 use Rattle.eu_model.specs.declared.commands.Reply.{Reply}
 use Rattle.eu_model.specs.Machine.{Machine}
 use Rattle.eu_model.specs.Plain.{plain, listed, held_under}
@@ -62,15 +62,7 @@ pub servers_step_alike : ServersStepAlike
 servers_step_alike s s' (Drain peer) t reply new e (next, turns, is) = let n = queue_alike s s' peer (drained t) next new e turns in (n.0, (next, n.1, is), n.2)
 servers_step_alike s s' (Landed peer codes) t reply new e (next, turns, is) = let n = queue_alike s s' peer (landed t codes) next new e turns in (n.0, (next, n.1, is), n.2)
 servers_step_alike s s' (Lost peer) t reply new e (next, turns, is) = let n = queue_alike s s' peer (lost t) next new e turns in (n.0, (next, n.1, is), n.2)
-servers_step_alike s s' (Register n replicated) t reply new e step = machine_alike s s' (Register n replicated) t reply new e step
-servers_step_alike s s' (Renew k dirty overridden replicated) t reply new e step = machine_alike s s' (Renew k dirty overridden replicated) t reply new e step
-servers_step_alike s s' (Cancel k replicated) t reply new e step = machine_alike s s' (Cancel k replicated) t reply new e step
-servers_step_alike s s' (SetStatus k status dirty replicated) t reply new e step = machine_alike s s' (SetStatus k status dirty replicated) t reply new e step
-servers_step_alike s s' (UnsetStatus k suggested dirty replicated) t reply new e step = machine_alike s s' (UnsetStatus k suggested dirty replicated) t reply new e step
-servers_step_alike s s' (Adopt n) t reply new e step = machine_alike s s' (Adopt n) t reply new e step
-servers_step_alike s s' Roll t reply new e step = machine_alike s s' Roll t reply new e step
-servers_step_alike s s' Update t reply new e step = machine_alike s s' Update t reply new e step
-servers_step_alike s s' Evict t reply new e step = machine_alike s s' Evict t reply new e step
+servers_step_alike s s' c t reply new e step = machine_alike s s' c t reply new e step
 
 -- ---- faults
 
@@ -84,15 +76,7 @@ pub servers_fault_alike : ServersFaultAlike
 servers_fault_alike s s' (Drain peer) t e = queue_faults s s' peer (drain_fault t) e
 servers_fault_alike s s' (Landed peer codes) t e = queue_faults s s' peer (landed_fault codes) e
 servers_fault_alike s s' (Lost peer) t e = queue_faults s s' peer lost_fault e
-servers_fault_alike s s' (Register n replicated) t e = machine_faults s s' (Register n replicated) t e
-servers_fault_alike s s' (Renew k dirty overridden replicated) t e = machine_faults s s' (Renew k dirty overridden replicated) t e
-servers_fault_alike s s' (Cancel k replicated) t e = machine_faults s s' (Cancel k replicated) t e
-servers_fault_alike s s' (SetStatus k status dirty replicated) t e = machine_faults s s' (SetStatus k status dirty replicated) t e
-servers_fault_alike s s' (UnsetStatus k suggested dirty replicated) t e = machine_faults s s' (UnsetStatus k suggested dirty replicated) t e
-servers_fault_alike s s' (Adopt n) t e = machine_faults s s' (Adopt n) t e
-servers_fault_alike s s' Roll t e = machine_faults s s' Roll t e
-servers_fault_alike s s' Update t e = machine_faults s s' Update t e
-servers_fault_alike s s' Evict t e = machine_faults s s' Evict t e
+servers_fault_alike s s' c t e = machine_faults s s' c t e
 
 -- ---- what peers and timers do
 
@@ -100,20 +84,12 @@ no_task : (qs : List Queue) → map (with_task None) qs ≡ qs
 no_task qs = map-id qs
 
 pub nothing_is_queued : NothingIsQueued
-nothing_is_queued s (Register n true) t reply new step e = step.1 ∙ no_task s.queues
 nothing_is_queued s (Register n false) t reply new step e = cc
-nothing_is_queued s (Renew k dirty overridden true) t reply new step e = step.1 ∙ no_task s.queues
 nothing_is_queued s (Renew k dirty overridden false) t reply new step e = cc
-nothing_is_queued s (Cancel k true) t reply new step e = step.1 ∙ no_task s.queues
 nothing_is_queued s (Cancel k false) t reply new step e = cc
-nothing_is_queued s (SetStatus k status dirty true) t reply new step e = step.1 ∙ no_task s.queues
 nothing_is_queued s (SetStatus k status dirty false) t reply new step e = cc
-nothing_is_queued s (UnsetStatus k suggested dirty true) t reply new step e = step.1 ∙ no_task s.queues
 nothing_is_queued s (UnsetStatus k suggested dirty false) t reply new step e = cc
-nothing_is_queued s (Adopt n) t reply new step e = step.1 ∙ no_task s.queues
-nothing_is_queued s Roll t reply new step e = cc
-nothing_is_queued s Update t reply new step e = cc
-nothing_is_queued s Evict t reply new step e = step.1 ∙ no_task s.queues
 nothing_is_queued s (Drain peer) t reply new step e = cc
 nothing_is_queued s (Landed peer codes) t reply new step e = cc
 nothing_is_queued s (Lost peer) t reply new step e = cc
+nothing_is_queued s c t reply new step e = step.1 ∙ no_task s.queues

@@ -34,10 +34,12 @@ pub record AreVictims (s : Machine) (t : ℕ) (victims : List Key) : Type 0 wher
   pub once : IsDistinct key_eq victims
   pub number : length victims ≡ number_evicted s t
 
--- the machine after a pass: the victims' leases and their ids' rows are gone, and it is the previous pass. The number expected stays
+-- the machine after a pass: the victims' leases and their ids' rows are gone, each victim is one less expected, though never fewer than
+-- none are (`AbstractInstanceRegistry.internalCancel`), and it is the previous pass
 abbrev pub evicted : Machine → ℕ → List Key → Machine
 evicted s t victims = record s {
   leases = without s.leases victims;
   rows = without s.rows (map (λ k. k.id) victims);
+  expected = s.expected - length victims;
   previous = Some t;
 }

@@ -5,7 +5,7 @@ use Rattle.eu_base.specs.declared.faults.Fault.{Fault}
 use Rattle.eu_base.specs.declared.faults.Fault.TheVariants.{Full, Exhausted}
 use Rattle.eu_base.specs.declared.names.Key.{Key}
 use Rattle.eu_model.specs.declared.commands.Command.{Command}
-use Rattle.eu_model.specs.declared.commands.Command.TheVariants.{Register, Renew, Cancel, SetStatus, UnsetStatus, Adopt, Roll, Update, Evict, Drain, Landed, Lost}
+use Rattle.eu_model.specs.declared.commands.Command.TheVariants.{Register, Renew, Cancel, SetStatus, UnsetStatus, Adopt, Roll, Update, Reconfigure, Evict, Drain, Landed, Lost}
 use Rattle.eu_model.specs.Marks.{since}
 use Rattle.eu_model.specs.Machine.{Machine}
 use Rattle.eu_model.specs.Change.{renew}
@@ -30,6 +30,7 @@ fault s (UnsetStatus k suggested dirty replicated) t = None
 fault s (Adopt n) t = join_fault s n.key
 fault s Roll t = None
 fault s Update t = None
+fault s (Reconfigure config) t = None
 fault s Evict t = None
 -- what goes to peers is refused by their queues
 fault s (Drain peer) t = None

@@ -1,8 +1,9 @@
 -- The steps, taken on what is kept: changes of one lease by the rules of `Change`; expiry, visibility, faults and passes as `Law` shows them to be those of the machine
-use Rattle.std.specs.Prelude.{◌≡◌, ℕ, ◌+◌, ◌^◌, ◌==◌, Bool, ◌&&◌, nat_lt, if◌then◌else◌, Option, Some, None, List, [], ◌∷◌, length, map, filter, All, Contains}
+use Rattle.std.specs.Prelude.{◌≡◌, ℕ, ◌+◌, ◌-◌, ◌^◌, ◌==◌, Bool, ◌&&◌, nat_lt, if◌then◌else◌, Option, Some, None, List, [], ◌∷◌, length, map, filter, All, Contains}
 use Rattle.std.specs.Option.{option_map}
 use Rattle.std.specs.List.{IsDistinct}
 use Rattle.std.specs.FinMap.{get, len, contains_key, entries}
+use Rattle.eu_base.specs.declared.settings.Config.{Config}
 use Rattle.eu_base.specs.declared.statuses.Status.{Status}
 use Rattle.eu_base.specs.declared.times.Stamp.{Stamp}
 use Rattle.eu_base.specs.declared.faults.Fault.{Fault}
@@ -96,6 +97,9 @@ kept_rolled p = record p { last = p.since; since = 0 }
 abbrev pub kept_updated : Plain → ℕ
 kept_updated p = expected_after p.config p.expected (len p.leases)
 
+abbrev pub kept_reconfigured : Plain → Config → Plain
+kept_reconfigured p config = record p { config = config }
+
 -- the keys of what has expired, in key order
 abbrev pub kept_due : Plain → ℕ → List Key
 kept_due p t = map (λ e. e.0) (filter (λ e. kept_expired e.1 t (extra_time p.config p.previous t)) (entries p.leases))
@@ -113,5 +117,6 @@ abbrev pub kept_evicted : Plain → ℕ → List Key → Plain
 kept_evicted p t victims = record p {
   leases = without p.leases victims;
   rows = without p.rows (map (λ k. k.id) victims);
+  expected = p.expected - length victims;
   previous = Some t;
 }

@@ -22,3 +22,5 @@ pub mod Server
 pub mod ServerAnswers
 pub mod ServerLaw
 pub mod Runs
+pub mod History
+pub mod RunLaw

@@ -1,7 +1,7 @@
 -- Commands and replies that own no memory
 use Rattle.std.specs.Prelude.{Bool, true, false}
 use Rattle.eu_model.specs.declared.commands.Command.{Command}
-use Rattle.eu_model.specs.declared.commands.Command.TheVariants.{Roll, Update, Evict, Drain, Lost}
+use Rattle.eu_model.specs.declared.commands.Command.TheVariants.{Roll, Update, Reconfigure, Evict, Drain, Lost}
 use Rattle.eu_model.specs.declared.commands.Reply.{Reply}
 use Rattle.eu_model.specs.declared.commands.Reply.TheVariants.{Conflict, Evicted, Batch}
 
@@ -16,6 +16,7 @@ owns_nothing _ = true
 abbrev pub names_nothing : Command → Bool
 names_nothing Roll = true
 names_nothing Update = true
+names_nothing (Reconfigure config) = true
 names_nothing Evict = true
 names_nothing (Drain peer) = true
 names_nothing (Lost peer) = true

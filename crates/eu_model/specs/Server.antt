@@ -12,7 +12,7 @@ use Rattle.eu_base.specs.declared.tasks.Action.{Action}
 use Rattle.eu_base.specs.declared.tasks.Action.TheVariants as action
 use Rattle.eu_base.specs.declared.tasks.Task.{Task}
 use Rattle.eu_model.specs.declared.commands.Command.{Command}
-use Rattle.eu_model.specs.declared.commands.Command.TheVariants.{Register, Renew, Cancel, SetStatus, UnsetStatus, Adopt, Roll, Update, Evict, Drain, Landed, Lost}
+use Rattle.eu_model.specs.declared.commands.Command.TheVariants.{Register, Renew, Cancel, SetStatus, UnsetStatus, Adopt, Roll, Update, Reconfigure, Evict, Drain, Landed, Lost}
 use Rattle.eu_model.specs.declared.commands.Entry.{Entry}
 use Rattle.eu_model.specs.declared.commands.Reply.{Reply}
 use Rattle.eu_model.specs.declared.commands.Reply.TheVariants.{Registered, Done, Stale, Batch, Settled}
@@ -43,6 +43,7 @@ key_of (UnsetStatus k suggested dirty replicated) = Some k
 key_of (Adopt n) = Some n.key
 key_of Roll = None
 key_of Update = None
+key_of (Reconfigure config) = None
 key_of Evict = None
 key_of (Drain peer) = None
 key_of (Landed peer codes) = None

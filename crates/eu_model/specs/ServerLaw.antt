@@ -1,26 +1,29 @@
 -- What is so of a server with its peers
 use Rattle.std.specs.Prelude.{◌≡◌, ℕ, Bool, true, false}
 use Rattle.eu_model.specs.declared.commands.Command.{Command}
-use Rattle.eu_model.specs.declared.commands.Command.TheVariants.{Register, Renew, Cancel, SetStatus, UnsetStatus, Adopt, Evict}
+use Rattle.eu_model.specs.declared.commands.Command.TheVariants.{Register, Renew, Cancel, SetStatus, UnsetStatus, Adopt, Roll, Update, Reconfigure, Evict}
 use Rattle.eu_model.specs.declared.commands.Reply.{Reply}
 use Rattle.eu_model.specs.Server.{Server, PlainServer, ServerStep, server_fault, plain_server}
 
--- a peer sent it, or it is an adoption or an eviction pass
-abbrev pub is_of_peers_or_timers : Command → Bool
-is_of_peers_or_timers (Register n replicated) = replicated
-is_of_peers_or_timers (Renew k dirty overridden replicated) = replicated
-is_of_peers_or_timers (Cancel k replicated) = replicated
-is_of_peers_or_timers (SetStatus k status dirty replicated) = replicated
-is_of_peers_or_timers (UnsetStatus k suggested dirty replicated) = replicated
-is_of_peers_or_timers (Adopt n) = true
-is_of_peers_or_timers Evict = true
-is_of_peers_or_timers _ = false
+-- a peer sent it, or it is an adoption, a timer's command or a change of the settings
+abbrev pub tells_no_peer : Command → Bool
+tells_no_peer (Register n replicated) = replicated
+tells_no_peer (Renew k dirty overridden replicated) = replicated
+tells_no_peer (Cancel k replicated) = replicated
+tells_no_peer (SetStatus k status dirty replicated) = replicated
+tells_no_peer (UnsetStatus k suggested dirty replicated) = replicated
+tells_no_peer (Adopt n) = true
+tells_no_peer Roll = true
+tells_no_peer Update = true
+tells_no_peer (Reconfigure config) = true
+tells_no_peer Evict = true
+tells_no_peer _ = false
 
 -- such a step queues nothing
 abbrev pub NothingIsQueued : Type 0
 NothingIsQueued =
     (s : Server) (c : Command) (t : ℕ) (reply : Reply) (new : Server) → ServerStep s c t reply new
-    → is_of_peers_or_timers c ≡ true → new.queues ≡ s.queues
+    → tells_no_peer c ≡ true → new.queues ≡ s.queues
 
 -- what one server may answer and go on to, another of the same plain form may too, with the same plain form after
 abbrev pub ServersStepAlike : Type 0

@@ -2,10 +2,11 @@
 use Rattle.std.specs.Prelude.{◌≡◌, ℕ, Bool, if◌then◌else◌, List, [], ◌∷◌, ◌++◌}
 use Rattle.std.specs.FinMap.{get, len}
 use Rattle.eu_base.specs.declared.names.Key.{Key}
+use Rattle.eu_base.specs.declared.settings.Config.{Config}
 use Rattle.eu_model.specs.declared.commands.Command.{Command}
-use Rattle.eu_model.specs.declared.commands.Command.TheVariants.{Register, Renew, Cancel, SetStatus, UnsetStatus, Adopt, Roll, Update, Evict, Drain, Landed, Lost}
+use Rattle.eu_model.specs.declared.commands.Command.TheVariants.{Register, Renew, Cancel, SetStatus, UnsetStatus, Adopt, Roll, Update, Reconfigure, Evict, Drain, Landed, Lost}
 use Rattle.eu_model.specs.declared.commands.Reply.{Reply}
-use Rattle.eu_model.specs.declared.commands.Reply.TheVariants.{Last, Expected, Evicted}
+use Rattle.eu_model.specs.declared.commands.Reply.TheVariants.{Done, Last, Expected, Evicted}
 use Rattle.eu_model.specs.Record.{Record}
 use Rattle.eu_model.specs.Marks.{Mark, last}
 use Rattle.eu_model.specs.Marks.Mark.{Renewal, Minute}
@@ -40,6 +41,11 @@ rolled s = record s { marks = s.marks ++ Minute ∷ [] }
 abbrev pub updated : Machine → ℕ
 updated s = expected_after s.config s.expected (len s.leases)
 
+-- the machine under other settings. The number expected, the marks and the previous pass stay (Eureka reads its settings,
+-- `EurekaServerConfig`, from its properties, which may change while it runs)
+abbrev pub reconfigured : Machine → Config → Machine
+reconfigured s config = record s { config = config }
+
 -- From old, the machine may answer the command so at the moment t, and go on to new
 abbrev pub Step : Machine → Command → ℕ → Reply → Machine → Type 0
 Step old (Register n replicated) t reply new =
@@ -54,6 +60,7 @@ Step old (UnsetStatus k suggested dirty replicated) t reply new =
 Step old (Adopt n) t reply new = Changes old n.key (adopt (get old.leases n.key) (get old.rows n.key.id) old.expected n t) reply new
 Step old Roll t reply new = (reply ≡ Last (last (rolled old).marks)) × (new ≡ rolled old)
 Step old Update t reply new = (reply ≡ Expected (updated old)) × (new ≡ record old { expected = updated old })
+Step old (Reconfigure config) t reply new = (reply ≡ Done) × (new ≡ reconfigured old config)
 -- what goes to peers is no step of the machine alone
 Step old (Drain peer) t reply new = ⊥
 Step old (Landed peer codes) t reply new = ⊥

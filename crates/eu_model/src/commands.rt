@@ -3,7 +3,7 @@ ghost use Rattle.std.specs.Prelude.{◌≡◌, ◌↔◌, true, IfOk, IsOk, IsTr
 ghost use Rattle.eu_model.specs.Owned.{names_nothing, owns_nothing};
 
 use crate::{Keys, Tasks};
-use eu_base::{Codes, Instance, Key, Moment, Stamp, Status};
+use eu_base::{Codes, Config, Instance, Key, Moment, Stamp, Status};
 use std::alloc::{AllocError, Global};
 
 /// What changes a registry, or a server with peers. Each is one step of the lease machine, but for `Drain`, `Landed` and `Lost`, which
@@ -66,6 +66,12 @@ pub enum Command {
     Roll,
     /// The number of clients is counted anew (`PeerAwareInstanceRegistryImpl.updateRenewalThreshold`).
     Update,
+    /// An operator changes the settings while the registry runs (Eureka reads its `EurekaServerConfig` from properties, which may
+    /// change so).
+    Reconfigure {
+        /// The settings from now on.
+        config: Config,
+    },
     /// An eviction pass (`AbstractInstanceRegistry.evict`).
     Evict,
     /// The next tasks that wait for a peer go in flight to it, as one batch (`TaskExecutors` in Eureka).
@@ -119,6 +125,7 @@ impl Command {
             Command::Adopt { instance } => is_adopt(other, instance),
             Command::Roll => matches!(other, Command::Roll),
             Command::Update => matches!(other, Command::Update),
+            Command::Reconfigure { config } => is_reconfigure(other, config),
             Command::Evict => matches!(other, Command::Evict),
             Command::Drain { peer } =>
                 matches!(other, Command::Drain { peer: theirs } if *theirs == *peer),
@@ -160,6 +167,7 @@ impl Command {
             Command::Adopt { instance } => copy_adopt(alloc, instance),
             Command::Roll => Ok(Command::Roll),
             Command::Update => Ok(Command::Update),
+            Command::Reconfigure { config } => Ok(Command::Reconfigure { config: *config }),
             Command::Evict => Ok(Command::Evict),
             Command::Drain { peer } => Ok(Command::Drain { peer: *peer }),
             Command::Landed { peer, codes } => copy_landed(alloc, *peer, codes),
@@ -270,6 +278,16 @@ fn is_adopt(command: &Command, instance: &Instance) -> bool
 {
     match command {
         Command::Adopt { instance: theirs } => theirs.same(instance),
+        _ => false,
+    }
+}
+
+/// Whether it is this change of the settings.
+fn is_reconfigure(command: &Command, config: &Config) -> bool
+    ensures { IsTrue result ↔ (command.now ≡ Command.Reconfigure config.now) }
+{
+    match command {
+        Command::Reconfigure { config: theirs } => theirs.same(config),
         _ => false,
     }
 }

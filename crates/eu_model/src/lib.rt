@@ -18,7 +18,8 @@ pub use commands::{Command, Entry, Reply};
 pub use keys::Keys;
 pub use law::{
     leases_are_accounted, passes_are_safe, peers_and_timers_queue_nothing, plain_form_decides,
-    plain_servers_decide,
+    plain_servers_decide, preservation_keeps_all, runs_are_what_entries_say, who_is_silent_goes,
+    who_renews_is_kept,
 };
 pub use listings::Listing;
 pub use queues::{Queue, Queues};

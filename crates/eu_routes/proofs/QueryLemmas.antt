@@ -11,27 +11,48 @@ use Rattle.std.specs.Str.{all_ascii_digits, bytes_eq}
 use Rattle.std.specs.Str.Parse.{digits_value}
 use Rattle.std.specs.Result.{OkIff, result_ok}
 use Rattle.eu_base.specs.declared.times.Stamp.{Stamp}
-use Rattle.eu_routes.specs.Query.{is_stamp, stamp_of, number_of}
+use Rattle.eu_routes.specs.Query.{is_number, stamp_of, u32_of, number_of}
 
 pub digits : IsNumeralModel (λ ds. all_ascii_digits ds ≡ true) (digits_value 10)
 digits = numerals_by_value _ tells_all_ascii_digits
 
--- what is a stamp, and what isn't
+-- what is a number, and what isn't
+module _ (most limit : ℕ) (text : List ℕ) where
+  is : 0 < length text → length text < most → all_ascii_digits text ≡ true → digits_value 10 text < limit → is_number most limit text ≡ true
+  is filled short all small = and_from _ _ (and_from _ _ (and_from _ _ (lt-ltb _ _ filled) (lt-ltb _ _ short)) all) (lt-ltb _ _ small)
+
+  isnt : (0 < length text → length text < most → all_ascii_digits text ≡ true → digits_value 10 text < limit → ⊥) → is_number most limit text ≡ false
+  isnt other = false_from_ne_true _ (λ e.
+      let p = and_parts _ _ e in
+      let q = and_parts _ _ p.0 in
+      let r = and_parts _ _ q.0 in
+      other (ltb-true _ _ r.0) (ltb-true _ _ r.1) q.1 (ltb-true _ _ p.1))
+
 pub some_stamp : (text : List ℕ) → 0 < length text → length text < 20 → all_ascii_digits text ≡ true → digits_value 10 text < 2 ^ 63 → stamp_of text ≡ Some (digits_value 10 text)
 unfolding stamp_of
-some_stamp text filled short all small =
-    let is : is_stamp text ≡ true = and_from _ _ (and_from _ _ (and_from _ _ (lt-ltb _ _ filled) (lt-ltb _ _ short)) all) (lt-ltb _ _ small) in
-    rw is refl
+some_stamp text filled short all small = rw (is 20 (2 ^ 63) text filled short all small) refl
 
 pub no_stamp : (text : List ℕ) → (0 < length text → length text < 20 → all_ascii_digits text ≡ true → digits_value 10 text < 2 ^ 63 → ⊥) → stamp_of text ≡ None
 unfolding stamp_of
-no_stamp text other =
-    let is : is_stamp text ≡ false = false_from_ne_true _ (λ e.
-    let p = and_parts _ _ e in
-    let q = and_parts _ _ p.0 in
-    let r = and_parts _ _ q.0 in
-    other (ltb-true _ _ r.0) (ltb-true _ _ r.1) q.1 (ltb-true _ _ p.1)) in
-    rw is refl
+no_stamp text other = rw (isnt 20 (2 ^ 63) text other) refl
+
+some_u32 : (text : List ℕ) → 0 < length text → length text < 11 → all_ascii_digits text ≡ true → digits_value 10 text < 2 ^ 32 → u32_of text ≡ Some (digits_value 10 text)
+unfolding u32_of
+some_u32 text filled short all small = rw (is 11 (2 ^ 32) text filled short all small) refl
+
+no_u32 : (text : List ℕ) → (0 < length text → length text < 11 → all_ascii_digits text ≡ true → digits_value 10 text < 2 ^ 32 → ⊥) → u32_of text ≡ None
+unfolding u32_of
+no_u32 text other = rw (isnt 11 (2 ^ 32) text other) refl
+
+-- a text of more digits is none
+pub long_u32 : (text : List ℕ) → 10 < length text → u32_of text ≡ None
+long_u32 text long = no_u32 text (λ filled short all small. omega arith)
+
+-- a text that was parsed as a number below 2^32, or wasn't
+pub parsed_u32 : {E : Type 0} (text : List ℕ) (r : Result ℕ E) → OkIff r ((all_ascii_digits text ≡ true) × (0 < length text) × (digits_value 10 text < 2 ^ 32)) (digits_value 10 text) → length text < 11
+    → result_ok r ≡ u32_of text
+parsed_u32 text (Ok n) h short = ap Some h.1 ∙ sym (some_u32 text h.0.1 short h.0.0 h.0.2)
+parsed_u32 text (Err fault) h short = sym (no_u32 text (λ filled less all small. h (all, filled, small)))
 
 -- letters of either case
 upper_lower : (c : ℕ) → to_ascii_uppercase (to_ascii_lowercase c) ≡ to_ascii_uppercase c

@@ -1,5 +1,5 @@
 -- What a query says
-use Rattle.std.specs.Prelude.{ℕ, ◌^◌, Bool, ◌&&◌, List, [], ◌∷◌, length, Option, Some, None, Result, Ok, nat_lt, if◌then◌else◌}
+use Rattle.std.specs.Prelude.{ℕ, ◌^◌, Bool, true, false, ◌&&◌, List, [], ◌∷◌, length, Option, Some, None, Result, Ok, Err, nat_lt, if◌then◌else◌, codes}
 use Rattle.std.specs.Option.{option_map, ok_or}
 use Rattle.std.specs.Str.{bytes_eq, all_ascii_digits, str_to_ascii_uppercase}
 use Rattle.std.specs.Str.Lossy.{utf8_lossy}
@@ -9,6 +9,7 @@ use Rattle.eu_base.specs.declared.faults.Fault.{Fault}
 use Rattle.eu_base.specs.declared.faults.Fault.TheVariants.{BadValue}
 use Rattle.eu_base.specs.declared.statuses.Status.{Status}
 use Rattle.eu_base.specs.declared.times.Stamp.{Stamp}
+use Rattle.eu_base.specs.Settings.{Settings, settings_from}
 use Rattle.eu_base.specs.Status.{status_of}
 use Rattle.eu_routes.specs.Chain.{◌>>=◌}
 
@@ -29,9 +30,13 @@ value_at name query = value_among name (raw_pairs query)
 
 -- ---- stamps and statuses
 
+-- one or more decimal digits, fewer than so many, of a number below a limit
+abbrev pub is_number : ℕ → ℕ → List ℕ → Bool
+is_number digits limit text = nat_lt 0 (length text) && nat_lt (length text) digits && all_ascii_digits text && nat_lt (digits_value 10 text) limit
+
 -- 1 to 19 decimal digits, up to 2^63 - 1
 abbrev pub is_stamp : List ℕ → Bool
-is_stamp text = nat_lt 0 (length text) && nat_lt (length text) 20 && all_ascii_digits text && nat_lt (digits_value 10 text) (2 ^ 63)
+is_stamp text = is_number 20 (2 ^ 63) text
 
 -- the number of a stamp's text
 unfoldable pub stamp_of : List ℕ → Option ℕ
@@ -44,6 +49,19 @@ status_in text = status_of (str_to_ascii_uppercase text)
 -- the number of a stamp that may be absent
 abbrev pub number_of : Option Stamp → Option ℕ
 number_of stamp = option_map (λ s. s.value) stamp
+
+-- ---- settings
+
+-- 1 to 10 decimal digits, up to 2^32 - 1
+unfoldable pub u32_of : List ℕ → Option ℕ
+u32_of text = if is_number 11 (2 ^ 32) text then Some (digits_value 10 text) else None
+
+-- `on` or `off`, in these letters
+unfoldable pub switch_of : List ℕ → Option Bool
+switch_of text =
+    if bytes_eq text (codes "on") then Some true
+    else if bytes_eq text (codes "off") then Some false
+    else None
 
 -- ---- values, each of which may be absent
 
@@ -68,3 +86,27 @@ stamp_at name query = stamp_given (value_at name query)
 -- the status of that name in a query
 unfoldable pub status_at : List ℕ → List ℕ → Result (Option Status) Fault
 status_at name query = status_given (value_at name query)
+
+-- ---- values that are needed
+
+-- what the value says, if it is there and says something
+abbrev pub needed : {X : Type 0} → (List ℕ → Option X) → Option (List ℕ) → Result X Fault
+needed says None = Err BadValue
+needed says (Some text) = ok_or (says text) BadValue
+
+-- the number of that name in a query
+unfoldable pub u32_at : List ℕ → List ℕ → Result ℕ Fault
+u32_at name query = needed u32_of (value_at name query)
+
+-- the switch of that name in a query
+unfoldable pub switch_at : List ℕ → List ℕ → Result Bool Fault
+switch_at name query = needed switch_of (value_at name query)
+
+-- the settings of a query: `preservation`, `percent`, `interval` and `evictMs`, which are all needed, each within its limits
+unfoldable pub settings_at : List ℕ → Result Settings Fault
+settings_at query = do
+  preservation ← switch_at (codes "preservation") query
+  percent ← u32_at (codes "percent") query
+  interval ← u32_at (codes "interval") query
+  evict_ms ← u32_at (codes "evictMs") query
+  ok_or (settings_from preservation percent interval evict_ms) BadValue

@@ -6,6 +6,7 @@ use Rattle.eu_base.specs.declared.faults.Fault.{Fault}
 use Rattle.eu_base.specs.declared.faults.Fault.TheVariants as fault
 use Rattle.eu_base.specs.declared.names.Key.{Key}
 use Rattle.eu_base.specs.declared.statuses.Status.{Status}
+use Rattle.eu_base.specs.Settings.{Settings, settings_of}
 use Rattle.eu_routes.specs.declared.asks.Route.{Route}
 use Rattle.eu_routes.specs.declared.asks.Route.TheVariants as route
 use Rattle.eu_routes.specs.declared.table.Page.{Page}
@@ -13,7 +14,7 @@ use Rattle.eu_routes.specs.declared.table.Page.TheVariants as page
 use Rattle.eu_routes.specs.Chain.{◌>>=◌, Gives}
 use Rattle.eu_routes.specs.Table.{page_of}
 use Rattle.eu_routes.specs.Path.{path_of, last_segment, parent, app_at, key_at}
-use Rattle.eu_routes.specs.Query.{stamp_at, status_at, number_of}
+use Rattle.eu_routes.specs.Query.{stamp_at, status_at, settings_at, number_of}
 
 -- what is asked for
 pub data Asked : Type 0 where
@@ -39,6 +40,8 @@ pub data Asked : Type 0 where
   Batch : Asked
   -- the page that tells how the registry is
   StatusPage : Asked
+  -- the registry is to have these settings from now on
+  Reconfigure : Settings → Asked
 
 -- what a route asks for
 abbrev pub asked_of : Route → Asked
@@ -53,6 +56,7 @@ asked_of (route.One key) = One key
 asked_of route.Delta = Delta
 asked_of route.Batch = Batch
 asked_of route.StatusPage = StatusPage
+asked_of (route.Reconfigure config) = Reconfigure (settings_of config)
 
 -- ---- what each method asks of each page
 
@@ -67,6 +71,12 @@ batch_ask method = if bytes_eq method (codes "POST") then Ok Batch else Err faul
 -- GET status
 unfoldable pub page_ask : List ℕ → Result Asked Fault
 page_ask method = if bytes_eq method (codes "GET") then Ok StatusPage else Err fault.NoRoute
+
+-- PUT config
+unfoldable pub config_ask : List ℕ → List ℕ → Result Asked Fault
+config_ask method query =
+    if bytes_eq method (codes "PUT") then (settings_at query >>= λ settings. Ok (Reconfigure settings))
+    else Err fault.NoRoute
 
 -- an application is asked for, or, where its segment is `delta` as it is written, the changes
 unfoldable pub listing_ask : List ℕ → Result Asked Fault
@@ -132,6 +142,7 @@ ask_at (Some page.Lease) method path query = lease_ask method path query
 ask_at (Some page.LeaseStatus) method path query = status_ask method path query
 ask_at (Some page.Batch) method path query = batch_ask method
 ask_at (Some page.StatusPage) method path query = page_ask method
+ask_at (Some page.Config) method path query = config_ask method query
 
 -- what a request of that method, target and query asks for
 abbrev pub route_of : List ℕ → List ℕ → List ℕ → Result Asked Fault

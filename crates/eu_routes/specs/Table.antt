@@ -32,12 +32,14 @@ table =
     ∷ (codes "/eureka/v2/apps/{app}/{id}/status", page.LeaseStatus)
     ∷ (codes "/eureka/v2/peerreplication/batch", page.Batch)
     ∷ (codes "/eureka/v2/status", page.StatusPage)
+    ∷ (codes "/eureka/v2/config", page.Config)
     ∷ (codes "/eureka/apps", page.Applications)
     ∷ (codes "/eureka/apps/{app}", page.Application)
     ∷ (codes "/eureka/apps/{app}/{id}", page.Lease)
     ∷ (codes "/eureka/apps/{app}/{id}/status", page.LeaseStatus)
     ∷ (codes "/eureka/peerreplication/batch", page.Batch)
     ∷ (codes "/eureka/status", page.StatusPage)
+    ∷ (codes "/eureka/config", page.Config)
     ∷ []
 
 -- the page that a path names, if the table has one for it

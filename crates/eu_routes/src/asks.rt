@@ -1,5 +1,5 @@
 //! What requests ask for.
-use eu_base::{App, Key, Stamp, Status};
+use eu_base::{App, Config, Key, Stamp, Status};
 
 /// What a request asks for. The bodies of a registration and of a batch are read elsewhere.
 #[derive(Debug, Drop)]
@@ -47,4 +47,6 @@ pub enum Route {
     Batch,
     /// The page that tells how the registry is.
     StatusPage,
+    /// The registry is to have these settings from now on.
+    Reconfigure(Config),
 }

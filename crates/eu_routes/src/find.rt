@@ -5,7 +5,7 @@ ghost use Rattle.eu_routes.specs.Route.{Reads};
 
 use crate::asks::Route;
 use crate::paths::{app_at, cut, key_at, path_of};
-use crate::queries::{stamp_at, status_at};
+use crate::queries::{config_at, stamp_at, status_at};
 use crate::table::{Page, Routes};
 use eu_base::Fault;
 use std::alloc::Global;
@@ -45,6 +45,16 @@ fn ask_page(method: &str) -> Result<Route, Fault>
 {
     match method {
         "GET" => Ok(Route::StatusPage),
+        _ => Err(Fault::NoRoute),
+    }
+}
+
+#[tactic(auto, unfolding(crate::specs::Route::config_ask))]
+fn ask_config(alloc: Global, method: &str, query: &str) -> Result<Route, Fault>
+    ensures { Reads result (spec.config_ask method.now query.now) }
+{
+    match method {
+        "PUT" => Ok(Route::Reconfigure(config_at(alloc, query)?)),
         _ => Err(Fault::NoRoute),
     }
 }
@@ -139,7 +149,8 @@ impl Routes {
     /// A path begins with `/eureka/v2` or `/eureka`, which `http://` or `https://` and a host may precede (RFC 9112, section
     /// 3.2.2), and may end with a slash more. Its segments are percent-decoded once the route is known; a name has 1 to 255 bytes
     /// of UTF-8 then. Of a query, which is a form, the first pair of each name counts, and only the names of the route are looked
-    /// at: a stamp of 1 to 19 digits up to 2^63 - 1, where an empty one is absent, or a status in letters of either case.
+    /// at: a stamp of 1 to 19 digits up to 2^63 - 1, where an empty one is absent, a status in letters of either case, a number of 1
+    /// to 10 digits up to 2^32 - 1, or `on` or `off`.
     ///
     /// | Request | Asks for |
     /// |---|---|
@@ -152,11 +163,13 @@ impl Routes {
     /// | GET apps/delta | the changes |
     /// | POST peerreplication/batch | the commands that a peer tells in the body |
     /// | GET status | the page that tells how the registry is |
+    /// | PUT config with `preservation`, `percent`, `interval`, `evictMs` | other settings |
     ///
     /// The first that holds: `NoRoute` for any other request, `BadPath` where a segment is no name, `BadValue` where a stamp or
-    /// a status isn't one, or where `value` is missing from a PUT. `OutOfMemory` comes where memory is refused. The routes are
-    /// those of Eureka's `ApplicationsResource`, `ApplicationResource`, `InstanceResource` and `PeerReplicationResource`, and
-    /// `status`, which is this registry's own.
+    /// a status isn't one, where `value` is missing from a PUT of a status, or where one of the four values of settings is missing or
+    /// past its limits (`Config::new`). `OutOfMemory` comes where memory is refused. The routes are those of Eureka's
+    /// `ApplicationsResource`, `ApplicationResource`, `InstanceResource` and `PeerReplicationResource`, and `status` and `config`,
+    /// which are this registry's own.
     pub fn find(&self, alloc: Global, method: &str, path: &str, query: &str) -> Result<Route, Fault>
         ensures { Reads result (route_of method.now path.now query.now) }
     {
@@ -171,6 +184,7 @@ impl Routes {
             Page::LeaseStatus => ask_status(alloc, method, path, query),
             Page::Batch => ask_batch(method),
             Page::StatusPage => ask_page(method),
+            Page::Config => ask_config(alloc, method, query),
         }
     }
 }

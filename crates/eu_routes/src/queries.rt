@@ -3,15 +3,31 @@ ghost use Rattle.std.specs.Prelude.{◌≡◌, ◌<◌, ◌^◌, IfOk, map, opti
 ghost use Rattle.std.specs.Cow.{cow_str_bytes};
 ghost use Rattle.std.specs.Str.{bytes_eq, str_to_ascii_uppercase};
 ghost use Rattle.eu_routes.specs.Chain.{Gives};
+ghost use Rattle.eu_base.specs.Settings.{settings_of};
 ghost use Rattle.eu_routes.specs.Query as spec;
 
-use eu_base::{Fault, Stamp, Status};
+use eu_base::{Config, Fault, Stamp, Status};
 use form_urlencoded::{decode, raw_pairs};
 use std::alloc::{AllocError, Global};
 use std::borrow::CowStr;
 
 /// The most digits of a stamp.
 const MOST_DIGITS: usize = 19;
+
+/// The most digits of a setting.
+const MOST_U32_DIGITS: usize = 10;
+
+/// The name of the setting that says whether self-preservation is on (`enableSelfPreservation` in Eureka).
+const PRESERVATION: &str = "preservation";
+
+/// The name of the percentage of a setting (`renewalPercentThreshold`).
+const PERCENT: &str = "percent";
+
+/// The name of the seconds between two renewals (`expectedClientRenewalIntervalSeconds`).
+const INTERVAL: &str = "interval";
+
+/// The name of the milliseconds between two eviction passes (`evictionIntervalTimerInMs`).
+const EVICT_MS: &str = "evictMs";
 
 /// The stamp of that text: 1 to 19 decimal digits, up to 2^63 - 1. None for any other text.
 #[tactic(auto, unfolding(crate::specs::Query::stamp_of))]
@@ -107,4 +123,63 @@ pub fn status_at(alloc: Global, query: &str, name: &str) -> Result<Option<Status
         Some(status) => Ok(Some(status)),
         None => Err(Fault::BadValue),
     }
+}
+
+/// The number of that text: 1 to 10 decimal digits, up to 2^32 - 1. None for any other text.
+#[tactic(auto, unfolding(crate::specs::Query::u32_of))]
+fn read_u32(text: &str) -> Option<u32>
+    ensures { result ≡ spec.u32_of text.now }
+{
+    if text.len() > MOST_U32_DIGITS || text.starts_with('+') {
+        return None;
+    }
+    text.parse::<u32>().ok()
+}
+
+/// Whether a text is `on` or `off`. None for any other text.
+#[tactic(auto, unfolding(crate::specs::Query::switch_of))]
+fn read_switch(text: &str) -> Option<bool>
+    ensures { result ≡ spec.switch_of text.now }
+{
+    match text {
+        "on" => Some(true),
+        "off" => Some(false),
+        _ => None,
+    }
+}
+
+/// The number of that name in a query. `BadValue` where it has no value, or one that isn't a number below 2^32; `OutOfMemory`.
+#[tactic(auto, unfolding(crate::specs::Query::u32_at))]
+fn u32_at(alloc: Global, query: &str, name: &str) -> Result<u32, Fault>
+    ensures { Gives (λ n. n) result (spec.u32_at name.now query.now) }
+{
+    let Some(value) = value_at(alloc, query, name)? else {
+        return Err(Fault::BadValue);
+    };
+    read_u32(value.as_str()).ok_or(Fault::BadValue)
+}
+
+/// Whether the setting of that name is on in a query. `BadValue` where it has no value, or one that is neither `on` nor `off`;
+/// `OutOfMemory`.
+#[tactic(auto, unfolding(crate::specs::Query::switch_at))]
+fn switch_at(alloc: Global, query: &str, name: &str) -> Result<bool, Fault>
+    ensures { Gives (λ b. b) result (spec.switch_at name.now query.now) }
+{
+    let Some(value) = value_at(alloc, query, name)? else {
+        return Err(Fault::BadValue);
+    };
+    read_switch(value.as_str()).ok_or(Fault::BadValue)
+}
+
+/// The settings of a query: `preservation`, `percent`, `interval` and `evictMs`. `BadValue` where one is missing, isn't of its kind or is
+/// past its limits (`Config::new`); `OutOfMemory`.
+#[tactic(auto, unfolding(crate::specs::Query::settings_at, crate::specs::Query::switch_at, crate::specs::Query::u32_at, crate::specs::Query::value_at))]
+pub fn config_at(alloc: Global, query: &str) -> Result<Config, Fault>
+    ensures { Gives settings_of result (spec.settings_at query.now) }
+{
+    let preservation = switch_at(alloc, query, PRESERVATION)?;
+    let percent = u32_at(alloc, query, PERCENT)?;
+    let interval = u32_at(alloc, query, INTERVAL)?;
+    let evict_ms = u32_at(alloc, query, EVICT_MS)?;
+    Config::of_values(preservation, percent, interval, evict_ms).ok_or(Fault::BadValue)
 }

@@ -21,22 +21,26 @@ pub enum Page {
     Batch,
     /// The page that tells how the registry is.
     StatusPage,
+    /// The settings.
+    Config,
 }
 
 /// Each page's path, under both prefixes.
-const PATHS: [(&str, Page); 12] = [
+const PATHS: [(&str, Page); 14] = [
     ("/eureka/v2/apps", Page::Applications),
     ("/eureka/v2/apps/{app}", Page::Application),
     ("/eureka/v2/apps/{app}/{id}", Page::Lease),
     ("/eureka/v2/apps/{app}/{id}/status", Page::LeaseStatus),
     ("/eureka/v2/peerreplication/batch", Page::Batch),
     ("/eureka/v2/status", Page::StatusPage),
+    ("/eureka/v2/config", Page::Config),
     ("/eureka/apps", Page::Applications),
     ("/eureka/apps/{app}", Page::Application),
     ("/eureka/apps/{app}/{id}", Page::Lease),
     ("/eureka/apps/{app}/{id}/status", Page::LeaseStatus),
     ("/eureka/peerreplication/batch", Page::Batch),
     ("/eureka/status", Page::StatusPage),
+    ("/eureka/config", Page::Config),
 ];
 
 /// A router of these paths. No two of them conflict, and the router reads each.

@@ -3,5 +3,6 @@ mod examples;
 mod lines;
 mod peers;
 mod scripts;
+mod settings;
 mod stream;
 mod words;

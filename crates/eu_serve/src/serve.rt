@@ -312,7 +312,7 @@ pub fn serve_by<R: Threads + Wait + Clock + Sync, H: Chooser + Send + Drop, W: W
 ///
 /// A book is opened with the settings and the number expected, without peers. Each accepted connection is one session of
 /// HTTP/1.1 (`eu_session::serve_session`), at the machine's time, of a worker that is free; while none is, connections wait in the
-/// system's queue. Beside the workers the evictor takes a turn each `evict_ms` of the settings (0 counting as 1), by the chooser's
+/// system's queue. Beside the workers the evictor takes a turn each `evict_ms` of these settings (0 counting as 1), by the chooser's
 /// words, the bucket ends a minute each `BUCKET_MS`, and the threshold is updated each `THRESHOLD_MS`. Once the sessions have
 /// ended, so have these. Then the book is closed, and settled with what each worker logged.
 ///

@@ -505,9 +505,9 @@ fn timers_evict_and_count_anew(rt: HostRuntime) -> Result<(), Fail> {
     Ok(())
 }
 
-/// The page of a server that holds nothing, and expects one client and the one that registered.
+/// The page of a server that holds nothing, and expects one client: the one that registered was one more, until it was evicted.
 const EMPTY: &str =
-    "HTTP/1.1 200 OK\r\nContent-Type: text/plain; charset=utf-8\r\nContent-Length: 78\r\nConnection: close\r\n\r\nheld 0\nexpected 2\nthreshold 3\nlast 0\npreservation off\npermitted yes\nstatuses \n";
+    "HTTP/1.1 200 OK\r\nContent-Type: text/plain; charset=utf-8\r\nContent-Length: 78\r\nConnection: close\r\n\r\nheld 0\nexpected 1\nthreshold 1\nlast 0\npreservation off\npermitted yes\nstatuses \n";
 
 /// Whether a client that registers for a second between the first pass and the second, three seconds apart, is evicted by the second.
 fn is_evicted_by_the_second<R: Net<Stream = TcpStream> + Clock>(

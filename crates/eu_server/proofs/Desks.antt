@@ -1,5 +1,5 @@
 -- What a book answers to the lines of a script, against a run of the server
-use Rattle.std.proofs.Common.{◌≡◌, ◌≢◌, ℕ, List, [], ◌∷◌, ◌++◌, length, length-append, Option, Some, None, Result, Ok, Err, OnOk, OnErr, IfOk, IfErr, refl, sym, ◌∙◌, ap, subst, inl, inr, arith, false}
+use Rattle.std.proofs.Common.{◌≡◌, ◌≢◌, ℕ, List, [], ◌∷◌, ◌++◌, length, length-append, Option, Some, None, Result, Ok, Err, OnOk, OnErr, IfOk, IfErr, refl, sym, ◌∙◌, ap, subst, inl, inr, arith}
 use Rattle.std.specs.Prelude.{◌==◌, if◌then◌else◌}
 use Rattle.eu_base.specs.declared.faults.Fault.{Fault}
 use Rattle.eu_base.specs.declared.faults.Fault.TheVariants.{OutOfMemory, Exhausted}
@@ -24,7 +24,7 @@ use Rattle.eu_model.proofs.RunLemmas.{run_push}
 use Rattle.eu_page.specs.Page.{shown_page}
 use Rattle.eu_server.specs.declared.desk.Desk.{Desk}
 use Rattle.eu_server.specs.Desk.{Holds, HoldsRun, DeskAnswers, ClosedAnswers, OpenedAnswers, Told}
-use Rattle.eu_server.specs.Script.{Ran, is_full, Commands, Does, Draws, Sees, Says, SaysOpened, Tells}
+use Rattle.eu_server.specs.Script.{Ran, Commands, Does, Draws, Sees, Says, SaysOpened, Tells}
 use Rattle.eu_server.specs.Texts.{answer_text, settled_text}
 use Rattle.eu_words.specs.Lines.{Said, line_of}
 
@@ -46,18 +46,8 @@ registry_is a r h = ap (λ p. p.registry) (sym h.state)
 module _ {C : Type 0} (asks : C → ℕ → ℕ × C) (x : C) where
   -- what is drawn of a plain form is drawn of each machine of that form
   draws : (p : Plain) (s : Machine) (x' : C) (c : Command) (t : ℕ) (reply : Reply) → plain s ≡ p → Chooses asks p x c t reply x' → Draws asks s x c t reply x'
-  draws p s x' (command.Register n replicated) t reply e chooses = chooses
-  draws p s x' (command.Renew k dirty overridden replicated) t reply e chooses = chooses
-  draws p s x' (command.Cancel k replicated) t reply e chooses = chooses
-  draws p s x' (command.SetStatus k status dirty replicated) t reply e chooses = chooses
-  draws p s x' (command.UnsetStatus k status dirty replicated) t reply e chooses = chooses
-  draws p s x' (command.Adopt n) t reply e chooses = chooses
-  draws p s x' command.Roll t reply e chooses = chooses
-  draws p s x' command.Update t reply e chooses = chooses
-  draws p s x' (command.Drain peer) t reply e chooses = chooses
-  draws p s x' (command.Landed peer codes) t reply e chooses = chooses
-  draws p s x' (command.Lost peer) t reply e chooses = chooses
   draws p s x' command.Evict t reply e chooses = let d = chooses.2 s e in (chooses.1 ∙ ap Evicted d.0, d.1)
+  draws p s x' c t reply e chooses = chooses
 
   module _ (a b : Account) (x' : C) (c : Command) (t : ℕ) (out : List ℕ) where
     -- a command that is accepted is the next entry of each run of that account
@@ -102,22 +92,10 @@ module _ {C : Type 0} (asks : C → ℕ → ℕ × C) (x : C) where
 
   -- what tells a command isn't a question
   says : (said : Said) (x' : C) (y next : Ran) (out : List ℕ) → Tells asks said y x out next x' → SaysOpened asks said y x out next x'
-  says (Said.Open n peers) x' y next out s = s
-  says (Said.Register t n replicated) x' y next out s = s
-  says (Said.Renew t k dirty overridden replicated) x' y next out s = s
-  says (Said.Cancel t k replicated) x' y next out s = s
-  says (Said.SetStatus t k status dirty replicated) x' y next out s = s
-  says (Said.UnsetStatus t k status dirty replicated) x' y next out s = s
-  says (Said.Adopt t n) x' y next out s = s
-  says (Said.Roll t) x' y next out s = s
-  says (Said.Update t) x' y next out s = s
-  says (Said.Evict t) x' y next out s = s
-  says (Said.Drain t peer) x' y next out s = s
-  says (Said.Landed t peer codes) x' y next out s = s
-  says (Said.Lost t peer) x' y next out s = s
   says (Said.Look t k) x' y next out s = absurd s.2
   says (Said.Counts t) x' y next out s = absurd s.2
   says (Said.Page t) x' y next out s = absurd s.2
+  says said x' y next out s = s
 
   pub answered : (a b : Account) (x' : C) (said : Said) (r : Result (Unit {0}) LineError) (out : List ℕ)
       → OnOk r (Told asks a x said out b x') → OnOk r (OpenedAnswers asks a x said out b x')

@@ -5,7 +5,7 @@ use Rattle.eu_model.specs.Server.{plain_server}
 use Rattle.eu_server.specs.declared.desk.Desk.{Desk}
 use Rattle.eu_server.specs.Script.{Ran, Answers, Refuses, SaysClosed, SaysOpened, Tells}
 use Rattle.eu_words.specs.Lines.{Said}
-use Rattle.eu_words.specs.Lines.Said.{Register, Renew, Cancel, SetStatus, UnsetStatus, Adopt, Roll, Update, Evict, Drain, Landed, Lost}
+use Rattle.eu_words.specs.Lines.Said.{Register, Renew, Cancel, SetStatus, UnsetStatus, Adopt, Roll, Update, Reconfigure, Evict, Drain, Landed, Lost}
 
 -- the account is that of this run: it has the number of its entries, and the plain form of the server
 pub record Holds (a : Account) (r : Ran) : Type 0 where
@@ -75,6 +75,7 @@ commands (UnsetStatus t k status dirty replicated) = true
 commands (Adopt t n) = true
 commands (Roll t) = true
 commands (Update t) = true
+commands (Reconfigure t settings) = true
 commands (Evict t) = true
 commands (Drain t peer) = true
 commands (Landed t peer answers) = true

@@ -5,6 +5,7 @@ use Rattle.eu_base.specs.declared.faults.Fault.TheVariants.{Exhausted}
 use Rattle.eu_base.specs.declared.instances.Instance.{Instance}
 use Rattle.eu_base.specs.declared.settings.Config.{Config}
 use Rattle.eu_base.specs.declared.times.Stamp.{Stamp}
+use Rattle.eu_base.specs.Settings.{settings_of}
 use Rattle.eu_book.specs.Account.{most_steps}
 use Rattle.eu_lines.specs.declared.faults.ScriptFault.{ScriptFault}
 use Rattle.eu_lines.specs.Script.{Outcome}
@@ -20,7 +21,7 @@ use Rattle.eu_model.specs.View.{one, counts, listing}
 use Rattle.eu_page.specs.Page.{shown_page}
 use Rattle.eu_core.specs.Evicts.{drawn_victims, drawn_state}
 use Rattle.eu_words.specs.Lines.{Said, newcomer_of, line_of}
-use Rattle.eu_words.specs.Lines.Said.{Open, Register, Renew, Cancel, SetStatus, UnsetStatus, Adopt, Roll, Update, Evict, Drain, Landed, Lost, Look, Counts, Page}
+use Rattle.eu_words.specs.Lines.Said.{Open, Register, Renew, Cancel, SetStatus, UnsetStatus, Adopt, Roll, Update, Reconfigure, Evict, Drain, Landed, Lost, Look, Counts, Page}
 use Rattle.eu_words.specs.Words.{number_of}
 use Rattle.eu_server.specs.Texts.{reply_text, settled_text, refused_text, look_text, counts_text}
 
@@ -65,6 +66,7 @@ Commands (UnsetStatus t k status dirty replicated) c moment =
 Commands (Adopt t n) c moment = (moment ≡ t) × (i : Instance) × (newcomer_of i ≡ n) × (c ≡ command.Adopt i)
 Commands (Roll t) c moment = (moment ≡ t) × (c ≡ command.Roll)
 Commands (Update t) c moment = (moment ≡ t) × (c ≡ command.Update)
+Commands (Reconfigure t settings) c moment = (moment ≡ t) × (config : Config) × (settings_of config ≡ settings) × (c ≡ command.Reconfigure config)
 Commands (Evict t) c moment = (moment ≡ t) × (c ≡ command.Evict)
 Commands (Drain t peer) c moment = (moment ≡ t) × (c ≡ command.Drain peer)
 Commands (Landed t peer answers) c moment = (moment ≡ t) × (c ≡ command.Landed peer answers)

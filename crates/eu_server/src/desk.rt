@@ -166,6 +166,7 @@ fn command_of(line: Line) -> Option<(Command, Moment)>
         } => Some((Command::Cancel { key, replicated }, moment)),
         Line::Roll { moment } => Some((Command::Roll, moment)),
         Line::Update { moment } => Some((Command::Update, moment)),
+        Line::Reconfigure { moment, config } => Some((Command::Reconfigure { config }, moment)),
         Line::Evict { moment } => Some((Command::Evict, moment)),
         line => peer_command_of(line),
     }

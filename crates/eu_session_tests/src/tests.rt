@@ -2,4 +2,5 @@
 mod batches;
 mod served;
 mod sessions;
+mod settings;
 mod texts;

@@ -5,11 +5,12 @@ use Rattle.eu_base.specs.declared.names.Key.{Key}
 use Rattle.eu_base.specs.declared.statuses.Status.{Status}
 use Rattle.serde_json.specs.Data.{Data}
 use Rattle.eu_base.specs.Rest.{rest_of_host}
+use Rattle.eu_base.specs.Settings.{Settings, settings_of}
 use Rattle.eu_base.specs.declared.instances.Instance.{Instance}
 use Rattle.eu_lines.specs.declared.faults.LineError.{LineError}
 use Rattle.eu_words.specs.declared.lines.Line.{Line}
 use Rattle.eu_words.specs.declared.lines.Line.TheVariants as line
-use Rattle.eu_words.specs.Words.{◌>>=◌, Field, Fails, words_of, word_at, end_at, number_at, moment_at, key_at, status_at, maybe_status_at, secs_at, number_of, stamp_at, dirty_at, source_at, peers_at, peer_at, codes_of}
+use Rattle.eu_words.specs.Words.{◌>>=◌, Field, Fails, words_of, word_at, end_at, number_at, moment_at, key_at, status_at, maybe_status_at, secs_at, number_of, stamp_at, dirty_at, source_at, peers_at, peer_at, settings_at, codes_of}
 
 -- an instance as a line says it
 pub record Newcomer : Type 0 where
@@ -45,6 +46,8 @@ pub data Said : Type 0 where
   Roll : ℕ → Said
   -- the clients are to be counted anew
   Update : ℕ → Said
+  -- the registry is to have these settings from now on
+  Reconfigure : ℕ → Settings → Said
   -- leases that have expired are to be evicted
   Evict : ℕ → Said
   -- the next tasks are to go in flight to the peer
@@ -71,6 +74,7 @@ said_of (line.UnsetStatus t k status dirty replicated) = UnsetStatus t k status 
 said_of (line.Adopt t i) = Adopt t (newcomer_of i)
 said_of (line.Roll t) = Roll t
 said_of (line.Update t) = Update t
+said_of (line.Reconfigure t config) = Reconfigure t (settings_of config)
 said_of (line.Evict t) = Evict t
 said_of (line.Drain t peer) = Drain t peer
 said_of (line.Landed t peer codes) = Landed t peer codes
@@ -86,6 +90,14 @@ open_says ws = do
   peers ← peers_at n.1
   e ← end_at peers.1
   Some (Open n.0 peers.0)
+
+-- T on P I M, T off P I M
+unfoldable pub config_says : List (List ℕ) → Option Said
+config_says ws = do
+  t ← moment_at ws
+  settings ← settings_at t.1
+  e ← end_at settings.1
+  Some (Reconfigure t.0 settings.0)
 
 -- T P
 unfoldable pub drain_says : List (List ℕ) → Option Said
@@ -203,7 +215,8 @@ moment_says verb ws = do
 -- the words behind any other verb than those of clients and of adoptions
 abbrev pub others_say : List ℕ → List (List ℕ) → Option Said
 others_say verb ws =
-    if bytes_eq verb (codes "drain") then drain_says ws
+    if bytes_eq verb (codes "config") then config_says ws
+    else if bytes_eq verb (codes "drain") then drain_says ws
     else if bytes_eq verb (codes "landed") then landed_says ws
     else if bytes_eq verb (codes "lost") then lost_says ws
     else if bytes_eq verb (codes "look") then look_says ws

@@ -8,6 +8,7 @@ use Rattle.std.specs.Str.Parse.{digits_value}
 use Rattle.eu_base.specs.declared.statuses.Status.{Status}
 use Rattle.eu_base.specs.declared.names.Key.{Key}
 use Rattle.eu_base.specs.declared.times.Stamp.{Stamp}
+use Rattle.eu_base.specs.Settings.{Settings, settings_from}
 use Rattle.eu_base.specs.Status.{status_of}
 use Rattle.eu_lines.specs.declared.faults.LineError.{LineError}
 use Rattle.eu_lines.specs.declared.faults.LineError.TheVariants.{Bad, OutOfMemory}
@@ -140,9 +141,32 @@ unfoldable pub peers_at : Field ℕ
 peers_at [] = Some (0, [])
 peers_at (w ∷ ws) = number_at 8 (w ∷ ws)
 
--- the number of a peer, below 2^32
+-- a number below 2^32
+abbrev pub u32_at : Field ℕ
+u32_at ws = number_at (2 ^ 32 - 1) ws
+
+-- the number of a peer
 abbrev pub peer_at : Field ℕ
-peer_at ws = number_at (2 ^ 32 - 1) ws
+peer_at ws = u32_at ws
+
+-- whether a setting is `on` or `off`
+unfoldable pub switch_at : Field Bool
+switch_at ws = do
+  w ← word_at ws
+  if bytes_eq w.0 (codes "on") then Some (true, w.1)
+      else if bytes_eq w.0 (codes "off") then Some (false, w.1)
+      else None
+
+-- `on` or `off`, the percentage, the seconds between two renewals and the milliseconds between two passes, each below 2^32 and within
+-- its limits
+unfoldable pub settings_at : Field Settings
+settings_at ws = do
+  preservation ← switch_at ws
+  percent ← u32_at preservation.1
+  interval ← u32_at percent.1
+  evict_ms ← u32_at interval.1
+  settings ← settings_from preservation.0 percent.0 interval.0 evict_ms.0
+  Some (settings, evict_ms.1)
 
 -- an HTTP status: 100 to 999
 unfoldable pub code_at : Field ℕ

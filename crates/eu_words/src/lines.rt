@@ -1,11 +1,11 @@
 //! What a line says.
 ghost use Rattle.std.specs.Prelude.{◌≢◌, Err};
 ghost use Rattle.eu_words.specs.Words.{Gives};
-ghost use Rattle.eu_words.specs.Lines.{IsReading, line_of, words_say, open_says, drain_says, landed_says, lost_says, others_say, newcomer_of, newcomer_at, register_says, renew_says, cancel_says, set_says, unset_says, adopt_says, look_says, moment_says};
+ghost use Rattle.eu_words.specs.Lines.{IsReading, line_of, words_say, open_says, config_says, drain_says, landed_says, lost_says, others_say, newcomer_of, newcomer_at, register_says, renew_says, cancel_says, set_says, unset_says, adopt_says, look_says, moment_says};
 
 use crate::openings::Opening;
 use crate::words::{Words, is_text};
-use eu_base::{Codes, Instance, Key, Moment, Rest, Stamp, Status};
+use eu_base::{Codes, Config, Instance, Key, Moment, Rest, Stamp, Status};
 use eu_lines::LineError;
 use std::alloc::Global;
 
@@ -88,6 +88,13 @@ pub enum Line {
         /// When.
         moment: Moment,
     },
+    /// The registry is to have other settings.
+    Reconfigure {
+        /// When.
+        moment: Moment,
+        /// The settings from then on.
+        config: Config,
+    },
     /// Leases that have expired are to be evicted.
     Evict {
         /// When.
@@ -145,6 +152,8 @@ pub enum Line {
 /// - `cancel T APP ID SRC`, `look T APP ID`.
 /// - `drain T P`, `lost T P`, `landed T P CODE..`: P is the number of a peer, from 0, below 2^32; a CODE is 100 to 999, and there are
 ///   any number of them.
+/// - `config T on P I M`, `config T off P I M`: P, I and M are below 2^32, and those that `Config::new` takes: a percentage up to 100,
+///   1 to 3,600 s between two renewals, and milliseconds between two passes.
 /// - `roll T`, `update T`, `evict T`, `counts T`, `page T`.
 ///
 /// APP and ID are names, STATUS and OVR statuses in capitals. SRC is `c` for a client, or `r` for a peer.
@@ -189,6 +198,9 @@ fn say(alloc: Global, words: &mut Words<'_>) -> Result<Line, LineError>
 fn other_line(alloc: Global, verb: &[u8], words: &mut Words<'_>) -> Result<Line, LineError>
     ensures { IsReading result (others_say verb.now words.old) }
 {
+    if is_text(verb, "config") {
+        return config_line(words);
+    }
     if is_text(verb, "drain") {
         return drain_line(words);
     }
@@ -216,6 +228,17 @@ fn open_line(words: &mut Words<'_>) -> Result<Line, LineError>
         expected: expected as u32,
         peers,
     }))
+}
+
+#[tactic(auto, unfolding(crate::specs::Lines::config_says))]
+fn config_line(words: &mut Words<'_>) -> Result<Line, LineError>
+    ensures said { IsReading result (config_says words.old) }
+    ensures memory { result ≢ Err LineError.OutOfMemory }
+{
+    let moment = words.moment_at()?;
+    let config = words.config_at()?;
+    words.end()?;
+    Ok(Line::Reconfigure { moment, config })
 }
 
 #[tactic(auto, unfolding(crate::specs::Lines::drain_says))]

@@ -1,9 +1,10 @@
 //! The words of a line.
 ghost use Rattle.std.specs.Prelude.{◌≡◌, ◌≢◌, ◌∷◌, ◌^◌, ◌<◌, ◌≤◌, List, ℕ, IfOk, IsSome, Err};
 ghost use Rattle.std.specs.Str.{bytes_eq};
-ghost use Rattle.eu_words.specs.Words.{words_of, words_left, number, Gives, word_at, absent_at, number_at, moment_at, app_at, id_at, key_at, status_at, maybe_status_at, secs_at, number_of, stamp_at, dirty_at, source_at, peers_at, peer_at, code_at, codes_of, IsCodes, end_at};
+ghost use Rattle.eu_base.specs.Settings.{settings_of};
+ghost use Rattle.eu_words.specs.Words.{words_of, words_left, number, Gives, word_at, absent_at, number_at, moment_at, app_at, id_at, key_at, status_at, maybe_status_at, secs_at, number_of, stamp_at, dirty_at, source_at, peers_at, u32_at, peer_at, switch_at, settings_at, code_at, codes_of, IsCodes, end_at};
 
-use eu_base::{App, Codes, Fault, Id, Instance, Key, Moment, Stamp, Status};
+use eu_base::{App, Codes, Config, Fault, Id, Instance, Key, Moment, Stamp, Status};
 use eu_lines::LineError;
 use std::alloc::Global;
 use std::marker::Model;
@@ -110,13 +111,51 @@ impl<'a> Words<'a> {
         Ok(peers as u32)
     }
 
+    /// A number below 2^32, else `Bad`.
+    fn u32_at(&mut self) -> Result<u32, LineError>
+        ensures said { Gives (λ n. n) result self.new (u32_at self.old) }
+        ensures memory { result ≢ Err LineError.OutOfMemory }
+    {
+        let number = self.number_at(u64::from(u32::MAX))?;
+        Ok(number as u32)
+    }
+
     /// The number of a peer, below 2^32, else `Bad`.
     pub fn peer_at(&mut self) -> Result<u32, LineError>
         ensures said { Gives (λ n. n) result self.new (peer_at self.old) }
         ensures memory { result ≢ Err LineError.OutOfMemory }
     {
-        let peer = self.number_at(u64::from(u32::MAX))?;
-        Ok(peer as u32)
+        self.u32_at()
+    }
+
+    /// Whether a setting is `on` or `off`, else `Bad`.
+    #[tactic(auto, unfolding(crate::specs::Words::switch_at))]
+    fn switch_at(&mut self) -> Result<bool, LineError>
+        ensures said { Gives (λ b. b) result self.new (switch_at self.old) }
+        ensures memory { result ≢ Err LineError.OutOfMemory }
+    {
+        let word = self.next_word()?;
+        if is_text(word, "on") {
+            return Ok(true);
+        }
+        if is_text(word, "off") {
+            return Ok(false);
+        }
+        Err(LineError::Bad)
+    }
+
+    /// Settings: whether self-preservation is `on` or `off`, the percentage, the seconds between two renewals, and the milliseconds
+    /// between two passes. `Bad` where one of these isn't there or is past its limits (`Config::new`).
+    #[tactic(auto, unfolding(crate::specs::Words::settings_at))]
+    pub fn config_at(&mut self) -> Result<Config, LineError>
+        ensures said { Gives settings_of result self.new (settings_at self.old) }
+        ensures memory { result ≢ Err LineError.OutOfMemory }
+    {
+        let preservation = self.switch_at()?;
+        let percent = self.u32_at()?;
+        let interval = self.u32_at()?;
+        let evict_ms = self.u32_at()?;
+        Config::of_values(preservation, percent, interval, evict_ms).ok_or(LineError::Bad)
     }
 
     /// An HTTP status, 100 to 999, else `Bad`.

@@ -18,6 +18,8 @@ enum Step {
     Set,
     /// A minute ends.
     Roll,
+    /// Self-preservation is off, at 50%, with a renewal each 15 s and a pass each 7 ms.
+    Reconfigure,
     /// A pass evicts.
     Evict,
     /// What waits for the first peer is drained.
@@ -92,6 +94,9 @@ fn command(alloc: Global, step: Step) -> Result<Command, Fault> {
         Step::Renew(dirty) => renewal(alloc, dirty),
         Step::Set => setting(alloc),
         Step::Roll => Ok(Command::Roll),
+        Step::Reconfigure => Ok(Command::Reconfigure {
+            config: Config::new(false, 50, 15, 7)?,
+        }),
         Step::Evict => Ok(Command::Evict),
         Step::Drain => Ok(Command::Drain { peer: 0 }),
         Step::Land(code) => landing(alloc, code),
@@ -648,4 +653,39 @@ fn drained_alone(alloc: Global) -> Result<((u64, &'static str), u64), Fault> {
 #[test]
 fn there_is_no_such_peer(rt: HostRuntime) {
     assert!(rt; drained_alone(rt.alloc()) == Ok(((15, "refused"), 0)));
+}
+
+const CHANGED: [Told; 4] = [
+    (Step::Reconfigure, (0, "done"), (0, 0)),
+    (Step::Register("i1"), (1, "new"), (1, 0)),
+    (Step::Reconfigure, (2, "done"), (1, 0)),
+    (Step::Drain, (3, "Register"), (0, 1)),
+];
+
+#[test]
+fn peers_are_told_of_no_settings(rt: HostRuntime) {
+    assert!(rt; opens_and_answers(rt.alloc(), CHANGED.as_slice(), 4) == Ok(true));
+}
+
+fn has_new_settings(state: &State) -> bool {
+    let config = state.config;
+    !config.preservation && config.percent == 50 && config.interval == 15 && config.evict_ms == 7
+}
+
+/// Whether a journal begins anew with the settings that the first step gave, which is counted as one step and no more.
+fn begins_with_new_settings(alloc: Global) -> Result<bool, Fault> {
+    let mut book = opened_with_peer(alloc)?;
+    let told = first(alloc, &mut book, Step::Reconfigure);
+    let old = has_new_settings(&book.journal().base);
+    let taken = retired(book.checkpoint(alloc));
+    let new = has_new_settings(&book.journal().base);
+    let totals = book.totals();
+    drop(book);
+    let sums = (totals.steps, totals.counted, totals.added, totals.removed);
+    Ok(told == (0, "done") && !old && taken == Ok(1) && new && sums == (1, 0, 0, 0))
+}
+
+#[test]
+fn a_checkpoint_keeps_new_settings(rt: HostRuntime) {
+    assert!(rt; begins_with_new_settings(rt.alloc()) == Ok(true));
 }

@@ -1,6 +1,6 @@
 //! Requests as clients send them, and responses byte for byte.
 use crate::tests::instances::push_each;
-use eu_base::{App, Fault, Instance, Key, Moment, Stamp, Status};
+use eu_base::{App, Config, Fault, Instance, Key, Moment, Stamp, Status};
 use eu_framing::{Request, read_request};
 use eu_http::{Answer, Ask, Asked, Outcome, answer, asks};
 use eu_json::read_instance;
@@ -133,6 +133,13 @@ fn tell_stamp_of(
     tell_stamp(out, dirty)
 }
 
+/// Writes settings as words.
+fn tell_settings(out: &mut String, config: &Config) -> Result<(), AllocError> {
+    let (preservation, percent) = (config.preservation, config.percent);
+    let (interval, evict_ms) = (config.interval, config.evict_ms);
+    write!(out, "config {preservation} {percent} {interval} {evict_ms}")
+}
+
 /// Writes a command as words, all but its sender.
 fn tell_change(out: &mut String, command: &Command) -> Result<(), AllocError> {
     match command {
@@ -150,6 +157,7 @@ fn tell_change(out: &mut String, command: &Command) -> Result<(), AllocError> {
             tell_status(out, *overridden)
         }
         Command::Cancel { key, .. } => tell_key(out, "cancel", key),
+        Command::Reconfigure { config } => tell_settings(out, config),
         _ => tell_override(out, command),
     }
 }
@@ -284,7 +292,7 @@ fn did(alloc: Global, reply: Reply, text: &str) -> bool {
 }
 
 /// Lines of requests, with what they ask.
-const LINES: [(&str, &str); 10] = [
+const LINES: [(&str, &str); 11] = [
     (
         "PUT /eureka/apps/A/i1?lastDirtyTimestamp=7&overriddenstatus=down",
         "renew A i1 7 DOWN c;",
@@ -304,6 +312,10 @@ const LINES: [(&str, &str); 10] = [
     ("GET /eureka/apps/A/i1", "one A i1;"),
     ("GET /eureka/apps/delta", "forbidden"),
     ("GET /eureka/status", "counts;all;"),
+    (
+        "PUT /eureka/config?preservation=off&percent=85&interval=15&evictMs=60000",
+        "config false 85 15 60000 c;",
+    ),
 ];
 
 #[test]
@@ -321,7 +333,7 @@ fn a_body_registers(rt: HostRuntime) {
 }
 
 /// Lines and bodies of requests, with their first fault.
-const FAULTS: [(&str, &str, Fault); 8] = [
+const FAULTS: [(&str, &str, Fault); 10] = [
     ("POST /eureka/apps", "{", Fault::NoRoute),
     (
         "PATCH /eureka/apps/%FF/i1?lastDirtyTimestamp=x",
@@ -339,6 +351,12 @@ const FAULTS: [(&str, &str, Fault); 8] = [
         Fault::BadValue,
     ),
     ("PUT /eureka/apps/A/i1/status", "", Fault::BadValue),
+    (
+        "PUT /eureka/config?preservation=on&percent=101&interval=30&evictMs=60000",
+        "",
+        Fault::BadValue,
+    ),
+    ("GET /eureka/config", "", Fault::NoRoute),
     ("POST /eureka/apps/%FF", "{", Fault::BadPath),
     ("POST /eureka/apps/A", "{", Fault::NotJson),
     ("POST /eureka/apps/B", REGISTRATION, Fault::WrongApp),

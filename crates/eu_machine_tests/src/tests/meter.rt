@@ -81,6 +81,48 @@ fn clients_come_and_leave(rt: HostRuntime) {
     assert!(rt; clients(joined_again()) == Ok((0, true)));
 }
 
+/// The clients that are expected, the threshold and the milliseconds between two passes, of ten clients at 85% each 30 s, and then with
+/// other settings.
+fn reconfigured() -> Result<[(u64, u64, u32); 3], Fault> {
+    let mut threshold = opened(true, 85, 10)?;
+    let before = seen(&threshold);
+    threshold.reconfigure(Config::new(true, 50, 15, 0)?);
+    let half = seen(&threshold);
+    threshold.reconfigure(Config::new(false, 0, 3600, 7)?);
+    Ok([before, half, seen(&threshold)])
+}
+
+fn seen(threshold: &Threshold) -> (u64, u64, u32) {
+    (
+        threshold.expected(),
+        threshold.value(),
+        threshold.config().evict_ms,
+    )
+}
+
+/// 10 * 60 * 85 / 3000 = 17, and 10 * 60 * 50 / 1500 = 20.
+#[test]
+fn a_threshold_is_that_of_its_settings(rt: HostRuntime) {
+    assert!(rt; reconfigured() == Ok([(10, 17, 60_000), (10, 20, 0), (10, 0, 7)]));
+}
+
+/// The clients that are expected and the threshold when of ten two have left at once, then nobody, and then nine.
+fn left_at_once() -> Result<[(u64, u64); 3], Fault> {
+    let mut threshold = opened(true, 85, 10)?;
+    threshold.left_by(2);
+    let eight = (threshold.expected(), threshold.value());
+    threshold.left_by(0);
+    let same = (threshold.expected(), threshold.value());
+    threshold.left_by(9);
+    Ok([eight, same, (threshold.expected(), threshold.value())])
+}
+
+/// 8 * 60 * 85 / 3000 = 13.6.
+#[test]
+fn clients_leave_at_once(rt: HostRuntime) {
+    assert!(rt; left_at_once() == Ok([(8, 13), (8, 13), (0, 0)]));
+}
+
 /// Whether eviction is permitted after so many renewals, with 20 clients.
 fn permits(preservation: bool, percent: u32, renewals: u64) -> Result<bool, Fault> {
     Ok(opened(preservation, percent, 20)?.permitted(renewals))

@@ -229,11 +229,11 @@ const SCRIPT: &str =
     "open 4\nregister 0 A i0 1 UP UNKNOWN 0 c\nregister 0 A i1 1 UP UNKNOWN 0 c\nregister 0 A i2 1 UP UNKNOWN 0 c\nregister 0 A i3 1 UP UNKNOWN 0 c\nevict 10000\npage 10000\n";
 
 /// What that prints where half of the leases may go, each client renews every 20 s, and preservation is off, up to the victims; and from
-/// there on.
+/// there on, where 4 + 4 - 2 are expected.
 const REGISTERED: &str = "opened\n204\n204\n204\n204\n";
 
 const PAGE: &str =
-    "held 2\nexpected 8\nthreshold 12\nlast 0\npreservation off\npermitted yes\nstatuses UP_2_\n";
+    "held 2\nexpected 6\nthreshold 9\nlast 0\npreservation off\npermitted yes\nstatuses UP_2_\n";
 
 /// The words of such a run.
 const WORDS: [&str; 8] = [
@@ -557,9 +557,9 @@ fn two_clients_are_served(rt: HostRuntime) -> Result<(), Fail> {
     Ok(())
 }
 
-/// The page of that server, where two of four leases have gone.
+/// The page of that server, where two of four leases have gone: 7 + 4 - 2 are expected.
 const TWO_LEFT: &str =
-    "HTTP/1.1 200 OK\r\nContent-Type: text/plain; charset=utf-8\r\nContent-Length: 85\r\nConnection: close\r\n\r\nheld 2\nexpected 11\nthreshold 16\nlast 0\npreservation off\npermitted yes\nstatuses UP_2_\n";
+    "HTTP/1.1 200 OK\r\nContent-Type: text/plain; charset=utf-8\r\nContent-Length: 84\r\nConnection: close\r\n\r\nheld 2\nexpected 9\nthreshold 13\nlast 0\npreservation off\npermitted yes\nstatuses UP_2_\n";
 
 /// What clients of a server see, while two keep a worker each: whether four register, and six seconds later these two are gone; and then
 /// the first one is answered.

@@ -27,6 +27,8 @@ enum Call {
     CancelOther(&'static str),
     Roll,
     Update,
+    /// Whether self-preservation is on, the percentage, the seconds between renewals, the milliseconds between passes.
+    Reconfigure(bool, u32, u32, u32),
     Evict,
 }
 
@@ -175,6 +177,10 @@ fn answer<C: Chooser>(
         Call::CancelOther(id) => cancel(alloc, registry, "B", id),
         Call::Roll => Ok(registry.roll()),
         Call::Update => Ok(registry.update()),
+        Call::Reconfigure(preservation, percent, interval, evict_ms) => {
+            let config = Config::new(preservation, percent, interval, evict_ms)?;
+            Ok(registry.reconfigure(config))
+        }
         Call::Evict => registry.evict(alloc, now, chooser),
     }
 }
@@ -536,10 +542,33 @@ fn half_of_the_expired_are_drawn(rt: HostRuntime) {
     assert!(rt; tells == Ok(true));
 }
 
+/// A pass, and then a cancel of one that it evicted and of one that is held.
+const FEWER: [(u64, Line); 10] = [
+    (0, Line::Do(Call::Join("i0", Status::Up, 0, 90))),
+    (0, Line::Do(Call::Join("i1", Status::Up, 0, 90))),
+    (0, Line::Do(Call::Join("i2", Status::Up, 0, 90))),
+    (0, Line::Do(Call::Join("i3", Status::Up, 0, 90))),
+    (90_001, Line::Do(Call::Evict)),
+    (90_001, Line::Counts),
+    (90_001, Line::Do(Call::Cancel("i0"))),
+    (90_001, Line::Counts),
+    (90_001, Line::Do(Call::Cancel("i2"))),
+    (90_001, Line::Counts),
+];
+
+/// Three and the four that come are seven; two of four go, then one. The threshold is one for each.
+#[test]
+fn each_victim_is_one_fewer_expected(rt: HostRuntime) {
+    let words = "new new new new evicted-i0-i1 :2:5:5:0:yes none :2:5:5:0:yes done :1:4:4:0:yes ";
+    assert!(rt; tells(rt.alloc(), (false, 50, 3), FEWER.as_slice(), words) == Ok(true));
+}
+
 #[test]
 fn nobody_is_evicted_while_preservation_forbids_it(rt: HostRuntime) {
     let words = "new new new new evicted :4:0:0:0:no ";
     assert!(rt; tells(rt.alloc(), (true, 50, 0), FOUR.as_slice(), words) == Ok(true));
+    let words = "new new new new evicted :4:7:7:0:no ";
+    assert!(rt; tells(rt.alloc(), (true, 50, 3), FOUR.as_slice(), words) == Ok(true));
 }
 
 /// The id i and that number.
@@ -653,4 +682,55 @@ const BROUGHT: [(u64, Line); 4] = [
 fn a_peer_brings_a_row(rt: HostRuntime) {
     let words = "new stale done OUT_OF_SERVICE:0:90:90002 ";
     assert!(rt; tells(rt.alloc(), (true, 85, 0), BROUGHT.as_slice(), words) == Ok(true));
+}
+
+/// Other settings between a renewal, a minute's end and passes.
+const SETTINGS: [(u64, Line); 11] = [
+    (0, UP),
+    (0, Line::Do(Call::Renew("i1"))),
+    (0, Line::Do(Call::Roll)),
+    (0, Line::Do(Call::Renew("i1"))),
+    (0, Line::Counts),
+    (0, Line::Do(Call::Reconfigure(false, 50, 15, 90_000))),
+    (0, Line::Counts),
+    (0, Line::Do(Call::Roll)),
+    (0, Line::Do(Call::Evict)),
+    (270_000, Line::Do(Call::Reconfigure(true, 0, 30, 90_001))),
+    (270_000, Line::Counts),
+];
+
+/// Two and the one that comes are three: 3 * 60 * 85 / 3000 = 5.1, 3 * 60 * 50 / 1500 = 6, and none at no percentage.
+#[test]
+fn settings_change_and_all_else_stays(rt: HostRuntime) {
+    let words =
+        "new done last=1 done :1:3:5:1:no done :1:3:6:1:yes last=1 evicted done :1:3:0:1:no ";
+    assert!(rt; tells(rt.alloc(), (true, 85, 2), SETTINGS.as_slice(), words) == Ok(true));
+}
+
+/// A lease of 90 s, a pass at 0, another interval between passes, and a pass at 200,000.
+fn interval(evict_ms: u32) -> [(u64, Line); 4] {
+    [
+        (0, UP),
+        (0, Line::Do(Call::Evict)),
+        (0, Line::Do(Call::Reconfigure(false, 0, 30, evict_ms))),
+        (200_000, Line::Do(Call::Evict)),
+    ]
+}
+
+/// 90,000 and the extra time are before 200,000 where that is less than 110,000: it is 200,000 less the new interval.
+#[test]
+fn extra_time_is_that_of_the_new_interval(rt: HostRuntime) {
+    let cases = [
+        (90_001, "new evicted done evicted-i1 "),
+        (90_000, "new evicted done evicted "),
+        (0, "new evicted done evicted "),
+        (u32::MAX, "new evicted done evicted-i1 "),
+    ];
+    for (evict_ms, words) in cases {
+        let lines = interval(evict_ms);
+        assert!(rt;
+            tells(rt.alloc(), (false, 85, 0), lines.as_slice(), words) == Ok(true),
+            "at {evict_ms}"
+        );
+    }
 }

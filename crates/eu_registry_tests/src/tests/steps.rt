@@ -27,6 +27,8 @@ enum Step {
     Up,
     Roll,
     Update,
+    /// Self-preservation is off, with a renewal each 15 s.
+    Reconfigure,
     Evict,
 }
 
@@ -103,6 +105,9 @@ fn command(alloc: Global, step: Step) -> Result<Command, Fault>
         Step::Up => up(alloc),
         Step::Roll => Ok(Command::Roll),
         Step::Update => Ok(Command::Update),
+        Step::Reconfigure => Ok(Command::Reconfigure {
+            config: Config::new(false, 85, 15, 0)?,
+        }),
         Step::Evict => Ok(Command::Evict),
     }
 }
@@ -227,16 +232,18 @@ fn nothing_is_copied_of_nobody(rt: HostRuntime) {
     assert!(rt; tells(rt.alloc(), 85, NOBODY.as_slice(), words) == Ok(true));
 }
 
-const MINUTE: [Step; 4] = [
+const MINUTE: [Step; 5] = [
     Step::Join("i1", Status::Up, 5, 90),
     Step::Renew(None),
     Step::Roll,
     Step::Update,
+    Step::Reconfigure,
 ];
 
 #[test]
-fn minutes_and_updates_are_steps(rt: HostRuntime) {
-    let words = "new new UP:5:90; done done UP:5:90; last=1 last=1 ; expected=2 expected=2 ; ";
+fn minutes_updates_and_settings_are_steps(rt: HostRuntime) {
+    let words =
+        "new new UP:5:90; done done UP:5:90; last=1 last=1 ; expected=2 expected=2 ; done done ; ";
     assert!(rt; tells(rt.alloc(), 50, MINUTE.as_slice(), words) == Ok(true));
 }
 

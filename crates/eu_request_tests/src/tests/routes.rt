@@ -1,5 +1,5 @@
 //! Requests with what each asks for, by the table of routes, and the values of queries.
-use eu_base::{App, Fault, Key, Stamp, Status};
+use eu_base::{App, Config, Fault, Key, Stamp, Status};
 use eu_routes::{Route, Routes, read_stamp, read_status};
 use std::alloc::{AllocError, Global};
 
@@ -35,6 +35,16 @@ fn tell_stamp(text: &mut String, stamp: &Option<Stamp>) -> Result<(), AllocError
 /// Writes a status, or that there is none.
 fn tell_status(text: &mut String, status: &Option<Status>) -> Result<(), AllocError> {
     write!(text, " {status:?}")
+}
+
+/// Writes settings.
+fn tell_settings(text: &mut String, config: &Config) -> Result<(), AllocError> {
+    let (preservation, percent) = (config.preservation, config.percent);
+    let (interval, evict_ms) = (config.interval, config.evict_ms);
+    write!(
+        text,
+        "config {preservation} {percent} {interval} {evict_ms}"
+    )
 }
 
 /// Writes what a change of a status asks for.
@@ -81,6 +91,7 @@ fn tell(text: &mut String, route: &Route) -> Result<(), AllocError> {
         Route::Delta => text.push_str("delta"),
         Route::Batch => text.push_str("batch"),
         Route::StatusPage => text.push_str("page"),
+        Route::Reconfigure(config) => tell_settings(text, config),
         _ => tell_lease(text, route),
     }
 }
@@ -122,7 +133,7 @@ fn fault_of(alloc: Global, method: &str, path: &str, query: &str) -> Option<Faul
 }
 
 /// Methods, pages and queries, with what they ask for.
-const ROWS: [(&str, &str, &str, &str); 15] = [
+const ROWS: [(&str, &str, &str, &str); 16] = [
     ("POST", "apps/a", "", "register A"),
     ("POST", "apps/delta", "", "register DELTA"),
     ("PUT", "apps/a/i1", "", "renew A i1 None None"),
@@ -158,6 +169,12 @@ const ROWS: [(&str, &str, &str, &str); 15] = [
     ("GET", "apps/delta", "", "delta"),
     ("GET", "apps/delta/i1", "", "one DELTA i1"),
     ("GET", "status", "", "page"),
+    (
+        "PUT",
+        "config",
+        "preservation=on&percent=85&interval=30&evictMs=60000",
+        "config true 85 30 60000",
+    ),
 ];
 
 /// What stands before a page.
@@ -202,7 +219,7 @@ fn each_row_has_its_route(rt: HostRuntime) {
 }
 
 /// Methods and paths that have no route.
-const NO_ROUTES: [(&str, &str); 30] = [
+const NO_ROUTES: [(&str, &str); 37] = [
     ("HEAD", "/eureka/apps"),
     ("get", "/eureka/apps"),
     ("POST", "/eureka/apps"),
@@ -210,6 +227,13 @@ const NO_ROUTES: [(&str, &str); 30] = [
     ("POST", "/eureka/apps/a/i"),
     ("GET", "/eureka/apps/a/i/status"),
     ("PUT", "/eureka/status"),
+    ("GET", "/eureka/config"),
+    ("POST", "/eureka/v2/config"),
+    ("DELETE", "/eureka/config"),
+    ("put", "/eureka/config"),
+    ("PUT", "/eureka/Config"),
+    ("PUT", "/eureka/config/x"),
+    ("PUT", "/eureka/apps/config"),
     ("GET", "/eureka/apps//x"),
     ("GET", "/eureka/apps/x//"),
     ("GET", "/eureka/apps//"),
@@ -461,6 +485,76 @@ fn faults_have_an_order(rt: HostRuntime) {
         assert!(rt;
             fault_of(alloc, method, path, bad) == *fault,
             "at {method} {path}"
+        );
+    }
+}
+
+/// Queries of settings, with what they ask for.
+const SETTINGS: [(&str, &str); 4] = [
+    (
+        "preservation=off&percent=0&interval=1&evictMs=0",
+        "config false 0 1 0",
+    ),
+    (
+        "evictMs=4294967295&interval=3600&percent=100&preservation=on",
+        "config true 100 3600 4294967295",
+    ),
+    (
+        "preservation=%6Fn&percent=0000000085&interval=030&evictMs=%36&x=1",
+        "config true 85 30 6",
+    ),
+    (
+        "preservation=on&preservation=gone&percent=85&percent=101&interval=30&evictMs=1&evictMs=",
+        "config true 85 30 1",
+    ),
+];
+
+#[test]
+fn settings_are_read_from_the_query(rt: HostRuntime) {
+    let alloc = rt.alloc();
+    for (query, wanted) in &SETTINGS {
+        assert!(rt;
+            is_told(alloc, "PUT", "/eureka/config", query, wanted),
+            "at {query}"
+        );
+    }
+}
+
+/// Queries without a value of the settings, or with one that is bad.
+const BAD_SETTINGS: [&str; 20] = [
+    "",
+    "percent=85&interval=30&evictMs=60000",
+    "preservation=on&interval=30&evictMs=60000",
+    "preservation=on&percent=85&evictMs=60000",
+    "preservation=on&percent=85&interval=30",
+    "preservation=&percent=85&interval=30&evictMs=60000",
+    "preservation=ON&percent=85&interval=30&evictMs=60000",
+    "preservation=true&percent=85&interval=30&evictMs=60000",
+    "preservation=on&percent=&interval=30&evictMs=60000",
+    "preservation=on&percent=101&interval=30&evictMs=60000",
+    "preservation=on&percent=%2B85&interval=30&evictMs=60000",
+    "preservation=on&percent=00000000085&interval=30&evictMs=60000",
+    "preservation=on&percent=8.5&interval=30&evictMs=60000",
+    "preservation=on&percent=85&interval=0&evictMs=60000",
+    "preservation=on&percent=85&interval=3601&evictMs=60000",
+    "preservation=on&percent=85&interval=-1&evictMs=60000",
+    "preservation=on&percent=85&interval=30&evictMs=4294967296",
+    "preservation=on&percent=85&interval=30&evictMs=",
+    "preservation=on&percent=85&interval=30&evictms=60000",
+    "preservation=on&percent=101&percent=85&interval=30&evictMs=60000",
+];
+
+#[test]
+fn bad_settings_are_refused(rt: HostRuntime) {
+    let alloc = rt.alloc();
+    for query in &BAD_SETTINGS {
+        assert!(rt;
+            fault_of(alloc, "PUT", "/eureka/v2/config", query) == Some(Fault::BadValue),
+            "at {query}"
+        );
+        assert!(rt;
+            fault_of(alloc, "GET", "/eureka/config", query) == Some(Fault::NoRoute),
+            "at {query}"
         );
     }
 }

@@ -85,14 +85,86 @@ const PRESERVATION: [(&str, &str); 29] = [
     ("evict 120000", "evicted 1 PAYMENTS p4"),
     (
         "counts 120000",
-        "held 3 expected 4 threshold 6 last 7 permitted yes",
+        "held 3 expected 3 threshold 5 last 7 permitted yes",
     ),
-    ("update 120000", "expected 4"),
+    ("update 120000", "expected 3"),
 ];
 
 #[test]
 fn the_preservation_example_prints_what_stands_beside_it(rt: HostRuntime) {
     assert!(rt; prints(rt.alloc(), PRESERVATION.as_slice()) == Ok(true));
+}
+
+const SHRINKING: [(&str, &str); 52] = [
+    ("open 0", "opened"),
+    ("register 0 SHOP s0 30 UP UNKNOWN - c", "204"),
+    ("register 0 SHOP s1 30 UP UNKNOWN - c", "204"),
+    ("register 0 SHOP s2 30 UP UNKNOWN - c", "204"),
+    ("register 0 SHOP s3 30 UP UNKNOWN - c", "204"),
+    ("register 0 SHOP s4 30 UP UNKNOWN - c", "204"),
+    ("register 0 SHOP s5 30 UP UNKNOWN - c", "204"),
+    ("register 0 SHOP s6 30 UP UNKNOWN - c", "204"),
+    ("register 0 SHOP s7 30 UP UNKNOWN - c", "204"),
+    ("register 0 SHOP s8 30 UP UNKNOWN - c", "204"),
+    ("register 0 SHOP s9 30 UP UNKNOWN - c", "204"),
+    ("update 0", "expected 10"),
+    ("renew 30000 SHOP s0 - - c", "200"),
+    ("renew 30000 SHOP s1 - - c", "200"),
+    ("renew 30000 SHOP s2 - - c", "200"),
+    ("renew 30000 SHOP s3 - - c", "200"),
+    ("renew 30000 SHOP s4 - - c", "200"),
+    ("renew 30000 SHOP s5 - - c", "200"),
+    ("renew 30000 SHOP s6 - - c", "200"),
+    ("renew 30000 SHOP s7 - - c", "200"),
+    ("renew 45000 SHOP s0 - - c", "200"),
+    ("renew 45000 SHOP s1 - - c", "200"),
+    ("renew 60000 SHOP s0 - - c", "200"),
+    ("renew 60000 SHOP s1 - - c", "200"),
+    ("renew 60000 SHOP s2 - - c", "200"),
+    ("renew 60000 SHOP s3 - - c", "200"),
+    ("renew 60000 SHOP s4 - - c", "200"),
+    ("renew 60000 SHOP s5 - - c", "200"),
+    ("renew 60000 SHOP s6 - - c", "200"),
+    ("renew 60000 SHOP s7 - - c", "200"),
+    ("roll 60000", "last 18"),
+    (
+        "counts 61000",
+        "held 10 expected 10 threshold 17 last 18 permitted yes",
+    ),
+    ("evict 61000", "evicted 2 SHOP s8 SHOP s9"),
+    (
+        "counts 61000",
+        "held 8 expected 8 threshold 13 last 18 permitted yes",
+    ),
+    ("renew 90000 SHOP s0 - - c", "200"),
+    ("renew 90000 SHOP s1 - - c", "200"),
+    ("renew 90000 SHOP s2 - - c", "200"),
+    ("renew 90000 SHOP s3 - - c", "200"),
+    ("renew 90000 SHOP s4 - - c", "200"),
+    ("renew 90000 SHOP s5 - - c", "200"),
+    ("renew 105000 SHOP s0 - - c", "200"),
+    ("renew 105000 SHOP s1 - - c", "200"),
+    ("renew 120000 SHOP s0 - - c", "200"),
+    ("renew 120000 SHOP s1 - - c", "200"),
+    ("renew 120000 SHOP s2 - - c", "200"),
+    ("renew 120000 SHOP s3 - - c", "200"),
+    ("renew 120000 SHOP s4 - - c", "200"),
+    ("renew 120000 SHOP s5 - - c", "200"),
+    ("roll 120000", "last 14"),
+    (
+        "counts 121000",
+        "held 8 expected 8 threshold 13 last 14 permitted yes",
+    ),
+    ("evict 121000", "evicted 2 SHOP s6 SHOP s7"),
+    (
+        "counts 121000",
+        "held 6 expected 6 threshold 10 last 14 permitted yes",
+    ),
+];
+
+#[test]
+fn the_shrinking_example_prints_what_stands_beside_it(rt: HostRuntime) {
+    assert!(rt; prints(rt.alloc(), SHRINKING.as_slice()) == Ok(true));
 }
 
 const OVERRIDES: [(&str, &str); 14] = [

@@ -24,7 +24,7 @@ fn ends_by<R: Read>(
 }
 
 /// The same where self-preservation is on, at 85%, with a renewal each 30 s and an eviction pass each minute.
-fn ends<R: Read>(
+pub fn ends<R: Read>(
     alloc: Global,
     reader: &mut R,
     wanted: Result<(), ScriptFault>,
@@ -51,7 +51,7 @@ pub fn prints(alloc: Global, preserves: bool, text: &[u8], printed: &[u8]) -> bo
 }
 
 /// A script that opens a registry, and registers so many clients at moment 0, each for so many seconds.
-fn joined(alloc: Global, expected: u32, clients: u32, secs: u32) -> Result<String, AllocError> {
+pub fn joined(alloc: Global, expected: u32, clients: u32, secs: u32) -> Result<String, AllocError> {
     let mut text = String::new(alloc);
     writeln!(text, "open {expected}")?;
     for i in 0..clients {
@@ -61,7 +61,7 @@ fn joined(alloc: Global, expected: u32, clients: u32, secs: u32) -> Result<Strin
 }
 
 /// What that prints.
-fn joined_printed(alloc: Global, clients: u32) -> Result<String, AllocError> {
+pub fn joined_printed(alloc: Global, clients: u32) -> Result<String, AllocError> {
     let mut text = String::new(alloc);
     text.push_str("opened\n")?;
     for _ in 0..clients {
@@ -352,7 +352,7 @@ fn clients_are_counted_anew(rt: HostRuntime) {
     }
 }
 
-const SETTINGS: [(bool, u32, &[u8], &[u8]); 3] = [
+const SETTINGS: [(bool, u32, &[u8], &[u8]); 7] = [
     (
         false,
         85,
@@ -371,6 +371,34 @@ const SETTINGS: [(bool, u32, &[u8], &[u8]); 3] = [
         100,
         b"open 1\nregister 0 A i1 1 UP UNKNOWN - c\nevict 10000\ncounts 10000\n",
         b"opened\n204\nevicted 0\nheld 1 expected 2 threshold 4 last 0 permitted yes\n",
+    ),
+    // at none all may go
+    (
+        false,
+        0,
+        b"open 0\nregister 0 A i0 10 UP UNKNOWN - c\nregister 0 A i1 10 UP UNKNOWN - c\nregister 0 A i2 10 UP UNKNOWN - c\nregister 0 A i3 10 UP UNKNOWN - c\nevict 100000\ncounts 100000\n",
+        b"opened\n204\n204\n204\n204\nevicted 4 A i0 A i1 A i2 A i3\nheld 0 expected 0 threshold 0 last 0 permitted yes\n",
+    ),
+    // where more are evicted than are expected, none are, and who comes then doesn't raise that
+    (
+        false,
+        50,
+        b"open 0\nregister 0 A i0 10 UP UNKNOWN - c\nregister 0 A i1 10 UP UNKNOWN - c\nregister 0 A i2 10 UP UNKNOWN - c\nregister 0 A i3 10 UP UNKNOWN - c\nevict 100000\ncounts 100000\nregister 100000 A i9 90 UP UNKNOWN - c\ncounts 100000\n",
+        b"opened\n204\n204\n204\n204\nevicted 2 A i0 A i1\nheld 2 expected 0 threshold 0 last 0 permitted yes\n204\nheld 3 expected 0 threshold 0 last 0 permitted yes\n",
+    ),
+    // each victim is one fewer expected, and isn't once more where it is cancelled: 4 less 1 is 3, and 3 * 60 * 85 / 3000 = 5.1
+    (
+        false,
+        85,
+        b"open 3\nregister 0 A i1 10 UP UNKNOWN - c\ncounts 10001\nevict 10001\ncounts 10001\ncancel 10001 A i1 c\ncounts 10001\n",
+        b"opened\n204\nheld 1 expected 4 threshold 6 last 0 permitted yes\nevicted 1 A i1\nheld 0 expected 3 threshold 5 last 0 permitted yes\n404\nheld 0 expected 3 threshold 5 last 0 permitted yes\n",
+    ),
+    // a pass without a victim leaves the number
+    (
+        false,
+        85,
+        b"open 3\nregister 0 A i1 10 UP UNKNOWN - c\nevict 10000\ncounts 10000\n",
+        b"opened\n204\nevicted 0\nheld 1 expected 4 threshold 6 last 0 permitted yes\n",
     ),
 ];
 
@@ -412,18 +440,18 @@ fn passes_evict(rt: HostRuntime) {
 const FOUR_PASSES: &str =
     "roll 0\nevict 100000\ncounts 100000\nevict 100000\ncounts 100000\nevict 100000\ncounts 100000\nevict 100000\ncounts 100000\n";
 
-/// Ten leases of 10 s, of which the first is renewed so often, a minute's end, and four passes with counts after each.
-fn waves(alloc: Global, renewals: u32) -> Result<String, AllocError> {
+/// Ten leases of 10 s, of which the first is renewed so often, and these lines.
+fn waves(alloc: Global, renewals: u32, lines: &str) -> Result<String, AllocError> {
     let mut text = joined(alloc, 0, 10, 10)?;
     text.push_str("update 0\n")?;
     for _ in 0..renewals {
         text.push_str("renew 0 A i0 - - c\n")?;
     }
-    text.push_str(FOUR_PASSES)?;
+    text.push_str(lines)?;
     Ok(text)
 }
 
-/// What the lines before the minute's end print, and this.
+/// What the lines before these print, and this.
 fn waves_printed(alloc: Global, renewals: u32, replies: &str) -> Result<String, AllocError> {
     let mut text = joined_printed(alloc, 10)?;
     text.push_str("expected 10\n")?;
@@ -434,19 +462,25 @@ fn waves_printed(alloc: Global, renewals: u32, replies: &str) -> Result<String, 
     Ok(text)
 }
 
-/// Whether the waves of so many renewals print that.
-fn waves_print(alloc: Global, renewals: u32, replies: &str) -> Result<bool, AllocError> {
-    let text = waves(alloc, renewals)?;
+/// Whether the waves of so many renewals, with these lines, print that.
+fn waves_print(
+    alloc: Global,
+    renewals: u32,
+    lines: &str,
+    replies: &str,
+) -> Result<bool, AllocError> {
+    let text = waves(alloc, renewals, lines)?;
     let printed = waves_printed(alloc, renewals, replies)?;
     Ok(prints(alloc, true, text.as_bytes(), printed.as_bytes()))
 }
 
+/// Each victim is one fewer expected, and one client owes 1.7 renewals: 13.6, 10.2, 8.5 and 6.8, rounded down.
 const SHARED: &str =
-    "last 18\nevicted 2 A i0 A i1\nheld 8 expected 10 threshold 17 last 18 permitted yes\nevicted 2 A i2 A i3\nheld 6 expected 10 threshold 17 last 18 permitted yes\nevicted 1 A i4\nheld 5 expected 10 threshold 17 last 18 permitted yes\nevicted 1 A i5\nheld 4 expected 10 threshold 17 last 18 permitted yes\n";
+    "last 18\nevicted 2 A i0 A i1\nheld 8 expected 8 threshold 13 last 18 permitted yes\nevicted 2 A i2 A i3\nheld 6 expected 6 threshold 10 last 18 permitted yes\nevicted 1 A i4\nheld 5 expected 5 threshold 8 last 18 permitted yes\nevicted 1 A i5\nheld 4 expected 4 threshold 6 last 18 permitted yes\n";
 
 #[test]
 fn passes_keep_the_share(rt: HostRuntime) {
-    assert!(rt; waves_print(rt.alloc(), 18, SHARED) == Ok(true));
+    assert!(rt; waves_print(rt.alloc(), 18, FOUR_PASSES, SHARED) == Ok(true));
 }
 
 const FORBIDDEN: &str =
@@ -454,7 +488,20 @@ const FORBIDDEN: &str =
 
 #[test]
 fn preservation_forbids_passes(rt: HostRuntime) {
-    assert!(rt; waves_print(rt.alloc(), 17, FORBIDDEN) == Ok(true));
+    assert!(rt; waves_print(rt.alloc(), 17, FOUR_PASSES, FORBIDDEN) == Ok(true));
+}
+
+/// Between two passes fourteen renewals, which are no more than the threshold was before the first one.
+const FEWER: &str =
+    "roll 0\nevict 100000\nrenew 100000 A i9 - - c\nrenew 100000 A i9 - - c\nrenew 100000 A i9 - - c\nrenew 100000 A i9 - - c\nrenew 100000 A i9 - - c\nrenew 100000 A i9 - - c\nrenew 100000 A i9 - - c\nrenew 100000 A i9 - - c\nrenew 100000 A i9 - - c\nrenew 100000 A i9 - - c\nrenew 100000 A i9 - - c\nrenew 100000 A i9 - - c\nrenew 100000 A i9 - - c\nrenew 100000 A i9 - - c\nroll 100000\nevict 100000\ncounts 100000\n";
+
+/// They are more than the threshold of the eight clients that are expected after it.
+const FEWER_PRINTED: &str =
+    "last 18\nevicted 2 A i0 A i1\n200\n200\n200\n200\n200\n200\n200\n200\n200\n200\n200\n200\n200\n200\nlast 14\nevicted 2 A i2 A i3\nheld 6 expected 6 threshold 10 last 14 permitted yes\n";
+
+#[test]
+fn a_pass_lowers_the_threshold_of_the_next(rt: HostRuntime) {
+    assert!(rt; waves_print(rt.alloc(), 18, FEWER, FEWER_PRINTED) == Ok(true));
 }
 
 /// Of three hundred expired leases 45 go, the first ones by the bytes of their ids.

@@ -1,5 +1,5 @@
 //! Lines with what each says, by the table of lines and the limits of their fields.
-use eu_base::{Instance, Key, Moment, Stamp};
+use eu_base::{Config, Instance, Key, Moment, Stamp};
 use eu_lines::LineError;
 use eu_words::{Line, read_line};
 use std::alloc::{AllocError, Global};
@@ -25,6 +25,17 @@ fn tell_instance(
 
 fn number(stamp: &Option<Stamp>) -> Option<u64> {
     stamp.map(|stamp| stamp.value)
+}
+
+/// Writes a moment and settings.
+fn tell_settings(text: &mut String, moment: &Moment, config: &Config) -> Result<(), AllocError> {
+    let (preservation, percent) = (config.preservation, config.percent);
+    let (interval, evict_ms) = (config.interval, config.evict_ms);
+    write!(
+        text,
+        "config {} {preservation} {percent} {interval} {evict_ms}",
+        moment.ms()
+    )
 }
 
 /// Writes what a line with a stamp that may be absent says.
@@ -107,6 +118,7 @@ fn tell(text: &mut String, line: &Line) -> Result<(), AllocError> {
         Line::Adopt { moment, instance } => tell_instance(text, "adopt", moment, instance),
         Line::Roll { moment } => write!(text, "roll {}", moment.ms()),
         Line::Update { moment } => write!(text, "update {}", moment.ms()),
+        Line::Reconfigure { moment, config } => tell_settings(text, moment, config),
         Line::Evict { moment } => write!(text, "evict {}", moment.ms()),
         Line::Look { moment, key } => tell_key(text, "look", moment, key),
         Line::Counts { moment } => write!(text, "counts {}", moment.ms()),
@@ -135,7 +147,7 @@ fn refusal(alloc: Global, line: &str) -> Option<LineError> {
     read_line(alloc, line.as_bytes()).err()
 }
 
-const READ: [(&str, &str); 30] = [
+const READ: [(&str, &str); 34] = [
     // there is no peer where none is told
     ("open 0", "open 0 0"),
     ("open 4294967295", "open 4294967295 0"),
@@ -179,6 +191,16 @@ const READ: [(&str, &str); 30] = [
     ("roll 00000000000000000005", "roll 5"),
     ("update 5", "update 5"),
     ("evict 5", "evict 5"),
+    ("config 5 on 50 30 60000", "config 5 true 50 30 60000"),
+    ("config 5 off 0 1 0", "config 5 false 0 1 0"),
+    (
+        "config 4611686018427387904 on 100 3600 4294967295",
+        "config 4611686018427387904 true 100 3600 4294967295",
+    ),
+    (
+        "config 0 off 00000000000000000085 030 00",
+        "config 0 false 85 30 0",
+    ),
     ("drain 5 0", "drain 5 0"),
     (
         "drain 00000000000000000005 04294967295",
@@ -201,7 +223,7 @@ fn lines_are_read(rt: HostRuntime) {
     }
 }
 
-const BAD: [&str; 61] = [
+const BAD: [&str; 78] = [
     "",
     "open",
     "open 4294967296",
@@ -236,6 +258,23 @@ const BAD: [&str; 61] = [
     "roll 000000000000000000005",
     "update",
     "evict 5 5",
+    "config",
+    "config 5",
+    "config 5 on 85 30",
+    "config 5 on 85 30 60000 0",
+    "config 5 on 85 30 60000 ",
+    "config 5 On 85 30 60000",
+    "config 5 true 85 30 60000",
+    "config 5 - 85 30 60000",
+    "config 5 85 30 60000",
+    "config on 85 30 60000",
+    "config 4611686018427387905 on 85 30 60000",
+    "config 5 on 101 30 60000",
+    "config 5 on 4294967296 30 60000",
+    "config 5 on 85 0 60000",
+    "config 5 on 85 3601 60000",
+    "config 5 on 85 30 4294967296",
+    "config 5 on 85 30 -",
     "drain 5",
     "drain 4611686018427387905 0",
     "drain 5 4294967296",

@@ -273,11 +273,11 @@ fn what_is_held_is_listed(rt: HostRuntime) {
     assert!(rt; lists(rt.alloc()) == Ok(true));
 }
 
-const MISSING: &str = "HTTP/1.1 404 Not Found\r\nContent-Length: 0\r\n\r\n";
+pub const MISSING: &str = "HTTP/1.1 404 Not Found\r\nContent-Length: 0\r\n\r\n";
 
 const FORBIDDEN: &str = "HTTP/1.1 403 Forbidden\r\nContent-Length: 0\r\n\r\n";
 
-const BAD_VALUE: &str =
+pub const BAD_VALUE: &str =
     "HTTP/1.1 400 Bad Request\r\nContent-Type: application/json\r\nContent-Length: 12\r\n\r\n{\"fault\":38}";
 
 /// Whether a request for the target alone is answered so.
@@ -287,7 +287,11 @@ fn targeted(alloc: Global, book: &mut Book, target: &str, response: &str) -> Res
 }
 
 /// Whether each request for a target alone, one after another, is answered by what stands beside it.
-fn targeted_each(alloc: Global, book: &mut Book, cases: &[(&str, &str)]) -> Result<bool, Fault> {
+pub fn targeted_each(
+    alloc: Global,
+    book: &mut Book,
+    cases: &[(&str, &str)],
+) -> Result<bool, Fault> {
     for (target, response) in cases {
         if !targeted(alloc, book, target, response)? {
             return Ok(false);

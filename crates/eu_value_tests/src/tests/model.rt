@@ -1,5 +1,5 @@
 //! Lists of keys and of leases.
-use eu_base::{Action, App, Fault, Id, Instance, Key, Moment, Rest, Stamp, Status, Task};
+use eu_base::{Action, App, Config, Fault, Id, Instance, Key, Moment, Rest, Stamp, Status, Task};
 use eu_model::{Command, Keys, Listed, Listing, Reply, Rows, Tally, Tasks, Times};
 use std::alloc::Global;
 
@@ -297,6 +297,16 @@ fn renewal_tally(alloc: Global, reply: &Reply) -> Result<Tally, Fault> {
     Ok(tally)
 }
 
+/// What a change of the settings did.
+fn change_tally() -> Result<Tally, Fault> {
+    let change = Command::Reconfigure {
+        config: settings()?,
+    };
+    let tally = Tally::of(&change, &Reply::Done);
+    drop(change);
+    Ok(tally)
+}
+
 fn tally(counted: u64, removed: u64) -> Tally {
     Tally {
         steps: 1,
@@ -311,6 +321,7 @@ fn what_is_done_is_counted(rt: HostRuntime) {
     assert!(rt; eviction_tally(rt.alloc()) == Ok(tally(0, 1)));
     assert!(rt; renewal_tally(rt.alloc(), &Reply::Stale) == Ok(tally(1, 0)));
     assert!(rt; renewal_tally(rt.alloc(), &Reply::NotFound) == Ok(tally(0, 0)));
+    assert!(rt; change_tally() == Ok(tally(0, 0)));
     assert!(rt; Tally::nothing().steps == 0);
 }
 
@@ -407,6 +418,53 @@ fn commands_are_compared(rt: HostRuntime) {
     assert!(rt; is_same_renewal(rt.alloc(), true) == Ok(true));
     assert!(rt; is_same_renewal(rt.alloc(), false) == Ok(false));
     assert!(rt; !is_drain_a_loss(1));
+}
+
+/// Self-preservation is on, at 85%, with a renewal each 30 s and a pass each minute.
+fn settings() -> Result<Config, Fault> {
+    Config::new(true, 85, 30, 60_000)
+}
+
+/// Whether a change to those settings is that to these.
+fn is_change_to(config: Config) -> Result<bool, Fault> {
+    let change = Command::Reconfigure {
+        config: settings()?,
+    };
+    let other = Command::Reconfigure { config };
+    let same = change.same(&other) && settings()?.same(&config);
+    drop(change);
+    drop(other);
+    Ok(same)
+}
+
+/// Whether the copy of a change to those settings is the same.
+fn is_change_copied(alloc: Global) -> Result<bool, Fault> {
+    let change = Command::Reconfigure {
+        config: settings()?,
+    };
+    let copy = change.copy(alloc)?;
+    let same = copy.same(&change);
+    drop(copy);
+    drop(change);
+    Ok(same)
+}
+
+/// Settings, and whether they are those.
+const CHANGES: [(bool, u32, u32, u32, bool); 5] = [
+    (true, 85, 30, 60_000, true),
+    (false, 85, 30, 60_000, false),
+    (true, 84, 30, 60_000, false),
+    (true, 85, 31, 60_000, false),
+    (true, 85, 30, 60_001, false),
+];
+
+#[test]
+fn changes_of_settings_are_compared_and_copied(rt: HostRuntime) {
+    for (preservation, percent, interval, evict_ms, same) in CHANGES {
+        let change = Config::new(preservation, percent, interval, evict_ms).and_then(is_change_to);
+        assert!(rt; change == Ok(same), "at {percent}, {interval}, {evict_ms}");
+    }
+    assert!(rt; is_change_copied(rt.alloc()) == Ok(true));
 }
 
 /// Whether a pass that took i1 out is answered so.

@@ -7,7 +7,8 @@ use Rattle.eu_base.specs.declared.names.Key.{Key}
 use Rattle.eu_base.specs.Key.{key_eq}
 use Rattle.eu_base.proofs.KeyLemmas.{key_eq-flips}
 use Rattle.eu_eviction.specs.Pass.{due}
-use Rattle.eu_eviction.proofs.OnceLemmas.{IsDistinct-due, IsDistinct-take}
+use Rattle.eu_model.proofs.PassLemmas.{IsDistinct-take}
+use Rattle.eu_eviction.proofs.OnceLemmas.{IsDistinct-due}
 use Rattle.eu_eviction.proofs.pass.run_pass.Goals as goal
 
 -- the front of a list that is written over a part of another

@@ -1,4 +1,4 @@
-use Rattle.std.proofs.Common.{refl, string_bytes}
+use Rattle.std.proofs.Common.{string_bytes}
 use Rattle.eu_core.specs.Shown.{shown}
 use Rattle.eu_model.specs.View.{one, counts}
 use Rattle.eu_words.specs.Lines.{said_of}

@@ -6,3 +6,6 @@ returns-in-Register-clause-some c = rw c.in-Register.is (refl, c.in-Register.ins
 
 pub returns-in-Adopt-clause-some : goal.returns-in-Adopt-clause-some
 returns-in-Adopt-clause-some c = rw c.in-Adopt.is (refl, c.in-Adopt.instance, refl, refl)
+
+pub returns-in-Reconfigure-clause-some : goal.returns-in-Reconfigure-clause-some
+returns-in-Reconfigure-clause-some c = rw c.in-Reconfigure.is (refl, c.in-Reconfigure.config, refl, refl)

@@ -1,4 +1,4 @@
-use Rattle.std.proofs.Common.{◌≡◌, length, vec_len, sym, ap, ◌∙◌, subst, arith}
+use Rattle.std.proofs.Common.{◌≡◌, ◌-◌, length, vec_len, sym, ap, ◌∙◌, subst, arith}
 use Rattle.std.specs.Prelude.{Some, Ok}
 use Rattle.eu_choice.specs.Front.{state_after}
 use Rattle.eu_model.specs.declared.commands.Command.TheVariants.{Evict}
@@ -31,8 +31,12 @@ returns-clause-answers g c =
     let long : length vs ≡ vec_len c.in_ok-passed.passed.victims = omega arith in
     let number = long ∙ v.number ∙ ap (λ k. number_of k p.leases keys) c.config-config.ensures in
     let victims = are_victims p t c.extra_time-extra.result c.permitted-permitted.result extra permits vs v.expired v.once number in
-    let new : Plain = record p { leases = c.run_pass.new.leases.held; rows = c.run_pass.new.rows.rows; previous = Some t } in
-    let whole : new ≡ kept_evicted p t vs = λ i. record (kept_evicted p t vs) { leases = v.leases i; rows = v.rows i } in
+    let left = c.left_by.new.self in
+    let count : c.len.result ≡ length vs = omega (arith, c.len.ensures) in
+    let fewer = c.left_by.ensures ∙ ap (λ n. record c.self.inside.threshold { expected = p.expected - n }) count in
+    let new : Plain = record p { config = left.config; leases = c.run_pass.new.leases.held; rows = c.run_pass.new.rows.rows; expected = left.expected; previous = Some t } in
+    let whole : new ≡ kept_evicted p t vs =
+    λ i. record (kept_evicted p t vs) { config = (fewer i).config; leases = v.leases i; rows = v.rows i; expected = (fewer i).expected } in
     moved _ _ _ _ _ _ c.self.view_is (subst (λ q. Answers p Evict t (Ok (Evicted vs)) q) (sym whole) (evict_answers t p vs victims))
 
 pub returns-clause-drawn : goal.returns-clause-drawn

@@ -1,0 +1,5 @@
+use Rattle.eu_model.proofs.PassRunLemmas as pass
+use Rattle.eu_model.proofs.law.preservation_keeps_all.Goals as goal
+
+pub returns : goal.returns
+returns c = pass.preservation_keeps_all

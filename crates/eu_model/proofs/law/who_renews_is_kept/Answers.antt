@@ -1,0 +1,5 @@
+use Rattle.eu_model.proofs.PassRunLemmas as pass
+use Rattle.eu_model.proofs.law.who_renews_is_kept.Goals as goal
+
+pub returns : goal.returns
+returns c = pass.who_renews_is_kept

@@ -1,2 +1,11 @@
 pub mod StepLemmas
 pub mod RunLemmas
+pub mod ChangedLemmas
+pub mod LimitLemmas
+pub mod JudgeLemmas
+pub mod VictimLemmas
+pub mod QueueLemmas
+pub mod OnceLemmas
+pub mod TableLemmas
+pub mod PlainLemmas
+pub mod AuditLemmas

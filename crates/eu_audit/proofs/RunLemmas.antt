@@ -14,14 +14,10 @@ use Rattle.eu_model.specs.Server.{Server, PlainServer, plain_server, ServerStep,
 use Rattle.eu_model.specs.Runs.{Runs}
 use Rattle.eu_model.proofs.AccountLemmas.{raise_server}
 use Rattle.eu_model.proofs.ServerLemmas.{MachineStep, instance-kept}
-use Rattle.eu_audit.specs.PlainRuns.{PlainStep, Turns, PlainServerStep, PlainRun, RunsArePlain}
+use Rattle.eu_audit.specs.PlainRuns.{Turns, Queued, PlainServerStep, PlainRun, RunsArePlain}
 use Rattle.eu_audit.proofs.StepLemmas.{step_down, step_up}
 
 -- ---- steps of the registry
-
-abbrev Queued : PlainServer → Command → ℕ → Reply → PlainServer → Type 0
-Queued old c t reply new =
-    PlainStep old.registry c t reply new.registry × (new.queues ≡ map (with_task (task_for c t reply (held_under new.registry (key_of c)))) old.queues)
 
 machine_down : (s : Server) (c : Command) (t : ℕ) (reply : Reply) (new : Server) → fault s.machine c t ≡ None → MachineStep s c t reply new
     → Queued (plain_server s) c t reply (plain_server new)

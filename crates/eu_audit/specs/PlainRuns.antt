@@ -57,14 +57,18 @@ Turns old peer refuses turn next new =
     (q : Queue) × (slice_get old.queues peer ≡ Some q) × (refuses q ≡ None) × (next ≡ turn q)
     × (new ≡ record old { queues = slice_set old.queues peer next })
 
+-- a step of the registry, whose task goes into each queue
+abbrev pub Queued : PlainServer → Command → ℕ → Reply → PlainServer → Type 0
+Queued old c t reply new =
+    PlainStep old.registry c t reply new.registry
+    × (new.queues ≡ map (with_task (task_for c t reply (held_under new.registry (key_of c)))) old.queues)
+
 abbrev pub PlainServerStep : PlainServer → Command → ℕ → Reply → PlainServer → Type 0
 PlainServerStep old (Drain peer) t reply new = (next : Queue) × Turns old peer (drain_fault t) (drained t) next new × (reply ≡ Batch next.flight)
 PlainServerStep old (Landed peer codes) t reply new = (next : Queue) × Turns old peer (landed_fault codes) (landed t codes) next new × (reply ≡ Settled)
 PlainServerStep old (Lost peer) t reply new = (next : Queue) × Turns old peer lost_fault (lost t) next new × (reply ≡ Settled)
--- any other is a step of the registry, whose task goes into each queue
-PlainServerStep old c t reply new =
-    PlainStep old.registry c t reply new.registry
-    × (new.queues ≡ map (with_task (task_for c t reply (held_under new.registry (key_of c)))) old.queues)
+-- any other is a step of the registry
+PlainServerStep old c t reply new = Queued old c t reply new
 
 -- each entry is such a step, from where the one before ended
 abbrev pub PlainRun : PlainServer → List Entry → PlainServer → Type 0

@@ -1,6 +1,16 @@
-//! What an auditor stands on: whether a list of entries is a run of the lease machine, told of what is kept, entry by entry.
+//! The auditor: decides whether a list of entries that a server wrote is a run of the lease machine. It stands on the definitions alone and
+//! chooses no victim.
 #![tactic(auto)]
 
+mod auditor;
+mod changes;
 mod law;
+mod numbers;
+mod passes;
+mod plain;
+mod registry;
+mod renewals;
+mod server;
 
+pub use auditor::audit;
 pub use law::runs_are_plain;

@@ -37,7 +37,7 @@ less Less p = refl
 less Equal p = absurd p
 less Greater p = absurd p
 
-below : (k : Key) (es : List (Key × Record)) → T (below_all key_cmp k es) → All (λ e. key_cmp k e.0 ≡ Less) es
+below : {X : Type 0} (k : Key) (es : List (Key × X)) → T (below_all key_cmp k es) → All (λ e. key_cmp k e.0 ≡ Less) es
 below k [] h = All-nil (λ e. key_cmp k e.0 ≡ Less)
 below k (e ∷ es) h =
     let one = is_lt (key_cmp k e.0) in
@@ -48,16 +48,16 @@ below k (e ∷ es) h =
 apart : (k q : Key) → key_cmp k q ≡ Less → eq_by_cmp key_cmp q k ≡ false
 apart k q h = ap is_eq (keys_total.antisymm q k ∙ ap ordering_reverse h)
 
-module _ (test : Record → Bool) where
-  -- a record that passes the test is found at the key
-  abbrev Passes : List (Key × Record) → Key → Type 0
-  Passes es k = (r : Record) × (find key_cmp k es ≡ Some r) × (test r ≡ true)
+module _ {X : Type 0} (test : X → Bool) where
+  -- what passes the test is found at the key
+  abbrev pub Passes : List (Key × X) → Key → Type 0
+  Passes es k = (r : X) × (find key_cmp k es ≡ Some r) × (test r ≡ true)
 
-  abbrev passing : List (Key × Record) → List Key
+  abbrev pub passing : List (Key × X) → List Key
   passing es = map (λ e. e.0) (filter (λ e. test e.1) es)
 
   -- those that pass after an entry, whose key comes first
-  after_one : (e : Key × Record) (es : List (Key × Record)) → T (below_all key_cmp e.0 es) → All (Passes es) (passing es) → All (Passes (e ∷ es)) (passing (e ∷ es))
+  after_one : (e : Key × X) (es : List (Key × X)) → T (below_all key_cmp e.0 es) → All (Passes es) (passing es) → All (Passes (e ∷ es)) (passing (e ∷ es))
   after_one e es h ps = by (test e.1) refl
     where
       later : All (λ k. key_cmp e.0 k ≡ Less) (passing es)
@@ -76,7 +76,7 @@ module _ (test : Record → Bool) where
       by true is = All-cons (Passes (e ∷ es)) e.0 (passing es) (here is) rest
       by false is = rest
 
-  passes : (es : List (Key × Record)) → T (is_sorted key_cmp es) → All (Passes es) (passing es)
+  pub passes : (es : List (Key × X)) → T (is_sorted key_cmp es) → All (Passes es) (passing es)
   passes [] h = All-nil (Passes [])
   passes (e ∷ es) h =
       let one = below_all key_cmp e.0 es in
@@ -84,7 +84,7 @@ module _ (test : Record → Bool) where
       after_one e es (first one more h) (passes es (second one more h))
 
   -- each stands once
-  once : (es : List (Key × Record)) → T (is_sorted key_cmp es) → IsDistinct key_eq (passing es)
+  pub once : (es : List (Key × X)) → T (is_sorted key_cmp es) → IsDistinct key_eq (passing es)
   unfolding IsDistinct
   once [] h = tt
   once (e ∷ es) h =
@@ -96,8 +96,8 @@ module _ (test : Record → Bool) where
         | false ↦ others
       ]
 
-  -- a record that passes the test is among them
-  found : (es : List (Key × Record)) (k : Key) (r : Record) → find key_cmp k es ≡ Some r → test r ≡ true → Contains (passing es) k
+  -- what passes the test is among them
+  pub found : (es : List (Key × X)) (k : Key) (r : X) → find key_cmp k es ≡ Some r → test r ≡ true → Contains (passing es) k
   found [] k r at is = absurd (none-some r at)
   found (e ∷ es) k r at is =
       elim (eq_by_cmp key_cmp k e.0) as (λ b. eq_by_cmp key_cmp k e.0 ≡ b → cond b (Some e.1) (find key_cmp k es) ≡ Some r → Contains (passing (e ∷ es)) k) [

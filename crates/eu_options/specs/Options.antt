@@ -1,5 +1,5 @@
 -- What the command line takes, and what its options say
-use Rattle.std.specs.Prelude.{ℕ, Bool, List, [], ◌∷◌, Some, ◌≡◌, true, codes, map, option_map, pos}
+use Rattle.std.specs.Prelude.{ℕ, Bool, [], ◌∷◌, Some, ◌≡◌, true, codes, map, option_map, pos}
 use Rattle.std.specs.Str.{bytes_eq}
 use Rattle.std.specs.Str.Parse.{IsNumeral, digits_value, without_leading_plus}
 use Rattle.clap.specs.Words.{found_of, first_value, one_text, Rule, App, Text, new_rule, new_app, with_rule, with_subcommand}
@@ -53,12 +53,13 @@ with_server_options app =
 abbrev required : App → App
 required app = record app { top = record app.top { subcommand_required = true } }
 
--- `eureka script` and `eureka serve` with their options: the subcommand has to be there
-abbrev pub program_app : ValueParser → ValueParser → App
-program_app one other =
-    with_subcommand (with_subcommand (required (new_app (codes "eureka")))
+-- `eureka script`, `eureka audit` and `eureka serve` with their options: the subcommand has to be there
+abbrev pub program_app : ValueParser → ValueParser → ValueParser → App
+program_app one other third =
+    with_subcommand (with_subcommand (with_subcommand (required (new_app (codes "eureka")))
     (with_options (new_app (codes "script")) one).top)
-    (with_server_options (with_options (new_app (codes "serve")) other)).top
+    (with_options (new_app (codes "audit")) other).top)
+    (with_server_options (with_options (new_app (codes "serve")) third)).top
 
 -- ---- what was given
 

@@ -130,6 +130,17 @@ fn script<'a>(alloc: Global) -> Result<Command<'a>, AllocError>
     with_settings(alloc, script)
 }
 
+/// The command `audit` with its options, which are those of `script`.
+fn audit<'a>(alloc: Global) -> Result<Command<'a>, AllocError>
+    ensures app { IfOk result (λ c. (switch : _) × IsSwitchParser switch × (app_of c ≡ with_options (new_app (codes "audit")) switch)) }
+    ensures local { IfOk result (λ c. (out-Command c).has_globals ≡ false) }
+{
+    let audit = Command::new(alloc, "audit").about(
+        "Runs a script from standard input and tells whether what it did is a run of the lease machine",
+    );
+    with_settings(alloc, audit)
+}
+
 /// The command `serve` with its options.
 fn serve<'a>(alloc: Global) -> Result<Command<'a>, AllocError>
     ensures app { IfOk result (λ c. (switch : _) × IsSwitchParser switch × (app_of c ≡ with_server_options (with_options (new_app (codes "serve")) switch))) }
@@ -139,16 +150,18 @@ fn serve<'a>(alloc: Global) -> Result<Command<'a>, AllocError>
     with_server(alloc, with_settings(alloc, serve)?)
 }
 
-/// The command line: `eureka script` and `eureka serve` with their options. `AllocError` where no memory is left.
+/// The command line: `eureka script`, `eureka audit` and `eureka serve` with their options. `AllocError` where no memory is left.
 pub fn command<'a>(alloc: Global) -> Result<Command<'a>, AllocError>
-    ensures { IfOk result (λ c. (one : _) × (other : _) × IsSwitchParser one × IsSwitchParser other × (app_of c ≡ program_app one other)) }
+    ensures { IfOk result (λ c. (one : _) × (other : _) × (third : _) × IsSwitchParser one × IsSwitchParser other × IsSwitchParser third × (app_of c ≡ program_app one other third)) }
 {
     let script = script(alloc)?;
+    let audit = audit(alloc)?;
     let serve = serve(alloc)?;
     Command::new(alloc, "eureka")
         .about("A proved lease registry")
         .subcommand_required(true)
         .subcommand(script)?
+        .subcommand(audit)?
         .subcommand(serve)
 }
 

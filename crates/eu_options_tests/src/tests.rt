@@ -17,7 +17,7 @@ fn read<'a>(alloc: Global, words: &'a [&'a str]) -> Result<Given, Fail> {
         Err(error) if error.kind() == ErrorKind::OutOfMemory => return Err(Fail::from(AllocError)),
         Err(_) => return Ok(Given::Refused),
     };
-    let Some(("script", found)) = matches.subcommand() else {
+    let Some(("script" | "audit", found)) = matches.subcommand() else {
         return Ok(Given::Refused);
     };
     Ok(match config_of(found) {
@@ -53,6 +53,15 @@ fn options_set_what_they_name(rt: HostRuntime) -> Result<(), Fail> {
         "5000",
     ];
     assert!(rt; read(rt.alloc(), words.as_slice())? == Given::Settings(false, 50, 10, 5000));
+    Ok(())
+}
+
+#[test]
+fn an_audit_has_the_options_of_a_script(rt: HostRuntime) -> Result<(), Fail> {
+    let none = ["eureka", "audit"];
+    assert!(rt; read(rt.alloc(), none.as_slice())? == Given::Settings(true, 85, 30, 60_000));
+    let some = ["eureka", "audit", "--percent", "50", "--interval", "10"];
+    assert!(rt; read(rt.alloc(), some.as_slice())? == Given::Settings(true, 50, 10, 60_000));
     Ok(())
 }
 

@@ -1,5 +1,5 @@
 //! From the words of the command line to the exit status.
-ghost use Rattle.std.specs.Prelude.{ℕ, ◌≡◌, ◌≢◌, ◌⊎◌, OnOk, Err};
+ghost use Rattle.std.specs.Prelude.{ℕ, ◌≡◌, ◌≢◌, ◌⊎◌, OnOk, Ok, Err, true, false};
 ghost use Rattle.clap.specs.Words.{kind_of};
 ghost use Rattle.std.specs.declared.io.ErrorKind.TheVariants as io_kind;
 
@@ -9,7 +9,7 @@ use clap::{ArgMatches, Error};
 use eu_base::{Config, Fault};
 use eu_clock::{Chooser, FirstChooser, RngChooser};
 use eu_options::{command, config_of, seed_of, serving_of};
-use eu_server::{ScriptFault, run_script};
+use eu_server::{ScriptFault, run_audit, run_script};
 use std::net::{Net, TcpListener, TcpStream};
 use std::rt::Env;
 use std::sync::Wait;
@@ -23,7 +23,7 @@ pub(crate) const DONE: u8 = 0;
 /// The exit status of bad words and of a bad line.
 const BAD_INPUT: u8 = 2;
 
-/// The exit status of any other fault.
+/// The exit status of any other fault, and of an audit whose answer is no.
 const FAILED: u8 = 3;
 
 /// Tells a fault by its number, if standard error takes it, and gives the exit status.
@@ -52,6 +52,22 @@ fn tell_end(rt: &impl Eprint, ended: Result<(), ScriptFault>) -> u8
         Err(ScriptFault::Read) => tell_fault(rt, Fault::Read),
         Err(ScriptFault::Write) => tell_fault(rt, Fault::Write),
         Err(ScriptFault::OutOfMemory) => tell_fault(rt, Fault::OutOfMemory),
+    }
+}
+
+/// Gives the exit status of an audit: of its answer, or of the fault by which it ended early, which is told as `tell_end` does.
+fn tell_audit(rt: &impl Eprint, ended: Result<bool, ScriptFault>) -> u8
+    ensures right { ended ≡ Ok true → result ≡ 0 }
+    ensures wrong { ended ≡ Ok false → result ≡ 3 }
+    ensures bad_line { (line : ℕ) → ended ≡ Err (ScriptFault.BadLine line) → result ≡ 2 }
+    ensures read { ended ≡ Err ScriptFault.Read → result ≡ 3 }
+    ensures write { ended ≡ Err ScriptFault.Write → result ≡ 3 }
+    ensures no_memory { ended ≡ Err ScriptFault.OutOfMemory → result ≡ 3 }
+{
+    match ended {
+        Ok(true) => DONE,
+        Ok(false) => FAILED,
+        Err(fault) => tell_end(rt, Err(fault)),
     }
 }
 
@@ -88,6 +104,24 @@ fn run<R: Input + Print + Eprint + AllocGlobal, C: Chooser>(
     tell_end(rt, ended)
 }
 
+/// Audits a script, and gives the exit status.
+fn audit<R: Input + Print + Eprint + AllocGlobal, C: Chooser>(
+    rt: &R,
+    config: Config,
+    chooser: &mut C,
+) -> u8
+    ensures { (result ≡ 0) ⊎ ((result ≡ 2) ⊎ (result ≡ 3)) }
+{
+    let ended = run_audit(
+        rt.alloc(),
+        &mut rt.reader(),
+        &mut io::writer(rt),
+        config,
+        chooser,
+    );
+    tell_audit(rt, ended)
+}
+
 /// The words of the command line. An error tells that there is no memory for them, or that one isn't UTF-8.
 fn words_given<R: Env + AllocGlobal>(rt: &R) -> io::Result<Vec<String>> {
     let words = env::args(rt)?;
@@ -121,6 +155,19 @@ fn start_script<R: Input + Print + Eprint + AllocGlobal>(rt: &R, given: &ArgMatc
     }
 }
 
+/// Audits a script as the options say, and gives the exit status.
+fn start_audit<R: Input + Print + Eprint + AllocGlobal>(rt: &R, given: &ArgMatches<'_>) -> u8
+    ensures { (result ≡ 0) ⊎ ((result ≡ 2) ⊎ (result ≡ 3)) }
+{
+    let Some(config) = config_of(given) else {
+        return BAD_INPUT;
+    };
+    match seed_of(given) {
+        Some(seed) => audit(rt, config, &mut RngChooser::seeded(seed)),
+        None => audit(rt, config, &mut FirstChooser),
+    }
+}
+
 /// Serves as the options say, and gives the exit status.
 fn start_server<
     R: Threads
@@ -143,8 +190,9 @@ fn start_server<
     }
 }
 
-/// Judges the words, and then does what they say: `eureka script` runs a script from standard input to standard output, `eureka serve`
-/// serves HTTP. Gives the exit status: 0 where that is done, 2 for bad words and for a bad line, 3 for any other fault.
+/// Judges the words, and then does what they say: `eureka script` runs a script from standard input to standard output, `eureka audit`
+/// audits one, `eureka serve` serves HTTP. Gives the exit status: 0 where that is done, of an audit with the answer yes, 2 for bad words and
+/// for a bad line, 3 for any other fault, and where an audit's answer is no.
 pub fn start<
     R: Threads
         + Wait
@@ -172,6 +220,7 @@ pub fn start<
     };
     match matches.subcommand() {
         Some(("script", given)) => start_script(rt, given),
+        Some(("audit", given)) => start_audit(rt, given),
         Some(("serve", given)) => start_server(rt, given),
         _ => BAD_INPUT,
     }

@@ -19,7 +19,8 @@ module _ {S T X : Type 0}
       let r = both s t x (b ∷ bs) out s' x' a p.1 in
       (r.0, (p.0, r.1), r.2)
 
-  printed : (s : S) (t : T) (x : X) (lines : List (List ℕ)) (out : List ℕ) (s' : S) (x' : X) → A s t → Printed answers s x lines out s' x' → (t' : T) × Printed answers' t x lines out t' x' × A s' t'
+  -- what the first prints for some lines, the second does too, and they are paired after
+  pub printed : (s : S) (t : T) (x : X) (lines : List (List ℕ)) (out : List ℕ) (s' : S) (x' : X) → A s t → Printed answers s x lines out s' x' → (t' : T) × Printed answers' t x lines out t' x' × A s' t'
   printed s t x [] out s' x' a p = (t, (p.0, refl, p.2), rw (p.1) a)
   printed s t x (line ∷ lines) out s' x' a p =
       let r = prints s t x line p.0 p.2 p.3 a p.4 in

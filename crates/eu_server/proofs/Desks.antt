@@ -1,10 +1,12 @@
 -- What a book answers to the lines of a script, against a run of the server
-use Rattle.std.proofs.Common.{◌≡◌, ◌≢◌, ℕ, List, [], ◌∷◌, ◌++◌, length, length-append, Option, Some, None, Result, Ok, Err, OnOk, OnErr, IfOk, IfErr, refl, sym, ◌∙◌, ap, subst, inl, inr, arith}
+use Rattle.std.proofs.Common.{◌≡◌, ◌≢◌, ℕ, List, [], ◌∷◌, ◌++◌, length, length-append, Option, Some, None, Result, Ok, Err, OnOk, OnErr, IfOk, IfErr, refl, sym, ◌∙◌, ap, subst, inl, inr, arith, append_assoc, cond, eqb, suc, true, false}
+use Rattle.std.proofs.lemmas.Bool.{eqb-true, eqb-false}
 use Rattle.std.specs.Prelude.{◌==◌, if◌then◌else◌}
 use Rattle.eu_base.specs.declared.faults.Fault.{Fault}
+use Rattle.eu_base.specs.declared.settings.Config.{Config}
 use Rattle.eu_base.specs.declared.faults.Fault.TheVariants.{OutOfMemory, Exhausted}
 use Rattle.eu_book.specs.declared.book.Receipt.{Receipt}
-use Rattle.eu_book.specs.Account.{Account, Applies, Refuses, entry, most_steps}
+use Rattle.eu_book.specs.Account.{Account, Applies, Refuses, cleared, entry, most_entries, most_steps, ready}
 use Rattle.eu_book.proofs.BookLemmas.{differs, ready_same}
 use Rattle.eu_core.specs.Stepped.{Chooses}
 use Rattle.eu_lines.specs.declared.faults.LineError.{LineError}
@@ -17,14 +19,15 @@ use Rattle.eu_model.specs.Answers.{Shows}
 use Rattle.eu_model.specs.Machine.{Machine}
 use Rattle.eu_model.specs.Plain.{Plain, plain}
 use Rattle.eu_model.specs.Server as model
-use Rattle.eu_model.specs.Server.{Server, ServerStep, server_fault}
+use Rattle.eu_model.specs.Server.{Server, ServerStep, plain_server, server_fault}
 use Rattle.eu_model.specs.ServerAnswers.{ServerAnswers, IsServerAnswer}
 use Rattle.eu_model.specs.View.{counts, listing}
 use Rattle.eu_model.proofs.RunLemmas.{run_push}
 use Rattle.eu_page.specs.Page.{shown_page}
 use Rattle.eu_server.specs.declared.desk.Desk.{Desk}
+use Rattle.eu_server.specs.Audit.{Journals}
 use Rattle.eu_server.specs.Desk.{Holds, HoldsRun, DeskAnswers, ClosedAnswers, OpenedAnswers, Told}
-use Rattle.eu_server.specs.Script.{Ran, Commands, Does, Draws, Sees, Says, SaysOpened, Tells}
+use Rattle.eu_server.specs.Script.{Ran, Commands, Does, Draws, Sees, Says, SaysOpened, Tells, opened_with}
 use Rattle.eu_server.specs.Texts.{answer_text, settled_text}
 use Rattle.eu_words.specs.Lines.{Said, line_of}
 
@@ -38,6 +41,50 @@ and_then r e mid none step = record {
   server = mid;
   runs = run_push (model.opened r.config r.opened r.peers) r.entries r.server e mid r.runs none step;
 }
+
+-- a registry that was just opened has an empty journal
+pub unopened : (config : Config) (n peers : ℕ) → Journals (opened_with config n peers) (plain_server (model.opened config n peers)) []
+unopened config n peers = record {
+  dropped = [];
+  turns = 0;
+  whole = refl;
+  came = record { from = model.opened config n peers; to = model.opened config n peers; begins = refl; ends = refl; run = refl };
+  full = refl;
+  fits = omega arith;
+  some = λ none. omega (arith, none);
+}
+
+-- the run with one entry more has the account's journal with that entry more, which begins anew before where it is full
+journals : (a : Account) (r : Ran) (e : Entry) (mid : Server) (none : server_fault r.server e.command e.moment ≡ None) (step : ServerStep r.server e.command e.moment e.reply mid)
+    → Holds a r → Journals (and_then r e mid none step) (ready a).base ((ready a).entries ++ e ∷ [])
+journals a r e mid none step h =
+    let j = h.journal in
+    let lengths = ap length j.whole ∙ length-append j.dropped a.entries in
+    elim (length a.entries == most_entries) as (λ b. eqb (length a.entries) most_entries ≡ b → Journals (and_then r e mid none step) (cond b (cleared a) a).base ((cond b (cleared a) a).entries ++ e ∷ [])) [
+      | true ↦ λ full.
+          let at_most = eqb-true (length a.entries) most_entries full in
+          record {
+            dropped = r.entries;
+            turns = suc j.turns;
+            whole = refl;
+            came = record { from = model.opened r.config r.opened r.peers; to = r.server; begins = refl; ends = sym h.state; run = r.runs };
+            full = omega (arith, lengths, j.full, at_most);
+            fits = omega arith;
+            some = λ _. omega arith;
+          }
+      | false ↦ λ room.
+          let below = eqb-false (length a.entries) most_entries room in
+          let more = length-append a.entries (e ∷ []) in
+          record {
+            dropped = j.dropped;
+            turns = j.turns;
+            whole = ap (λ l. l ++ e ∷ []) j.whole ∙ append_assoc j.dropped a.entries (e ∷ []);
+            came = j.came;
+            full = j.full;
+            fits = omega (arith, j.fits, below, more);
+            some = λ _. omega (arith, more);
+          }
+    ] refl
 
 -- the registry of an account is the plain form of the machine in each of its runs
 registry_is : (a : Account) (r : Ran) → Holds a r → plain r.server.machine ≡ a.state.registry
@@ -64,6 +111,7 @@ module _ {C : Type 0} (asks : C → ℕ → ℕ × C) (x : C) where
           record {
             steps = omega (arith, ap (λ y. y.totals.steps) applies.whole, before, h.steps, length-append r.entries (e ∷ []));
             state = sym step.1.2;
+            journal = rw applies.whole (journals a r e step.1.0 step.0 step.1.1 h);
           },
         )
 

@@ -1,3 +1,4 @@
 pub mod Desks
 pub mod Alike
 pub mod Scripts
+pub mod Audits

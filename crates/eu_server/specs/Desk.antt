@@ -1,16 +1,23 @@
 -- A desk, which keeps the account of a book, against a run of the server
-use Rattle.std.specs.Prelude.{◌≡◌, ℕ, Bool, true, false, List, length, Option, Some, None}
+use Rattle.std.specs.Prelude.{◌≡◌, ◌↔◌, ℕ, Bool, true, false, IsTrue, List, [], length, take, Option, Some, None, Result, Ok, Err}
+use Rattle.eu_audit.specs.PlainForm.{IsRun}
+use Rattle.eu_base.specs.declared.settings.Config.{Config}
 use Rattle.eu_book.specs.Account.{Account}
+use Rattle.eu_book.specs.Peers.{state_of}
+use Rattle.eu_lines.specs.declared.faults.ScriptFault.{ScriptFault}
+use Rattle.eu_lines.specs.declared.faults.ScriptFault.TheVariants.{OutOfMemory, Write}
 use Rattle.eu_model.specs.Server.{plain_server}
 use Rattle.eu_server.specs.declared.desk.Desk.{Desk}
+use Rattle.eu_server.specs.Audit.{Journals, SilentlyRuns, audit_text}
 use Rattle.eu_server.specs.Script.{Ran, Answers, Refuses, SaysClosed, SaysOpened, Tells}
 use Rattle.eu_words.specs.Lines.{Said}
 use Rattle.eu_words.specs.Lines.Said.{Register, Renew, Cancel, SetStatus, UnsetStatus, Adopt, Roll, Update, Reconfigure, Evict, Drain, Landed, Lost}
 
--- the account is that of this run: it has the number of its entries, and the plain form of the server
+-- the account is that of this run: it has the number of its entries, the plain form of the server, and the run's journal
 pub record Holds (a : Account) (r : Ran) : Type 0 where
   pub steps : a.totals.steps ≡ length r.entries
   pub state : a.state ≡ plain_server r.server
+  pub journal : Journals r a.base a.entries
 
 -- the same; None where none is open
 abbrev pub HoldsRun : Option Account → Option Ran → Type 0
@@ -81,3 +88,22 @@ commands (Drain t peer) = true
 commands (Landed t peer answers) = true
 commands (Lost t peer) = true
 commands _ = false
+
+-- the auditor's answer on the journal of an account, and the number of its entries; where there is none, yes and 0
+abbrev pub Audits : Option Account → Bool → ℕ → Type 0
+Audits None answer n = (answer ≡ true) × (n ≡ 0)
+Audits (Some a) answer n = (n ≡ length a.entries) × (IsTrue answer ↔ IsRun (state_of a.base) a.entries (state_of a.state))
+
+-- The line of that answer was written: all of it, or a front, where the writer failed; and nothing where there was no memory for it
+abbrev pub TellsVerdict : Bool → ℕ → Bool → Result (Unit {0}) ScriptFault → List ℕ → Type 0
+TellsVerdict answer n failed (Ok u) out = out ≡ audit_text answer n
+TellsVerdict answer n failed (Err Write) out = (failed ≡ true) × (k : ℕ) × (out ≡ take k (audit_text answer n))
+TellsVerdict answer n failed (Err OutOfMemory) out = out ≡ []
+TellsVerdict answer n failed (Err _) out = ⊥
+
+-- A script whose printed lines go nowhere ended so: with a desk that keeps the account of its run, or by a fault, which no writer made
+module _ {C : Type 0} (config : Config) (asks : C → ℕ → ℕ × C) (x x' : C) (left : Option (List ℕ)) (failed_reader : Bool) (read : List ℕ) where
+  abbrev pub Leaves : Result Desk ScriptFault → Type 0
+  Leaves (Ok d) = (end : Option Ran) × SilentlyRuns config asks x x' left failed_reader read (Ok tt) end × Keeps d end
+  Leaves (Err Write) = ⊥
+  Leaves (Err fault) = (end : Option Ran) × SilentlyRuns config asks x x' left failed_reader read (Err fault) end

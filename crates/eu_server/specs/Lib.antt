@@ -1,3 +1,4 @@
 pub mod Texts
 pub mod Script
+pub mod Audit
 pub mod Desk

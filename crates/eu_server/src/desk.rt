@@ -1,5 +1,5 @@
 //! A book that answers the lines of a script.
-ghost use Rattle.std.specs.Prelude.{◌≡◌, ◌≢◌, ◌++◌, [], None, OnOk, IfErr, IfSome, Err, IsTrue, not, string_bytes};
+ghost use Rattle.std.specs.Prelude.{◌≡◌, ◌≢◌, ◌++◌, [], None, OnOk, IfOk, IfErr, IfSome, Err, IsTrue, not, string_bytes};
 ghost use Rattle.eu_server.specs.Texts.{answer_text, settled_text};
 ghost use Rattle.eu_model.specs.Answers.{Shows};
 ghost use Rattle.eu_model.specs.View.{counts, listing};
@@ -7,9 +7,10 @@ ghost use Rattle.eu_page.specs.Page.{shown_page};
 ghost use Rattle.eu_words.specs.Lines.{said_of};
 ghost use Rattle.eu_words.specs.Lines.Said.{Open};
 ghost use Rattle.eu_server.specs.Script.{opens, Commands};
-ghost use Rattle.eu_server.specs.Desk.{DeskAnswers, DeskRefuses, ClosedAnswers, OpenedAnswers, Told, commands, is_of_peer, is_stamped, is_of_status};
+ghost use Rattle.eu_server.specs.Desk.{Audits, DeskAnswers, DeskRefuses, ClosedAnswers, OpenedAnswers, Told, commands, is_of_peer, is_stamped, is_of_status};
 
 use crate::printing::{print_counts, print_look, print_page, print_refusal, print_reply};
+use eu_audit::audit;
 use eu_base::{Config, Fault, Moment};
 use eu_book::{Book, Receipt};
 use eu_clock::Chooser;
@@ -17,10 +18,19 @@ use eu_core::Registry;
 use eu_lines::{Answerer, LineError};
 use eu_model::Command;
 use eu_words::{Line, Opening, read_line};
-use std::alloc::Global;
+use std::alloc::{AllocError, Global};
 
 /// The number by which a script asks its book.
 const PASS: u64 = 0;
+
+/// What an audit of a book's journal finds.
+#[derive(Clone, Copy, Debug)]
+pub struct Verdict {
+    /// Whether its entries are a run of the lease machine, from its base to where the book is.
+    pub is_run: bool,
+    /// How many entries it has.
+    pub entries: usize,
+}
 
 /// Answers the lines of a script, by a registry and its journal once a line has opened them.
 #[derive(Drop)]
@@ -36,6 +46,28 @@ impl Desk {
         ensures book { result.book ≡ None }
     {
         Desk { config, book: None }
+    }
+
+    /// Audits the journal of the book: whether its entries are a run of the lease machine, from its base to where the book is
+    /// (`eu_audit::audit`), and their number. Before the registry is open there are none, and they are one. `AllocError` where no
+    /// memory is left.
+    pub fn judge(&self, alloc: Global) -> Result<Verdict, AllocError>
+        ensures { IfOk result (λ v. Audits self.now.book v.is_run v.entries) }
+    {
+        let Some(book) = self.book.as_ref() else {
+            return Ok(Verdict {
+                is_run: true,
+                entries: 0,
+            });
+        };
+        let journal = book.journal();
+        let entries = journal.entries.as_slice();
+        let end = book.state(alloc)?;
+        let is_run = audit(alloc, &journal.base, entries, &end)?;
+        Ok(Verdict {
+            is_run,
+            entries: entries.len(),
+        })
     }
 
     /// Answers a line before the registry is open: opens it. `Bad` where the line doesn't say that; `OutOfMemory`.

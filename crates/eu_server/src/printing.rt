@@ -1,5 +1,6 @@
 //! What is printed.
 ghost use Rattle.std.specs.Prelude.{◌≡◌, ◌++◌, OnOk, codes, string_bytes};
+ghost use Rattle.eu_server.specs.Audit.{audit_text};
 ghost use Rattle.eu_server.specs.Texts.{reply_text, conflict_text, evicted_text, keys_text, batch_text, tasks_text, refused_text, found_text, look_text, counts_text};
 ghost use Rattle.eu_core.specs.Shown.{shown};
 ghost use Rattle.eu_page.specs.Page.{shown_page};
@@ -148,4 +149,12 @@ pub fn print_page(
     let page = page_of(alloc, counts, held)?;
     let text = status_page(alloc, &page)?;
     out.push_str(text.as_str())
+}
+
+/// Prints the line of an audit: its answer, and how many entries it judged.
+pub fn print_audit(out: &mut String, is_run: bool, entries: usize) -> Result<(), AllocError>
+    ensures { OnOk result (string_bytes out.new ≡ string_bytes out.old ++ audit_text is_run entries) }
+{
+    let answer = if is_run { "yes" } else { "no" };
+    writeln!(out, "audit {answer} {entries}")
 }

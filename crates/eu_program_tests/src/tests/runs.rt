@@ -305,6 +305,35 @@ fn a_script_has_defaults_without_options(rt: HostRuntime) {
 }
 
 #[test]
+fn a_script_is_audited(rt: HostRuntime) {
+    let words = ["eureka", "audit", "--seed", "3"];
+    let script =
+        "open 1\nregister 0 A i1 90 UP UNKNOWN 0 c\nrenew 30000 A i1 - - c\ncounts 30000\npage 30000\n";
+    let ran = run(&rt, rt.alloc(), words.as_slice(), script);
+    assert!(rt; ran.status == 0);
+    assert!(rt; ran.out.as_slice() == b"audit yes 2\n".as_slice());
+    assert!(rt; ran.err.is_empty());
+}
+
+#[test]
+fn an_audit_of_no_script_has_no_entry(rt: HostRuntime) {
+    let words = ["eureka", "audit"];
+    let ran = run(&rt, rt.alloc(), words.as_slice(), "");
+    assert!(rt; ran.status == 0);
+    assert!(rt; ran.out.as_slice() == b"audit yes 0\n".as_slice());
+    assert!(rt; ran.err.is_empty());
+}
+
+#[test]
+fn a_bad_line_is_told_by_an_audit_alone(rt: HostRuntime) {
+    let words = ["eureka", "audit"];
+    let ran = run(&rt, rt.alloc(), words.as_slice(), "open 1\ncounts x\n");
+    assert!(rt; ran.status == 2);
+    assert!(rt; ran.out.is_empty());
+    assert!(rt; ran.err.as_slice() == b"line 2: bad line\n".as_slice());
+}
+
+#[test]
 fn a_bad_line_is_told_by_its_number(rt: HostRuntime) {
     let words = ["eureka", "script"];
     let ran = run(&rt, rt.alloc(), words.as_slice(), "open 1\ncounts x\n");

@@ -1,4 +1,4 @@
--- Both commands are added, and neither has a global argument
+-- Each of the commands is added, and none has a global argument
 use Rattle.std.proofs.Common.{rules, ap, ap₂, codes, true, ◌≡◌, ◌∙◌}
 use Rattle.std.proofs.lemmas.Result.{IfOk-weaker}
 use Rattle.clap.specs.Words.{App, app_of, new_app, with_subcommand}
@@ -7,7 +7,9 @@ use Rattle.eu_options.proofs.options.command.Goals as goal
 pub returns : goal.returns
 returns c =
     let one = c.in_ok-script.ensures.app in
-    let other = c.in_ok-serve.ensures.app in
+    let other = c.in_ok-audit.ensures.app in
+    let third = c.in_ok-serve.ensures.app in
     let top : app_of c.subcommand_required.result ≡ record (new_app (codes "eureka")) { top = record (new_app (codes "eureka")).top { subcommand_required = true } } = search rules in
     let first = c.in_ok-subcommand.ensures.shape c.in_ok-script.ensures.local ∙ ap₂ with_subcommand top (ap (λ (a : App). a.top) one.2) in
-    IfOk-weaker c.subcommand-2.result _ _ (λ _ h. (one.0, other.0, one.1, other.1, h.shape c.in_ok-serve.ensures.local ∙ ap₂ with_subcommand first (ap (λ (a : App). a.top) other.2))) c.subcommand-2.ensures
+    let second = c.in_ok-subcommand-2.ensures.shape c.in_ok-audit.ensures.local ∙ ap₂ with_subcommand first (ap (λ (a : App). a.top) other.2) in
+    IfOk-weaker c.subcommand-3.result _ _ (λ _ h. (one.0, other.0, third.0, one.1, other.1, third.1, h.shape c.in_ok-serve.ensures.local ∙ ap₂ with_subcommand second (ap (λ (a : App). a.top) third.2))) c.subcommand-3.ensures

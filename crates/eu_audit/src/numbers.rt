@@ -1,0 +1,69 @@
+//! The numbers of self-preservation and of a pass.
+ghost use Rattle.std.specs.Prelude.{◌≡◌};
+ghost use Rattle.eu_model.specs.Evict.{extra_time, number_of_victims};
+ghost use Rattle.eu_model.specs.Meter.{threshold, share, is_permitted, expected_after};
+
+use eu_base::{Config, Moment};
+
+/// The renewals a minute above which eviction is permitted.
+fn threshold(config: &Config, expected: u64) -> u128
+    ensures { result ≡ threshold config.now expected }
+{
+    expected as u128 * 60 * config.percent as u128 / (config.interval as u128 * 100)
+}
+
+/// Whether eviction is permitted, after so many renewals in the last minute.
+pub(crate) fn is_permitted(config: &Config, expected: u64, last: u64) -> bool
+    ensures { result ≡ is_permitted config.now expected last }
+{
+    let threshold = threshold(config, expected);
+    !config.preservation || (0 < threshold && threshold < last as u128)
+}
+
+/// How many of so many leases one pass may evict.
+fn share(config: &Config, held: u64) -> u128
+    ensures { result ≡ share config.now held }
+{
+    let held = held as u128;
+    held.saturating_sub(held * config.percent as u128 / 100)
+}
+
+/// How many leases a pass evicts, of so many that are due and so many that are held.
+pub(crate) fn number_of_victims(config: &Config, permitted: bool, due: u64, held: u64) -> u128
+    ensures { result ≡ number_of_victims config.now permitted due held }
+{
+    if !permitted {
+        return 0;
+    }
+    let share = share(config, held);
+    if (due as u128) < share {
+        due as u128
+    } else {
+        share
+    }
+}
+
+/// The clients that are expected, after those that are held are counted anew.
+pub(crate) fn expected_after(config: &Config, expected: u64, held: u64) -> u64
+    ensures { result ≡ expected_after config.now expected held }
+{
+    let most = config.percent as u128 * expected as u128;
+    if most < held as u128 * 100 || !config.preservation {
+        held
+    } else {
+        expected
+    }
+}
+
+/// The extra time that a pass grants each lease, in milliseconds.
+pub(crate) fn extra_time(config: &Config, previous: Option<Moment>, moment: Moment) -> u64
+    ensures { result ≡ extra_time config.now previous moment }
+{
+    match previous {
+        Some(previous) => moment
+            .ms()
+            .saturating_sub(previous.ms())
+            .saturating_sub(config.evict_ms as u64),
+        None => 0,
+    }
+}

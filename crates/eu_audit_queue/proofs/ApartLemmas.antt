@@ -1,0 +1,141 @@
+-- Tasks of which no two have one name
+use Rattle.std.proofs.Common.{◌≡◌, ℕ, zero, suc, ◌+◌, ◌<◌, Bool, true, false, true≢false, cond, not, ◌&&◌, ◌||◌, List, [], ◌∷◌, ◌++◌, length, map, filter, take, drop, get_or, ◌==◌, is_some, refl, sym, ap, ◌∙◌, arith}
+use Rattle.std.proofs.lemmas.Bool.{and_parts, and_from, or_parts, or_from, not-true, not_from_false, false_from_ne_true, ne_eqb}
+use Rattle.std.proofs.lemmas.List.{take_more}
+use Rattle.std.proofs.lemmas.List.Folds.{list_any-append}
+use Rattle.eu_base.specs.declared.tasks.Task.{Task}
+use Rattle.eu_base.specs.Action.{same_name}
+use Rattle.eu_model.specs.Queue.{is_old, live, waits}
+use Rattle.eu_audit_queue.specs.PlainQueue.{are_apart}
+use Rattle.eu_audit_queue.specs.Places.{name_of}
+use Rattle.eu_audit_queue.proofs.NameLemmas.{same_name-flips}
+use Rattle.eu_audit_queue.proofs.PlaceLemmas.{for_same, place_of-for, waits-alike, waits-place}
+
+-- what `are_apart` says of the first, and of the others
+pub apart_first : (x : Task) (xs : List Task) → are_apart (x ∷ xs) ≡ true → waits x xs ≡ false
+apart_first x xs h = not-true (waits x xs) (and_parts (not (waits x xs)) (are_apart xs) h).0
+
+pub apart_rest : (x : Task) (xs : List Task) → are_apart (x ∷ xs) ≡ true → are_apart xs ≡ true
+apart_rest x xs h = (and_parts (not (waits x xs)) (are_apart xs) h).1
+
+apart_cons : (x : Task) (xs : List Task) → waits x xs ≡ false → are_apart xs ≡ true → are_apart (x ∷ xs) ≡ true
+apart_cons x xs none h = and_from (not (waits x xs)) (are_apart xs) (not_from_false (waits x xs) none) h
+
+waits_push : (x t : Task) (xs : List Task) → waits x (xs ++ t ∷ []) ≡ (waits x xs || (same_name x t || false))
+waits_push x t xs = list_any-append (same_name x) xs (t ∷ [])
+
+-- one more at the end: of a name that is new, or of one that is there
+pub apart_push : (ts : List Task) (t : Task) → are_apart ts ≡ true → waits t ts ≡ false → are_apart (ts ++ t ∷ []) ≡ true
+apart_push [] t h none = refl
+apart_push (x ∷ xs) t h none =
+    let p = or_parts (same_name t x) (waits t xs) none in
+    let other : (waits x xs || (same_name x t || false)) ≡ false = λ i. apart_first x xs h i || ((same_name-flips x t ∙ p.0) i || false) in
+    apart_cons x (xs ++ t ∷ []) (waits_push x t xs ∙ other) (apart_push xs t (apart_rest x xs h) p.1)
+
+pub not_apart_push : (ts : List Task) (t : Task) → waits t ts ≡ true → are_apart (ts ++ t ∷ []) ≡ false
+not_apart_push [] t there = absurd (true≢false (sym there))
+not_apart_push (x ∷ xs) t there = by (same_name t x) refl there (not_apart_push xs t)
+  where
+    same : (a : Bool) → (a || (true || false)) ≡ true
+    same true = refl
+    same false = refl
+
+    last : (a : Bool) → (a && false) ≡ false
+    last true = refl
+    last false = refl
+
+    by : (b : Bool) → same_name t x ≡ b → (b || waits t xs) ≡ true → (waits t xs ≡ true → are_apart (xs ++ t ∷ []) ≡ false) → are_apart (x ∷ (xs ++ t ∷ [])) ≡ false
+    by true e w rest =
+        let found : waits x (xs ++ t ∷ []) ≡ true = waits_push x t xs ∙ ap (λ c. waits x xs || (c || false)) (same_name-flips x t ∙ e) ∙ same (waits x xs) in
+        ap (λ c. not c && are_apart (xs ++ t ∷ [])) found
+    by false e w rest = ap (λ c. not (waits x (xs ++ t ∷ [])) && c) (rest w) ∙ last (not (waits x (xs ++ t ∷ [])))
+
+-- some of them
+waits_filter : (t : Task) (p : Task → Bool) (ts : List Task) → waits t ts ≡ false → waits t (filter p ts) ≡ false
+waits_filter t p [] h = refl
+waits_filter t p (x ∷ xs) h = by (p x) (or_parts (same_name t x) (waits t xs) h).0 (waits_filter t p xs (or_parts (same_name t x) (waits t xs) h).1)
+  where
+    by : (b : Bool) → same_name t x ≡ false → waits t (filter p xs) ≡ false → waits t (cond b (x ∷ filter p xs) (filter p xs)) ≡ false
+    by true e r = or_from (same_name t x) (waits t (filter p xs)) e r
+    by false e r = r
+
+pub apart_filter : (p : Task → Bool) (ts : List Task) → are_apart ts ≡ true → are_apart (filter p ts) ≡ true
+apart_filter p [] h = refl
+apart_filter p (x ∷ xs) h = by (p x) (apart_filter p xs (apart_rest x xs h))
+  where
+    by : (b : Bool) → are_apart (filter p xs) ≡ true → are_apart (cond b (x ∷ filter p xs) (filter p xs)) ≡ true
+    by true r = apart_cons x (filter p xs) (waits_filter x p xs (apart_first x xs h)) r
+    by false r = r
+
+pub apart_drop : (n : ℕ) (ts : List Task) → are_apart ts ≡ true → are_apart (drop n ts) ≡ true
+apart_drop zero ts h = h
+apart_drop (suc n) [] h = refl
+apart_drop (suc n) (x ∷ xs) h = apart_drop n xs (apart_rest x xs h)
+
+waits_take : (t : Task) (n : ℕ) (ts : List Task) → waits t ts ≡ false → waits t (take n ts) ≡ false
+waits_take t zero ts h = refl
+waits_take t (suc n) [] h = refl
+waits_take t (suc n) (x ∷ xs) h = let p = or_parts (same_name t x) (waits t xs) h in or_from (same_name t x) (waits t (take n xs)) p.0 (waits_take t n xs p.1)
+
+pub apart_take : (n : ℕ) (ts : List Task) → are_apart ts ≡ true → are_apart (take n ts) ≡ true
+apart_take zero ts h = refl
+apart_take (suc n) [] h = refl
+apart_take (suc n) (x ∷ xs) h = apart_cons x (take n xs) (waits_take x n xs (apart_first x xs h)) (apart_take n xs (apart_rest x xs h))
+
+-- those of whose name none waits, before those that wait
+pub apart_before : (ts waiting : List Task) → are_apart ts ≡ true → are_apart waiting ≡ true → are_apart (filter (λ t. not (waits t waiting)) ts ++ waiting) ≡ true
+apart_before [] waiting h w = w
+apart_before (x ∷ xs) waiting h w = by (waits x waiting) refl (apart_before xs waiting (apart_rest x xs h) w)
+  where
+    rest : List Task
+    rest = filter (λ t. not (waits t waiting)) xs
+
+    by : (b : Bool) → waits x waiting ≡ b → are_apart (rest ++ waiting) ≡ true → are_apart (cond (not b) (x ∷ rest) rest ++ waiting) ≡ true
+    by true e r = r
+    by false e r =
+        apart_cons x (rest ++ waiting)
+        (list_any-append (same_name x) rest waiting ∙ or_from (waits x rest) (waits x waiting) (waits_filter x (λ t. not (waits t waiting)) xs (apart_first x xs h)) e) r
+
+-- a task in the place of the one of its name
+pub apart_for : (t : Task) (ts : List Task) → are_apart (map (for_same t) ts) ≡ are_apart ts
+apart_for t [] = refl
+apart_for t (x ∷ xs) = λ i. not (still i) && apart_for t xs i
+  where
+    named : (b : Bool) → same_name t x ≡ b → waits (cond b t x) xs ≡ waits x xs
+    named true e = waits-alike t x xs e
+    named false e = refl
+
+    still : waits (for_same t x) (map (for_same t) xs) ≡ waits x xs
+    still =
+        waits-place (for_same t x) 0 (map (for_same t) xs) ∙ ap is_some (place_of-for (name_of (for_same t x)) 0 t xs)
+        ∙ sym (waits-place (for_same t x) 0 xs) ∙ named (same_name t x) refl
+
+-- ---- the first of a list, and the next
+
+pub one_more : {X : Type 0} (xs : List X) (i : ℕ) (x : X) → i < length xs → x ≡ get_or xs i x → take (i + 1) xs ≡ take i xs ++ x ∷ []
+one_more xs i x below here = take_more xs i x below ∙ ap (λ y. take i xs ++ y ∷ []) (sym here)
+
+-- one of whose name one stands before it
+pub not_apart : (ts : List Task) (i : ℕ) (x : Task) → i < length ts → x ≡ get_or ts i x → waits x (take i ts) ≡ true → are_apart ts ≡ false
+not_apart ts i x below here there =
+    false_from_ne_true (are_apart ts) (λ h. true≢false (sym (apart_take (i + 1) ts h) ∙ ap are_apart (one_more ts i x below here) ∙ not_apart_push (take i ts) x there))
+
+-- ---- tasks that are worth sending
+
+-- one that is makes them some
+has_live : (m : ℕ) (ts : List Task) (i : ℕ) (x : Task) → i < length ts → x ≡ get_or ts i x → not (is_old m x) ≡ true → 0 < length (live m ts)
+has_live m [] i x below here young = absurd (omega arith)
+has_live m (y ∷ ys) zero x below here young =
+    let kept : not (is_old m y) ≡ true = ap (λ z. not (is_old m z)) (sym here) ∙ young in
+    let some : length (live m (y ∷ ys)) ≡ length (y ∷ live m ys) = ap (λ b. length (cond b (y ∷ live m ys) (live m ys))) kept in
+    omega (arith, some)
+has_live m (y ∷ ys) (suc i) x below here young = by (not (is_old m y)) (has_live m ys i x (omega arith) here young)
+  where
+    by : (b : Bool) → 0 < length (live m ys) → 0 < length (cond b (y ∷ live m ys) (live m ys))
+    by true h = omega arith
+    by false h = h
+
+pub any_live : (m : ℕ) (ts : List Task) (i : ℕ) (x : Task) → i < length ts → x ≡ get_or ts i x → not (is_old m x) ≡ true → true ≡ not (length (live m ts) == 0)
+any_live m ts i x below here young =
+    let some = has_live m ts i x below here young in
+    sym (ap not (ne_eqb (length (live m ts)) 0 (λ none. omega arith)))

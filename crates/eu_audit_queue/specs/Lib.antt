@@ -1,0 +1,2 @@
+pub mod PlainQueue
+pub mod Places

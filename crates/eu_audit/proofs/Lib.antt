@@ -1,6 +1,5 @@
 pub mod StepLemmas
 pub mod RunLemmas
-pub mod ChangedLemmas
 pub mod LimitLemmas
 pub mod JudgeLemmas
 pub mod VictimLemmas

@@ -16,8 +16,8 @@ use std::alloc::{AllocError, Global};
 /// end. Of a pass the number of its victims is judged, that each was held and had expired, and that none is told twice; whichever of
 /// those that had expired are told. The number of an entry and of who asked play no part.
 ///
-/// A step costs a logarithm of what is held, but for a pass, which costs that for each lease that has expired, and a turn of a peer's
-/// queue, which may cost what waits. `AllocError` where no memory is left.
+/// A step costs a logarithm of what is held, but for a pass, which costs that for each of its victims, and a turn of a peer's queue, which
+/// may cost what waits. `AllocError` where no memory is left.
 pub fn audit(
     alloc: Global,
     base: &State,

@@ -3,14 +3,13 @@
 #![tactic(auto)]
 
 mod auditor;
-mod changes;
 mod law;
 mod numbers;
 mod passes;
 mod plain;
 mod registry;
-mod renewals;
 mod server;
+mod tasks;
 
 pub use auditor::audit;
 pub use law::runs_are_plain;

@@ -1,5 +1,5 @@
 //! The numbers of self-preservation and of a pass.
-ghost use Rattle.std.specs.Prelude.{◌≡◌};
+ghost use Rattle.std.specs.Prelude.{◌≡◌, ℕ, min};
 ghost use Rattle.eu_model.specs.Evict.{extra_time, number_of_victims};
 ghost use Rattle.eu_model.specs.Meter.{threshold, share, is_permitted, expected_after};
 
@@ -28,19 +28,11 @@ fn share(config: &Config, held: u64) -> u128
     held.saturating_sub(held * config.percent as u128 / 100)
 }
 
-/// How many leases a pass evicts, of so many that are due and so many that are held.
-pub(crate) fn number_of_victims(config: &Config, permitted: bool, due: u64, held: u64) -> u128
-    ensures { result ≡ number_of_victims config.now permitted due held }
+/// How many leases a pass may evict, of so many that are held. It evicts all that are due, where they are no more.
+pub(crate) fn most_victims(config: &Config, permitted: bool, held: u64) -> u128
+    ensures { (due : ℕ) → min due result ≡ number_of_victims config.now permitted due held }
 {
-    if !permitted {
-        return 0;
-    }
-    let share = share(config, held);
-    if (due as u128) < share {
-        due as u128
-    } else {
-        share
-    }
+    if permitted { share(config, held) } else { 0 }
 }
 
 /// The clients that are expected, after those that are held are counted anew.

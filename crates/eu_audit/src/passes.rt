@@ -1,5 +1,5 @@
 //! A pass that is replayed: its victims are judged, and none is chosen.
-ghost use Rattle.std.specs.Prelude.{◌≡◌, true, false};
+ghost use Rattle.std.specs.Prelude.{◌≡◌, ◌↔◌, true, false, length, IsTrue};
 ghost use Rattle.std.specs.Prelude.{map as all};
 ghost use Rattle.std.specs.Option.{option_copied, option_map_or};
 ghost use Rattle.std.specs.FinMap as map;
@@ -10,9 +10,9 @@ ghost use Rattle.eu_audit.specs.PlainRuns.{PlainStep};
 ghost use Rattle.eu_audit.specs.Verdict.{Judged};
 ghost use Rattle.eu_audit.specs.Victims.{takes};
 
-use crate::numbers::{extra_time, number_of_victims};
+use crate::numbers::{extra_time, most_victims};
 use crate::registry::Replica;
-use crate::renewals::expired;
+use eu_audit_changes::expired;
 use eu_audit_tables::{Leases, Rows};
 use eu_base::{Key, Moment};
 use eu_model::{Command, Listed, Reply};
@@ -55,9 +55,17 @@ impl Replica {
         requires { extra ≡ extra_time self.now.config self.now.previous moment }
         ensures { result ≡ kept_number_evicted self.now moment }
     {
-        let due = self.leases.expired(moment, extra);
         let held = self.leases.len() as u64;
-        number_of_victims(&self.config, self.permits(), due, held)
+        let most = most_victims(&self.config, self.permits(), held);
+        self.leases.expired(moment, extra, most)
+    }
+
+    /// Whether these are as many as a pass evicts at that moment.
+    fn evicts_as_many(&self, victims: &[Key], moment: Moment, extra: u64) -> bool
+        requires { extra ≡ extra_time self.now.config self.now.previous moment }
+        ensures { IsTrue result ↔ (length victims.now ≡ kept_number_evicted self.now moment) }
+    {
+        victims.len() as u128 == self.number_evicted(moment, extra)
     }
 
     /// The registry after a pass that evicts these, where each was held then and had expired; else none.
@@ -96,7 +104,7 @@ impl Replica {
         };
         let victims = victims.as_slice();
         let extra = extra_time(&self.config, self.previous, moment);
-        if victims.len() as u128 != self.number_evicted(moment, extra) {
+        if !self.evicts_as_many(victims, moment, extra) {
             return None;
         }
         self.without(victims, moment, extra)

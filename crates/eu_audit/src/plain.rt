@@ -7,7 +7,7 @@ ghost use Rattle.eu_audit.specs.Verdict.{IsLimited};
 ghost use Rattle.eu_audit_queue.specs.PlainQueue.{is_plain_queue};
 ghost use Rattle.eu_audit.specs.PlainForm.{keyed, is_plain_lease, are_plain_counts, has_plain_parts};
 
-use crate::changes::copied;
+use eu_audit_changes::copied;
 use eu_audit_queue::PeerQueue;
 use eu_audit_tables::{Leases, Rows};
 use eu_base::{Id, Status};

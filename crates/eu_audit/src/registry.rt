@@ -9,17 +9,16 @@ ghost use Rattle.eu_model.specs.Plain.{held_under};
 ghost use Rattle.eu_model.specs.State.{plain_of_state};
 ghost use Rattle.eu_audit.specs.PlainForm.{is_in_order};
 ghost use Rattle.eu_audit.specs.Verdict.{HasNumbers, IsListed, IsLimited};
-ghost use Rattle.eu_audit.specs.Changed.{change_of};
+ghost use Rattle.eu_audit_changes.specs.Changed.{change_of};
 ghost use Rattle.eu_audit.specs.PlainRuns.{PlainStep, Becomes};
 ghost use Rattle.eu_audit.specs.Verdict.{Judged, IsWithinLimits};
 
-use crate::changes::{Changed, adopt, cancel, register};
 use crate::numbers::{expected_after, is_permitted};
 use crate::plain::{ordered_leases, ordered_rows};
-use crate::renewals::{renew, set_status, unset_status};
+use eu_audit_changes::{Changed, adopt, cancel, register, renew, set_status, unset_status};
 use eu_audit_tables::{Leases, Rows};
 use eu_base::{Config, Id, Instance, Key, Moment, Stamp, Status};
-use eu_model::{Command, Listed, Reply, State};
+use eu_model::{Command, Entry, Listed, Reply, State};
 use std::alloc::{AllocError, Global};
 use std::marker::Model;
 
@@ -425,17 +424,13 @@ impl Replica {
         }
     }
 
-    /// Judges a step by what was answered. A step of a queue is none of a registry alone.
-    pub(crate) fn step(
-        self,
-        alloc: Global,
-        command: &Command,
-        moment: Moment,
-        reply: &Reply,
-    ) -> Result<Option<Replica>, AllocError>
-        ensures { IfOk result (Judged (PlainStep self command.now moment reply.now)) }
+    /// Judges the step of an entry. A step of a queue is none of a registry alone.
+    pub(crate) fn step(self, alloc: Global, entry: &Entry) -> Result<Option<Replica>, AllocError>
+        ensures { IfOk result (Judged (PlainStep self entry.now.command entry.now.moment entry.now.reply)) }
     {
-        match command {
+        let moment = entry.moment;
+        let reply = &entry.reply;
+        match &entry.command {
             Command::Register {
                 instance,
                 replicated,

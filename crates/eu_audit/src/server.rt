@@ -1,138 +1,19 @@
 //! A server that is replayed: a registry, and the queues of its peers.
 ghost use Rattle.std.specs.Prelude.{◌≡◌, ◌↔◌, map as all, IfOk, IfSome, IsTrue, None, Ok, Some, true, false};
-ghost use Rattle.std.specs.Option.{option_copied, option_map};
-ghost use Rattle.eu_base.specs.declared.instances.Instance as value;
-ghost use Rattle.eu_model.specs.Plain.{held_under};
 ghost use Rattle.eu_model.specs.State.{server_of_state};
 ghost use Rattle.eu_audit.specs.PlainForm.{is_plain_form};
-ghost use Rattle.eu_model.specs.Server.{key_of, task_for, task, with_task};
+ghost use Rattle.eu_model.specs.Server.{with_task};
 ghost use Rattle.eu_audit.specs.PlainRuns.{PlainServerStep, Queued};
 ghost use Rattle.eu_audit.specs.Verdict.{Judged, IsListed};
 
 use crate::plain::{read_unordered, same_queues};
 use crate::registry::Replica;
+use crate::tasks::{key_of, task_for};
 use eu_audit_queue::PeerQueue;
-use eu_base::{Action, Codes, Instance, Key, Moment, Status, Task};
+use eu_base::{Codes, Moment, Task};
 use eu_model::{Command, Entry, Reply, State};
 use std::alloc::{AllocError, Global};
 use std::marker::Model;
-
-/// A task that speaks of what is held under a key. `AllocError` where no memory is left.
-fn task(
-    alloc: Global,
-    action: Action,
-    key: &Key,
-    status: Option<Status>,
-    held: Option<&Instance>,
-    moment: Moment,
-) -> Result<Option<Task>, AllocError>
-    ensures { IfOk result (λ t. t ≡ Some (task action key.now status (option_copied held.entry) moment)) }
-{
-    let key = key.copy(alloc)?;
-    let instance = match held {
-        Some(held) => Some(held.copy(alloc)?),
-        None => None,
-    };
-    Ok(Some(Task {
-        action,
-        key,
-        status,
-        instance,
-        queued: moment,
-    }))
-}
-
-/// The status of what is held.
-fn status_of(held: Option<&Instance>) -> Option<Status>
-    ensures { result ≡ option_map (λ (i : value.Instance). i.status) (option_copied held.entry) }
-{
-    match held {
-        Some(held) => Some(held.status),
-        None => None,
-    }
-}
-
-/// The task that a step leaves for each peer, if there is one. `AllocError` where no memory is left.
-fn task_for(
-    alloc: Global,
-    command: &Command,
-    moment: Moment,
-    reply: &Reply,
-    held: Option<&Instance>,
-) -> Result<Option<Task>, AllocError>
-    ensures { IfOk result (λ t. t ≡ task_for command.now moment reply.now (option_copied held.entry)) }
-{
-    match (command, reply) {
-        (
-            Command::Register {
-                instance,
-                replicated: false,
-            },
-            Reply::Registered { .. },
-        ) => task(alloc, Action::Register, &instance.key, None, held, moment),
-        (
-            Command::Renew {
-                key,
-                replicated: false,
-                ..
-            },
-            Reply::Done | Reply::Stale,
-        ) => task(alloc, Action::Heartbeat, key, None, held, moment),
-        (
-            Command::Cancel {
-                key,
-                replicated: false,
-            },
-            Reply::Done,
-        ) => task(alloc, Action::Cancel, key, None, None, moment),
-        (
-            Command::SetStatus {
-                key,
-                status,
-                replicated: false,
-                ..
-            },
-            Reply::Done,
-        ) => task(
-            alloc,
-            Action::StatusUpdate,
-            key,
-            Some(*status),
-            held,
-            moment,
-        ),
-        (
-            Command::UnsetStatus {
-                key,
-                replicated: false,
-                ..
-            },
-            Reply::Done,
-        ) => task(
-            alloc,
-            Action::DeleteStatusOverride,
-            key,
-            status_of(held),
-            held,
-            moment,
-        ),
-        _ => Ok(None),
-    }
-}
-
-/// The key of the lease that a command names.
-fn key_of(command: &Command) -> Option<&Key>
-    ensures { option_copied result ≡ key_of command.now }
-{
-    match command {
-        Command::Register { instance, .. } | Command::Adopt { instance } => Some(&instance.key),
-        Command::Renew { key, .. }
-        | Command::Cancel { key, .. }
-        | Command::SetStatus { key, .. }
-        | Command::UnsetStatus { key, .. } => Some(key),
-        _ => None,
-    }
-}
 
 /// The queues with a task put into each. `AllocError` where no memory is left.
 fn told(
@@ -188,18 +69,17 @@ impl ServerReplica {
     fn step_registry(
         self,
         alloc: Global,
-        command: &Command,
-        moment: Moment,
-        reply: &Reply,
+        entry: &Entry,
     ) -> Result<Option<ServerReplica>, AllocError>
-        ensures { IfOk result (Judged (Queued self command.now moment reply.now)) }
+        ensures { IfOk result (Judged (Queued self entry.now.command entry.now.moment entry.now.reply)) }
     {
         let ServerReplica { registry, queues } = self;
-        let Some(registry) = registry.step(alloc, command, moment, reply)? else {
+        let Some(registry) = registry.step(alloc, entry)? else {
             return Ok(None);
         };
+        let command = &entry.command;
         let held = registry.held(key_of(command));
-        let task = task_for(alloc, command, moment, reply, held)?;
+        let task = task_for(alloc, command, entry.moment, &entry.reply, held)?;
         let queues = queued(alloc, queues, task)?;
         Ok(Some(ServerReplica { registry, queues }))
     }
@@ -291,7 +171,7 @@ impl ServerReplica {
             Command::Drain { peer } => self.drain(alloc, *peer, moment, reply),
             Command::Landed { peer, codes } => self.land(alloc, *peer, moment, codes, reply),
             Command::Lost { peer } => self.lose(alloc, *peer, moment, reply),
-            command => self.step_registry(alloc, command, moment, reply),
+            _ => self.step_registry(alloc, entry),
         }
     }
 

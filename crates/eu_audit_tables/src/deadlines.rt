@@ -1,5 +1,5 @@
 //! How many leases have each deadline.
-ghost use Rattle.std.specs.Prelude.{◌≡◌, ℕ, ◌+◌, ◌^◌, ◌<◌, [], OnOk, OnErr};
+ghost use Rattle.std.specs.Prelude.{◌≡◌, ℕ, ◌+◌, ◌^◌, ◌<◌, [], min, OnOk, OnErr};
 ghost use Rattle.eu_audit_tables.specs.Counted.{counted, count_at, one_before};
 
 use std::alloc::{AllocError, Global};
@@ -67,20 +67,23 @@ impl Deadlines {
         self.counts.get(&deadline).copied().unwrap_or(0)
     }
 
-    /// How many have a deadline before that limit, in milliseconds. Goes over the deadlines from the smallest on, up to the first
-    /// that isn't before it.
-    pub fn number_before(&self, limit: u64) -> u64
+    /// How many have a deadline before that limit, in milliseconds, or `most` where they are more. Goes over the deadlines from the
+    /// smallest on, up to the first that isn't before it, and only until they are that many.
+    pub fn number_before(&self, limit: u64, most: u128) -> u128
         requires { counted self.now limit < 2 ^ 63 }
-        ensures { result ≡ counted self.now limit }
+        ensures { result ≡ min (counted self.now limit) most }
     {
         let limit = u128::from(limit);
-        let mut total = 0;
+        let mut total: u64 = 0;
         for (deadline, count) in self.counts.iter() {
             if *deadline >= limit {
-                return total;
+                return most.min(total as u128);
             }
             total += *count;
+            if total as u128 >= most {
+                return most;
+            }
         }
-        total
+        most.min(total as u128)
     }
 }

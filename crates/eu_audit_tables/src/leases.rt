@@ -1,5 +1,5 @@
 //! The leases of a replayed registry.
-ghost use Rattle.std.specs.Prelude.{◌≡◌, ◌↔◌, ◌<◌, ◌^◌, length, filter, IsTrue, OnOk, OnErr};
+ghost use Rattle.std.specs.Prelude.{◌≡◌, ◌↔◌, ◌<◌, ◌^◌, length, filter, min, IsTrue, OnOk, OnErr};
 ghost use Rattle.std.specs.Prelude.{map as all};
 ghost use Rattle.std.specs.Option.{option_copied};
 ghost use Rattle.std.specs.FinMap as map;
@@ -96,15 +96,15 @@ impl Leases {
         self.deadlines.take(deadline_of(&lease));
     }
 
-    /// How many leases have expired at a moment, if each is granted so many extra milliseconds. Goes over the deadlines from the
-    /// smallest on, up to the first that isn't over.
-    pub fn expired(&self, moment: Moment, extra: u64) -> u64
-        ensures { result ≡ length (filter (λ e. kept_expired e.1 moment extra) (map.entries self.now)) }
+    /// How many leases have expired at a moment, if each is granted so many extra milliseconds, or `most` where they are more. Goes over
+    /// the deadlines from the smallest on, up to the first that isn't over, and only until they are that many.
+    pub fn expired(&self, moment: Moment, extra: u64, most: u128) -> u128
+        ensures { result ≡ min (length (filter (λ e. kept_expired e.1 moment extra) (map.entries self.now))) most }
     {
         // fewer than 2^63, and so are those that have expired
         let _held = self.table.len();
         self.deadlines
-            .number_before(moment.ms().saturating_sub(extra))
+            .number_before(moment.ms().saturating_sub(extra), most)
     }
 
     /// Whether these are the leases that are held, in key order, each under its instance's key. Takes no memory.

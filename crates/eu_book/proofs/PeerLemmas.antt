@@ -1,12 +1,13 @@
 -- What is copied for each peer, what each is told, and what is done with one peer's outbox
-use Rattle.std.proofs.Common.{◌≡◌, ℕ, zero, suc, ◌<◌, true, false, true≢false, List, [], ◌∷◌, ◌++◌, length, map, Option, Some, None, Result, OnOk, OnErr, refl, sym, ap, ◌∙◌, subst, arith}
-use Rattle.std.specs.Prelude.{Ok, Err, is_some, option_to_list, replicate, slice_get, slice_index_or, slice_set}
+use Rattle.std.proofs.Common.{◌≡◌, ◌≢◌, inr, ℕ, zero, suc, ◌<◌, true, false, true≢false, List, [], ◌∷◌, ◌++◌, length, map, Option, Some, None, Result, OnOk, OnErr, refl, sym, ap, ◌∙◌, subst, arith}
+use Rattle.std.specs.Prelude.{Ok, Err, ◌==◌, Bool, if◌then◌else◌, is_some, not, option_to_list, replicate, slice_get, slice_index_or, slice_set}
 use Rattle.std.proofs.Math.Seq.{map-set_same}
 use Rattle.std.specs.Option.{option_map}
+use Rattle.std.proofs.lemmas.Bool.{ne_eqb}
 use Rattle.std.proofs.lemmas.List.{append-nil, length-replicate, map-append, map-id, map-set}
 use Rattle.std.proofs.lemmas.Option.{slice_get-map, slice_get-get_or, slice_get_past, get_or_from_slice_get}
 use Rattle.eu_base.specs.declared.faults.Fault.{Fault}
-use Rattle.eu_base.specs.declared.faults.Fault.TheVariants.{NoPeer}
+use Rattle.eu_base.specs.declared.faults.Fault.TheVariants.{Busy, CountDiffers, EmptyBatch, Exhausted, NoFlight, NoPeer, OutOfMemory}
 use Rattle.eu_base.specs.declared.instances.Instance.{Instance}
 use Rattle.eu_core.specs.Stepped.{copies_of}
 use Rattle.eu_model.specs.declared.commands.Command.{Command}
@@ -16,12 +17,13 @@ use Rattle.eu_model.specs.declared.commands.Reply.TheVariants.{Batch, Settled}
 use Rattle.eu_model.specs.declared.queues.Queue.{Queue}
 use Rattle.eu_model.specs.Answers.{Answers, IsRefusal}
 use Rattle.eu_model.specs.Plain.{Plain, held_under}
-use Rattle.eu_model.specs.Queue.{drained, drain_fault, landed, landed_fault, lost, lost_fault}
-use Rattle.eu_model.specs.Server.{key_of, is_for_peers, task_for, with_task}
-use Rattle.eu_model.specs.ServerAnswers.{ServerAnswers}
+use Rattle.eu_model.specs.Queue.{drained, drain_fault, live, landed, landed_fault, lost, lost_fault}
+use Rattle.eu_model.specs.Server.{Server, plain_server, queue_fault, server_fault, key_of, is_for_peers, task_for, with_task}
+use Rattle.eu_model.specs.ServerAnswers.{ServerAnswers, IsServerAnswer}
 use Rattle.eu_model.proofs.ServedLemmas.{server, registry_answers, drain_answers, landed_answers, lost_answers, drain_refuses, landed_refuses, lost_refuses, drain_of_nobody, landed_at_nobody, lost_to_nobody}
 use Rattle.eu_outbox.specs.Boxed.{Boxed}
-use Rattle.eu_book.specs.Peers.{queues_of, served, told_key, QueuesAnswer}
+use Rattle.eu_book.specs.Account.{most_steps}
+use Rattle.eu_book.specs.Peers.{known_fault, queues_fault, queues_of, served, told_key, IsRefused, QueuesAnswer}
 
 -- ---- copies
 
@@ -167,3 +169,63 @@ module _ (boxes : List Boxed) (peer : ℕ) (none : slice_get boxes peer ≡ None
 
   pub nobody_loses : (t : ℕ) → QueuesAnswer boxes (Lost peer) t (Err NoPeer) boxes
   nobody_loses t p = lost_to_nobody p (queues_of boxes) peer nobody_at t
+
+-- ---- what a queue refuses
+
+-- a server refuses what one of its queues does
+refused_by_queue : (s : Server) (c : Command) (t : ℕ) (f : Fault) → queues_fault s.queues c t ≡ Some f → server_fault s c t ≡ Some f
+refused_by_queue s (Drain peer) t f is = is
+refused_by_queue s (Landed peer codes) t f is = is
+refused_by_queue s (Lost peer) t f is = is
+refused_by_queue s c t f is = cc
+
+pub queue_refuses : (p : Plain) (boxes : List Boxed) (c : Command) (t : ℕ) (f : Fault) → queues_fault (queues_of boxes) c t ≡ Some f
+    → ServerAnswers (served p boxes) c t (Err f) (served p boxes)
+unfolding ServerAnswers IsServerAnswer
+queue_refuses p boxes c t f is s at =
+    (subst (λ x. IsRefusal x f) (sym (refused_by_queue s c t f (ap (λ x. queues_fault x.queues c t) at ∙ is))) refl, sym at)
+
+-- no queue refuses for want of memory
+drains_with_memory : (t : ℕ) (q : Queue) → drain_fault t q ≡ Some OutOfMemory → ⊥
+drains_with_memory t q is = by (not (length q.flight == 0)) (length (live t q.waiting) == 0) is
+  where
+    by : (a b : Bool) → (if a then Some Busy else if b then Some EmptyBatch else None) ≡ Some OutOfMemory → ⊥
+    by true b e = cc
+    by false true e = cc
+    by false false e = cc
+
+lands_with_memory : (codes : List ℕ) (q : Queue) → landed_fault codes q ≡ Some OutOfMemory → ⊥
+lands_with_memory codes q is = by (length q.flight == 0) (not (length codes == length q.flight)) is
+  where
+    by : (a b : Bool) → (if a then Some NoFlight else if b then Some CountDiffers else None) ≡ Some OutOfMemory → ⊥
+    by true b e = cc
+    by false true e = cc
+    by false false e = cc
+
+loses_with_memory : (q : Queue) → lost_fault q ≡ Some OutOfMemory → ⊥
+loses_with_memory q is = by (length q.flight == 0) is
+  where
+    by : (a : Bool) → (if a then Some NoFlight else None) ≡ Some OutOfMemory → ⊥
+    by true e = cc
+    by false e = cc
+
+at_queue : (found : Option Queue) (refuses : Queue → Option Fault) → ((q : Queue) → refuses q ≡ Some OutOfMemory → ⊥) → queue_fault found refuses ≡ Some OutOfMemory → ⊥
+at_queue None refuses never is = cc
+at_queue (Some q) refuses never is = never q is
+
+pub queues_want_no_memory : (qs : List Queue) (c : Command) (t : ℕ) → queues_fault qs c t ≡ Some OutOfMemory → ⊥
+queues_want_no_memory qs (Drain peer) t is = at_queue (slice_get qs peer) (drain_fault t) (drains_with_memory t) is
+queues_want_no_memory qs (Landed peer codes) t is = at_queue (slice_get qs peer) (landed_fault codes) (lands_with_memory codes) is
+queues_want_no_memory qs (Lost peer) t is = at_queue (slice_get qs peer) lost_fault loses_with_memory is
+queues_want_no_memory qs c t is = cc
+
+-- after fewer steps than are counted at most, what is known without memory is what a queue refuses
+pub early_refusal : (steps : ℕ) (p : Plain) (boxes : List Boxed) (c : Command) (t : ℕ) (f : Fault) → steps ≢ most_steps → queues_fault (queues_of boxes) c t ≡ Some f
+    → IsRefused steps (served p boxes) c t f
+early_refusal steps p boxes c t f fewer is = inr (fewer, inr (queue_refuses p boxes c t f is))
+
+pub nothing_known : (steps : ℕ) (qs : List Queue) (c : Command) (t : ℕ) → steps ≢ most_steps → queues_fault qs c t ≡ None → known_fault steps qs c t ≡ None
+nothing_known steps qs c t fewer is = ap (λ b. if b then Some Exhausted else queues_fault qs c t) (ne_eqb steps most_steps fewer) ∙ is
+
+pub never_wants : (qs : List Queue) (c : Command) (t : ℕ) (f : Fault) {X : Type 0} → queues_fault qs c t ≡ Some f → f ≡ OutOfMemory → X
+never_wants qs c t f is e = absurd (queues_want_no_memory qs c t (is ∙ ap Some e))

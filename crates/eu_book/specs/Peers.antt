@@ -1,17 +1,18 @@
 -- The peers of a book: what waits for each, and what a command tells them
-use Rattle.std.specs.Prelude.{◌≡◌, ◌≢◌, ◌⊎◌, ℕ, ◌<◌, false, List, map, Option, Some, None, Result, Err}
+use Rattle.std.specs.Prelude.{◌≡◌, ◌≢◌, ◌⊎◌, ℕ, ◌<◌, ◌==◌, false, List, map, slice_get, Option, Some, None, Result, Err, if◌then◌else◌}
 use Rattle.eu_base.specs.declared.faults.Fault.{Fault}
 use Rattle.eu_base.specs.declared.faults.Fault.TheVariants.{Exhausted, OutOfMemory}
 use Rattle.eu_base.specs.declared.names.Key.{Key}
 use Rattle.eu_core.specs.State as registry
 use Rattle.eu_model.specs.declared.commands.Command.{Command}
-use Rattle.eu_model.specs.declared.commands.Command.TheVariants.{Register, Renew, Cancel, SetStatus, UnsetStatus}
+use Rattle.eu_model.specs.declared.commands.Command.TheVariants.{Register, Renew, Cancel, SetStatus, UnsetStatus, Drain, Landed, Lost}
 use Rattle.eu_model.specs.declared.commands.Reply.{Reply}
 use Rattle.eu_model.specs.declared.queues.Queue.{Queue}
 use Rattle.eu_model.specs.declared.states.State.{State}
 use Rattle.eu_model.specs.Plain.{Plain}
+use Rattle.eu_model.specs.Queue.{drain_fault, landed_fault, lost_fault}
 use Rattle.eu_model.specs.State.{server_of_state}
-use Rattle.eu_model.specs.Server.{PlainServer}
+use Rattle.eu_model.specs.Server.{PlainServer, queue_fault}
 use Rattle.eu_model.specs.ServerAnswers.{ServerAnswers}
 use Rattle.eu_outbox.specs.Boxed.{Boxed}
 use Rattle.eu_book.specs.Account.{most_steps}
@@ -56,3 +57,16 @@ MayRefuse p c t f = (f ≡ OutOfMemory) ⊎ ServerAnswers p c t (Err f) p
 -- the same, where so many steps were made: by `Exhausted` where they are as many as are counted at most, and only there
 abbrev pub IsRefused : ℕ → PlainServer → Command → ℕ → Fault → Type 0
 IsRefused steps p c t f = ((steps ≡ most_steps) × (f ≡ Exhausted)) ⊎ ((steps ≢ most_steps) × MayRefuse p c t f)
+
+-- ---- what is known before any memory is wanted
+
+-- why the queue of a peer refuses a command, if it does; only a command that speaks of one is refused so
+abbrev pub queues_fault : List Queue → Command → ℕ → Option Fault
+queues_fault qs (Drain peer) t = queue_fault (slice_get qs peer) (drain_fault t)
+queues_fault qs (Landed peer codes) t = queue_fault (slice_get qs peer) (landed_fault codes)
+queues_fault qs (Lost peer) t = queue_fault (slice_get qs peer) lost_fault
+queues_fault qs c t = None
+
+-- the first fault that needs no memory to be known, if there is one, where so many steps were made
+abbrev pub known_fault : ℕ → List Queue → Command → ℕ → Option Fault
+known_fault steps qs c t = if steps == most_steps then Some Exhausted else queues_fault qs c t

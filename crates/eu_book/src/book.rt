@@ -6,7 +6,7 @@ ghost use Rattle.eu_model.specs.View.{view};
 ghost use Rattle.eu_book.specs.Account.{cleared, most_entries, opened, logged, Applies, Refuses, IsLawful};
 ghost use Rattle.eu_book.specs.Answered.{for_log};
 ghost use Rattle.eu_book.specs.Renewed.{IsJournal, IsRetired};
-ghost use Rattle.eu_book.specs.Peers.{served, state_of};
+ghost use Rattle.eu_book.specs.Peers.{known_fault, served, state_of};
 
 use crate::entering::{answer, note};
 use crate::journal::{Journal, Logged};
@@ -119,8 +119,9 @@ impl Book {
     /// Where the journal has 65,536 entries, it begins anew before (`Book::checkpoint`).
     ///
     /// Refused, in this order: `Exhausted` where 2^62 commands were accepted; `NoPeer` where the command names a peer and there
-    /// is none of that number; then as its call refuses. `OutOfMemory` may come in place of any. A refusal changes nothing, the
-    /// journal neither, and asks no word.
+    /// is none of that number; then as its call refuses. `OutOfMemory` may come in place of what the registry refuses by, but never of
+    /// `Exhausted` after 2^62 commands, of `NoPeer` or of what an outbox refuses by: these take no memory. A refusal changes
+    /// nothing, the journal neither, and asks no word.
     pub fn apply<C: Chooser>(
         &mut self,
         alloc: Global,
@@ -131,6 +132,7 @@ impl Book {
     ) -> Result<Receipt, Fault>
         ensures applied { IfOk result (λ r. Applies C.asks self.old chooser.old pass command moment r.reply r.number self.new chooser.new) }
         ensures refused { IfErr result (λ f. Refuses self.old command moment f) }
+        ensures memory { IfErr result (λ f. f ≡ Fault.OutOfMemory → known_fault self.old.totals.steps self.old.state.queues command moment ≡ None) }
         ensures err { OnErr result (self.new ≡ self.old) }
         ensures unasked { OnErr result (chooser.new ≡ chooser.old) }
     {
@@ -154,6 +156,7 @@ impl Book {
         ensures logged { IfOk result (λ r. r.logged ≡ logged mine moment r.receipt.reply r.receipt.number) }
         ensures retired { IfOk result (λ r. IsRetired self.old r.retired) }
         ensures refused { IfErr result (λ f. Refuses self.old command moment f) }
+        ensures memory { IfErr result (λ f. f ≡ Fault.OutOfMemory → known_fault self.old.totals.steps self.old.state.queues command moment ≡ None) }
         ensures err { OnErr result (self.new ≡ self.old) }
         ensures unasked { OnErr result (chooser.new ≡ chooser.old) }
     {
@@ -180,6 +183,7 @@ impl Book {
         ensures logged { IfOk result (λ e. e.logged ≡ for_log logs e.receipt.reply) }
         ensures retired { IfOk result (λ e. IsRetired self.old e.retired) }
         ensures refused { IfErr result (λ f. Refuses self.old command moment f) }
+        ensures memory { IfErr result (λ f. f ≡ Fault.OutOfMemory → known_fault self.old.totals.steps self.old.state.queues command moment ≡ None) }
         ensures err { OnErr result (self.new ≡ self.old) }
         ensures unasked { OnErr result (chooser.new ≡ chooser.old) }
     {

@@ -7,7 +7,7 @@ ghost use Rattle.eu_model.specs.Delta.{added_by, counted_by, delta, plus, remove
 ghost use Rattle.eu_model.specs.ServerAnswers.{ServerAnswers};
 ghost use Rattle.eu_book.specs.Account.{entry, most_steps};
 ghost use Rattle.eu_book.specs.Answered.{answered};
-ghost use Rattle.eu_book.specs.Peers.{IsRefused, served};
+ghost use Rattle.eu_book.specs.Peers.{IsRefused, known_fault, queues_of, served};
 ghost use Rattle.eu_book.specs.Renewed.{anew, base_by, entries_by, first_by};
 
 use crate::book::{Entered, Receipt};
@@ -29,7 +29,8 @@ pub(crate) struct Accepted {
     pub(crate) renewal: Option<Renewal>,
 }
 
-/// Answers a command, once there is room for its entry. `Exhausted` where the steps are as many as a book counts.
+/// Answers a command, once there is room for its entry. `Exhausted` where the steps are as many as a book counts; this, and the
+/// refusal of a peer's queue, come before any memory is taken.
 pub(crate) fn answer<C: Chooser>(
     alloc: Global,
     entries: &mut Vec<Entry>,
@@ -49,11 +50,15 @@ pub(crate) fn answer<C: Chooser>(
     ensures answers { IfOk result (λ a. ServerAnswers (served registry.old peers.old) command.now moment (Ok a.answered.reply) (served registry.new peers.new)) }
     ensures chooses { IfOk result (λ a. Chooses C.asks registry.old chooser.old command.now moment a.answered.reply chooser.new) }
     ensures refused { IfErr result (λ f. IsRefused steps (served registry.old peers.old) command.now moment f) }
+    ensures memory { IfErr result (λ f. f ≡ Fault.OutOfMemory → known_fault steps (queues_of peers.old) command.now moment ≡ None) }
     ensures err { OnErr result (served registry.new peers.new ≡ served registry.old peers.old) }
     ensures unasked { OnErr result (chooser.new ≡ chooser.old) }
 {
     if steps == MOST_STEPS {
         return Err(Fault::Exhausted);
+    }
+    if let Some(fault) = peers.refusal(command, moment) {
+        return Err(fault);
     }
     let renewal = make_room(alloc, entries, registry, peers)?;
     let answered = serve(alloc, registry, peers, command, moment, chooser, logs)?;

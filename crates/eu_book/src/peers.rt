@@ -1,12 +1,12 @@
 //! The outboxes of the peers.
-ghost use Rattle.std.specs.Prelude.{◌≡◌, ◌≤◌, All, Err, Ok, Option, length, map, replicate, vec_len, IfOk, IfErr, OnOk, OnErr};
+ghost use Rattle.std.specs.Prelude.{◌≡◌, ◌≤◌, All, Err, Ok, Option, length, map, option_map, replicate, slice_get, vec_len, IfOk, IfErr, OnOk, OnErr};
 ghost use Rattle.std.specs.Vec.{vec_capacity};
 ghost use Rattle.eu_base.specs.declared.instances.Instance.{Instance};
 ghost use Rattle.eu_core.specs.Stepped.{copies_of};
 ghost use Rattle.eu_model.specs.Queue.{idle};
 ghost use Rattle.eu_model.specs.Server.{task_for, with_task};
 ghost use Rattle.eu_book.specs.Answered.{answered};
-ghost use Rattle.eu_book.specs.Peers.{queues_of, IsReady, QueuesAnswer, told_key};
+ghost use Rattle.eu_book.specs.Peers.{queues_fault, queues_of, IsReady, QueuesAnswer, told_key};
 
 use crate::replies::{Answered, replies_for, split};
 use crate::tasks::task_for;
@@ -87,6 +87,35 @@ impl Peers {
             &mut keys,
             &mut held,
         );
+    }
+
+    /// The outbox of a peer, if there is one.
+    fn outbox(&self, peer: u32) -> Option<&Outbox>
+        ensures { option_map (λ b. b.now.queue) result ≡ slice_get (queues_of self.now) peer }
+    {
+        self.outboxes.get(peer as usize)
+    }
+
+    /// Why the queue of its peer refuses a command, if it does: `NoPeer`, or a fault of the call that it is on the outbox. None
+    /// for a command that speaks of no queue. Takes no memory.
+    pub(crate) fn refusal(&self, command: &Command, moment: Moment) -> Option<Fault>
+        ensures { result ≡ queues_fault (queues_of self.now) command.now moment }
+    {
+        match command {
+            Command::Drain { peer } => match self.outbox(*peer) {
+                Some(outbox) => outbox.drain_refusal(moment),
+                None => Some(Fault::NoPeer),
+            },
+            Command::Landed { peer, codes } => match self.outbox(*peer) {
+                Some(outbox) => outbox.landed_refusal(codes.as_slice()),
+                None => Some(Fault::NoPeer),
+            },
+            Command::Lost { peer } => match self.outbox(*peer) {
+                Some(outbox) => outbox.lost_refusal(),
+                None => Some(Fault::NoPeer),
+            },
+            _ => None,
+        }
     }
 
     /// The next tasks that wait for a peer go in flight (`Outbox::drain`).

@@ -1,5 +1,5 @@
 //! Batches of tasks from JSON.
-ghost use Rattle.std.specs.Prelude.{◌≡◌, codes, map, ok_or, option_and_then};
+ghost use Rattle.std.specs.Prelude.{◌≡◌, ◌≢◌, [], codes, map, ok_or, option_and_then, Err, IsOk};
 ghost use Rattle.std.specs.Option.{option_map};
 ghost use Rattle.serde_json.specs.Find.{as_array, get};
 ghost use Rattle.serde_json.specs.View.{items_view, view};
@@ -68,7 +68,8 @@ fn action_in(item: &Value) -> Result<Action, Fault>
 /// The application of that name. `BadBatch` where it is no name; `OutOfMemory`.
 #[tactic(auto, unfolding(crate::specs::Batch::app_within))]
 fn app_within(alloc: Global, text: &str) -> Result<App, Fault>
-    ensures { Gives (λ app. app) result (app_within text.now) }
+    ensures said { Gives (λ app. app) result (app_within text.now) }
+    ensures memory { result ≡ Err Fault.OutOfMemory → IsOk (app_within text.now) }
 {
     match App::read(alloc, text) {
         Ok(app) => Ok(app),
@@ -79,7 +80,8 @@ fn app_within(alloc: Global, text: &str) -> Result<App, Fault>
 
 /// The id of that name. `BadBatch` where it is no name; `OutOfMemory`.
 fn id_within(alloc: Global, text: &str) -> Result<Id, Fault>
-    ensures { Gives (λ id. id) result (name_within text.now) }
+    ensures said { Gives (λ id. id) result (name_within text.now) }
+    ensures memory { result ≡ Err Fault.OutOfMemory → IsOk (name_within text.now) }
 {
     match Id::read(alloc, text) {
         Ok(id) => Ok(id),
@@ -214,7 +216,8 @@ fn array_of(value: Value) -> Option<Vec<Value>>
 
 /// The items of a body. `BadBatch` where its member `replicationList` isn't a list of at most `MOST_ITEMS`.
 fn items_in(body: Value) -> Result<Vec<Value>, Fault>
-    ensures { Equals (λ v. items_view v.items) result (items_in (view body)) }
+    ensures said { Equals (λ v. items_view v.items) result (items_in (view body)) }
+    ensures memory { result ≢ Err Fault.OutOfMemory }
 {
     let Some(list) = take(body, "replicationList") else {
         return Err(Fault::BadBatch);
@@ -231,7 +234,8 @@ fn items_in(body: Value) -> Result<Vec<Value>, Fault>
 /// The commands of a text, else the first fault of what stands inside.
 #[tactic(auto, unfolding(crate::specs::Batch::of_text))]
 fn of_text(alloc: Global, text: &str, moment: Moment) -> Result<Vec<Command>, Fault>
-    ensures { Gives (λ v. map said_by v.items) result (of_text moment text.now) }
+    ensures said { Gives (λ v. map said_by v.items) result (of_text moment text.now) }
+    ensures memory { result ≡ Err Fault.OutOfMemory → text.now ≢ [] }
 {
     let body = match parse(alloc, text) {
         Ok(body) => body,
@@ -263,9 +267,10 @@ fn of_text(alloc: Global, text: &str, moment: Moment) -> Result<Vec<Command>, Fa
 /// A `Heartbeat` asks for a `Renew`, a `StatusUpdate` for a `SetStatus`, a `DeleteStatusOverride` for an `UnsetStatus`.
 ///
 /// `BadBatch` where the text isn't JSON or nests deeper than 127, where it isn't such a body, and where an instance has a fault by
-/// `read_instance`. `OutOfMemory` may come in place of it.
+/// `read_instance`. `OutOfMemory` may come in place of it, but not for a text without a byte.
 pub fn read_batch(alloc: Global, text: &str, moment: Moment) -> Result<Vec<Command>, Fault>
-    ensures { Gives (λ v. map said_by v.items) result (batch_of moment text.now) }
+    ensures said { Gives (λ v. map said_by v.items) result (batch_of moment text.now) }
+    ensures memory { result ≡ Err Fault.OutOfMemory → text.now ≢ [] }
 {
     match of_text(alloc, text, moment) {
         Ok(commands) => Ok(commands),

@@ -1,5 +1,5 @@
 //! What must stand in an instance.
-ghost use Rattle.std.specs.Prelude.{◌≡◌, ◌<◌, length, IfOk};
+ghost use Rattle.std.specs.Prelude.{◌≡◌, ◌≢◌, ◌<◌, length, Err, IfOk};
 ghost use Rattle.serde_json.specs.View.{view};
 ghost use Rattle.eu_json.specs.Fields.{Equals};
 ghost use Rattle.eu_json.specs.Reading.{address_stands, app_stands, center_stands, name_of};
@@ -15,6 +15,7 @@ use serde_json::Value;
 pub fn name_of(instance: &Value) -> Result<&str, Fault>
     ensures name { Equals (λ name. name.now) result (name_of (view instance.now)) }
     ensures filled { IfOk result (λ name. 0 < length name.now) }
+    ensures memory { result ≢ Err Fault.OutOfMemory }
 {
     let id = text_at(instance, "instanceId");
     let host = text_at(instance, "hostName");
@@ -28,7 +29,8 @@ pub fn name_of(instance: &Value) -> Result<&str, Fault>
 
 /// `MissingIp` where the address is blank.
 pub fn check_address(instance: &Value) -> Result<(), Fault>
-    ensures { result ≡ address_stands (view instance.now) }
+    ensures said { result ≡ address_stands (view instance.now) }
+    ensures memory { result ≢ Err Fault.OutOfMemory }
 {
     if text_at(instance, "ipAddr").is_empty() {
         return Err(Fault::MissingIp);
@@ -38,7 +40,8 @@ pub fn check_address(instance: &Value) -> Result<(), Fault>
 
 /// `MissingApp` where the application is blank, `WrongApp` where it isn't `app`, whatever the case of its ASCII letters.
 pub fn check_app(instance: &Value, app: &App) -> Result<(), Fault>
-    ensures { result ≡ app_stands app.now (view instance.now) }
+    ensures said { result ≡ app_stands app.now (view instance.now) }
+    ensures memory { result ≢ Err Fault.OutOfMemory }
 {
     let given = text_at(instance, "app");
     if given.is_empty() {
@@ -52,7 +55,8 @@ pub fn check_app(instance: &Value, app: &App) -> Result<(), Fault>
 
 /// `MissingCenter` where the data center isn't an object, `MissingCenterName` where its name isn't a text.
 pub fn check_center(instance: &Value) -> Result<(), Fault>
-    ensures { result ≡ center_stands (view instance.now) }
+    ensures said { result ≡ center_stands (view instance.now) }
+    ensures memory { result ≢ Err Fault.OutOfMemory }
 {
     let Some(center) = instance.get("dataCenterInfo") else {
         return Err(Fault::MissingCenter);

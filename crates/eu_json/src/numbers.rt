@@ -1,5 +1,5 @@
 //! Numbers that members write.
-ghost use Rattle.std.specs.Prelude.{◌≡◌, ◌≤◌, ◌<◌, ◌^◌, IfOk};
+ghost use Rattle.std.specs.Prelude.{◌≡◌, ◌≢◌, ◌≤◌, ◌<◌, ◌^◌, Err, IfOk};
 ghost use Rattle.std.specs.Option.{option_map};
 ghost use Rattle.serde_json.specs.View.{view};
 ghost use Rattle.eu_json.specs.Reading.{digits_within, interval_in, secs_in, secs_within, stamp_in, stamp_within};
@@ -33,7 +33,8 @@ fn digits_within(most: usize, text: &[u8]) -> Option<u64>
 
 /// A stamp, else `BadStamp`.
 fn stamp_within(number: u64) -> Result<u64, Fault>
-    ensures { result ≡ stamp_within number }
+    ensures said { result ≡ stamp_within number }
+    ensures memory { result ≢ Err Fault.OutOfMemory }
 {
     if number < 1 << 63 {
         Ok(number)
@@ -46,6 +47,7 @@ fn stamp_within(number: u64) -> Result<u64, Fault>
 pub fn stamp_in(moment: Moment, member: Option<&Value>) -> Result<u64, Fault>
     ensures stamp { result ≡ stamp_in moment (option_map (λ v. view v.now) member.entry) }
     ensures bound { IfOk result (λ n. n < 2 ^ 63) }
+    ensures memory { result ≢ Err Fault.OutOfMemory }
 {
     match member {
         None | Some(Value::Null) => Ok(moment.ms()),
@@ -63,7 +65,8 @@ pub fn stamp_in(moment: Moment, member: Option<&Value>) -> Result<u64, Fault>
 
 /// A duration in seconds, else `BadDuration`. 0 stands for `Instance::DEFAULT_SECS`.
 fn secs_within(number: u64) -> Result<u32, Fault>
-    ensures { result ≡ secs_within number }
+    ensures said { result ≡ secs_within number }
+    ensures memory { result ≢ Err Fault.OutOfMemory }
 {
     match number {
         0 => Ok(Instance::DEFAULT_SECS),
@@ -77,6 +80,7 @@ fn secs_within(number: u64) -> Result<u32, Fault>
 pub fn secs_in(member: Option<&Value>) -> Result<u32, Fault>
     ensures secs { result ≡ secs_in (option_map (λ v. view v.now) member.entry) }
     ensures bounds { IfOk result (λ n. (1 ≤ n) × (n ≤ 2147483)) }
+    ensures memory { result ≢ Err Fault.OutOfMemory }
 {
     match member {
         None | Some(Value::Null) => Ok(Instance::DEFAULT_SECS),

@@ -1,10 +1,10 @@
 //! An instance from JSON.
-ghost use Rattle.std.specs.Prelude.{◌≡◌, ◌⊎◌, ◌<◌, length, IfOk, MatchResult, Some, None};
+ghost use Rattle.std.specs.Prelude.{◌≡◌, ◌≢◌, ◌⊎◌, ◌<◌, [], length, Err, IfErr, IfOk, IsOk, MatchResult, Ok, OnOk, Some, None};
 ghost use Rattle.std.specs.Option.{option_map};
 ghost use Rattle.serde_json.specs.Read.{read};
 ghost use Rattle.serde_json.specs.View.{view};
 ghost use Rattle.eu_base.specs.Rest.{IsRest};
-ghost use Rattle.eu_json.specs.Fields.{Gives, Reads};
+ghost use Rattle.eu_json.specs.Fields.{Equals, Reads};
 ghost use Rattle.eu_json.specs.Reading.{instance_of, lease_member, of_object, rest_of, short};
 
 use crate::checks::{check_address, check_app, check_center, name_of};
@@ -15,10 +15,18 @@ use eu_base::{App, Fault, Id, Instance, Key, Moment, Rest, Status, has_fraction}
 use serde_json::Value;
 use std::alloc::{AllocError, Global};
 
-/// The JSON of a text. `NotJson` where it is none, `OutOfMemory`.
+/// The most bytes of a name.
+const LONGEST_NAME: usize = 255;
+
+/// The JSON of a text. `NotJson` where it is none, and `OutOfMemory`, which a text without a byte never is.
 pub fn parse(alloc: Global, text: &str) -> Result<Value, Fault>
-    ensures { MatchResult result (λ v. read text.now ≡ Some (view v)) (λ f. (f ≡ Fault.OutOfMemory) ⊎ ((f ≡ Fault.NotJson) × (read text.now ≡ None))) }
+    ensures memory { result ≡ Err Fault.OutOfMemory → text.now ≢ [] }
+    ensures filled { OnOk result (text.now ≢ []) }
+    ensures said { MatchResult result (λ v. read text.now ≡ Some (view v)) (λ f. (f ≡ Fault.OutOfMemory) ⊎ ((f ≡ Fault.NotJson) × (read text.now ≡ None))) }
 {
+    if text.is_empty() {
+        return Err(Fault::NotJson);
+    }
     match Value::from_str(alloc, text) {
         Ok(body) => Ok(body),
         Err(error) if error.is_memory() => Err(Fault::OutOfMemory),
@@ -33,10 +41,23 @@ fn lease_member<'v>(instance: &'v Value, name: &str) -> Option<&'v Value>
     instance.get("leaseInfo")?.get(name)
 }
 
-/// The id of that name. `TooLong` where it has more than 255 bytes, `OutOfMemory`.
+/// `TooLong` where a name has more than 255 bytes.
+fn check_len(name: &str) -> Result<(), Fault>
+    ensures said { Equals (λ _. name.now) result (short name.now) }
+    ensures memory { result ≢ Err Fault.OutOfMemory }
+{
+    if name.len() > LONGEST_NAME {
+        return Err(Fault::TooLong);
+    }
+    Ok(())
+}
+
+/// The id of that name, which is one. The only fault is want of memory.
 fn id_of(alloc: Global, name: &str) -> Result<Id, Fault>
-    requires { 0 < length name.now }
-    ensures { Gives (λ id. id) result (short name.now) }
+    requires filled { 0 < length name.now }
+    requires short { short name.now ≡ Ok name.now }
+    ensures id { IfOk result (λ id. id ≡ name.now) }
+    ensures memory { IfErr result (λ f. f ≡ Fault.OutOfMemory) }
 {
     Id::read(alloc, name)
 }
@@ -58,7 +79,7 @@ fn rest_of(alloc: Global, instance: Value) -> Result<Rest, AllocError>
     Ok(rest.unwrap())
 }
 
-/// The instance of an object whose numbers are all whole.
+/// The instance of an object whose numbers are all whole. What is wrong with it is told before any memory is taken.
 #[tactic(auto, unfolding(crate::specs::Reading::of_object))]
 pub fn of_object(
     alloc: Global,
@@ -67,18 +88,20 @@ pub fn of_object(
     moment: Moment,
 ) -> Result<Instance, Fault>
     requires { IsRest (view instance) }
-    ensures { Reads result (of_object app.now moment (view instance)) }
+    ensures said { Reads result (of_object app.now moment (view instance)) }
+    ensures memory { result ≡ Err Fault.OutOfMemory → IsOk (of_object app.now moment (view instance)) }
 {
     let name = name_of(&instance)?;
     check_address(&instance)?;
     check_app(&instance, app)?;
     check_center(&instance)?;
-    let id = id_of(alloc, name)?;
+    check_len(name)?;
     let dirty = stamp_in(moment, instance.get("lastDirtyTimestamp"))?;
     let secs = secs_in(lease_member(&instance, "durationInSecs"))?;
     let interval = interval_in(lease_member(&instance, "renewalIntervalInSecs"));
     let status = status_in(Status::Up, instance.get("status"));
     let overridden = status_in(Status::Unknown, overridden_at(&instance));
+    let id = id_of(alloc, name)?;
     let app = app.copy(alloc)?;
     let rest = rest_of(alloc, instance)?;
     let key = Key { app, id };
@@ -124,14 +147,15 @@ pub fn of_object(
 /// - `BadStamp`: `lastDirtyTimestamp` isn't a stamp, as above;
 /// - `BadDuration`: `durationInSecs` is neither of the two, or above 2,147,483.
 ///
-/// `OutOfMemory` may come in place of any.
+/// `OutOfMemory` may come in place of any, but not for a text without a byte: that is `NotJson`.
 pub fn read_instance(
     alloc: Global,
     text: &str,
     app: &App,
     moment: Moment,
 ) -> Result<Instance, Fault>
-    ensures { Reads result (instance_of app.now moment text.now) }
+    ensures said { Reads result (instance_of app.now moment text.now) }
+    ensures memory { result ≡ Err Fault.OutOfMemory → text.now ≢ [] }
 {
     let body = parse(alloc, text)?;
     let fraction = has_fraction(&body);

@@ -6,11 +6,16 @@ use Rattle.std.proofs.lemmas.List.{append_assoc, length-map, length-append, map-
 use Rattle.std.proofs.lemmas.List.Elements.{filter-append}
 use Rattle.std.proofs.lemmas.List.Folds.{list_any-append}
 use Rattle.std.proofs.Math.Seq.{take-append-add}
+use Rattle.std.proofs.lemmas.Bool.Decides.{nat_tests}
+use Rattle.std.specs.Prelude.{◌==◌, Option, Some, None}
+use Rattle.eu_base.specs.declared.faults.Fault.{Fault}
+use Rattle.eu_base.specs.declared.faults.Fault.TheVariants.{Busy, EmptyBatch}
 use Rattle.eu_base.specs.declared.tasks.Task.{Task}
 use Rattle.eu_base.specs.declared.tasks.TaskName.{TaskName}
 use Rattle.eu_base.specs.Action.{is_action, same_name}
 use Rattle.eu_base.specs.Key.{key_eq}
-use Rattle.eu_model.specs.Queue.{waits, is_old, live, bounded, put}
+use Rattle.eu_model.specs.declared.queues.Queue.{Queue}
+use Rattle.eu_model.specs.Queue.{waits, is_old, live, bounded, put, drain_fault}
 use Rattle.eu_outbox.specs.Steps.{IsApart, gave, gave_all, named, placed}
 use Rattle.eu_outbox.proofs.NameLemmas.{first_false, second_false, name_of, same_named, same_name-flips, reverse-push, list_any-reverse, map-reverse}
 
@@ -219,3 +224,14 @@ take-next zero [] = refl
 take-next zero (x ∷ xs) = refl
 take-next (suc n) [] = refl
 take-next (suc n) (x ∷ xs) = ap (λ l. x ∷ l) (take-next n xs)
+
+-- where nothing keeps a batch from going in flight, none is
+pub nothing_flies : (t : ℕ) (q : Queue) → drain_fault t q ≡ None → length q.flight ≡ 0
+nothing_flies t q none = by (length q.flight == 0) refl none
+  where
+    rest : Option Fault
+    rest = if length (live t q.waiting) == 0 then Some EmptyBatch else None
+
+    by : (b : Bool) → (length q.flight == 0) ≡ b → cond (not b) (Some Busy) rest ≡ None → length q.flight ≡ 0
+    by true e n = grind (arith, nat_tests, e)
+    by false e n = cc

@@ -76,11 +76,50 @@ impl Outbox {
         Ok(())
     }
 
+    /// Why no batch can go in flight at the moment, if none can: `Busy` where one is in flight, else `EmptyBatch` where no task waits
+    /// that was queued no more than 30 s before. Takes no memory.
+    pub fn drain_refusal(&self, moment: Moment) -> Option<Fault>
+        ensures { result ≡ drain_fault moment self.now.queue }
+    {
+        if !self.flight.is_empty() {
+            return Some(Fault::Busy);
+        }
+        if !self.waiting.any_live(moment) {
+            return Some(Fault::EmptyBatch);
+        }
+        None
+    }
+
+    /// Why the batch in flight can't have been answered by these HTTP statuses, if it can't: `NoFlight` where none is in flight, else
+    /// `CountDiffers` where the statuses aren't as many as its tasks. Takes no memory.
+    pub fn landed_refusal(&self, codes: &[u16]) -> Option<Fault>
+        ensures { result ≡ landed_fault codes.now self.now.queue }
+    {
+        if self.flight.is_empty() {
+            return Some(Fault::NoFlight);
+        }
+        if codes.len() != self.flight.len() {
+            return Some(Fault::CountDiffers);
+        }
+        None
+    }
+
+    /// Why no batch can be lost, if none can: `NoFlight` where none is in flight. Takes no memory.
+    pub fn lost_refusal(&self) -> Option<Fault>
+        ensures { result ≡ lost_fault self.now.queue }
+    {
+        if self.flight.is_empty() {
+            Some(Fault::NoFlight)
+        } else {
+            None
+        }
+    }
+
     /// Puts the first 250 tasks that wait, and were queued no more than 30 s before the moment, in flight, and gives so many
     /// batches of them, all equal; those that are older are dropped.
     ///
     /// Refused with `Busy` exactly where a batch is in flight, else with `EmptyBatch` exactly where no such task waits, else with
-    /// `OutOfMemory`. A refusal changes nothing.
+    /// `OutOfMemory`. A refusal changes nothing; the first two take no memory.
     pub fn drain(&mut self, alloc: Global, moment: Moment, copies: u32) -> Result<Vec<Tasks>, Fault>
         ensures drained { OnOk result (self.new.queue ≡ drained moment self.old.queue) }
         ensures batches { IfOk result (λ batches. batches.items ≡ replicate copies self.new.queue.flight) }
@@ -88,11 +127,8 @@ impl Outbox {
         ensures refused { IfErr result (IsRefusal (drain_fault moment self.old.queue)) }
         ensures err { OnErr result (self.new.queue ≡ self.old.queue) }
     {
-        if !self.flight.is_empty() {
-            return Err(Fault::Busy);
-        }
-        if !self.waiting.any_live(moment) {
-            return Err(Fault::EmptyBatch);
+        if let Some(fault) = self.drain_refusal(moment) {
+            return Err(fault);
         }
         let batches = batches(alloc, &self.waiting, moment, copies)?;
         self.flight.reserve(MOST_SENT)?;
@@ -112,11 +148,8 @@ impl Outbox {
         ensures refused { IfErr result (IsRefusal (landed_fault codes.now self.old.queue)) }
         ensures err { OnErr result (self.new.queue ≡ self.old.queue) }
     {
-        if self.flight.is_empty() {
-            return Err(Fault::NoFlight);
-        }
-        if codes.len() != self.flight.len() {
-            return Err(Fault::CountDiffers);
+        if let Some(fault) = self.landed_refusal(codes) {
+            return Err(fault);
         }
         self.waiting.reserve(codes.len())?;
         self.flight.reverse();
@@ -135,8 +168,8 @@ impl Outbox {
         ensures refused { IfErr result (IsRefusal (lost_fault self.old.queue)) }
         ensures err { OnErr result (self.new.queue ≡ self.old.queue) }
     {
-        if self.flight.is_empty() {
-            return Err(Fault::NoFlight);
+        if let Some(fault) = self.lost_refusal() {
+            return Err(fault);
         }
         self.waiting.reserve(self.flight.len())?;
         self.waiting.give_back_all(&mut self.flight, moment);

@@ -1,10 +1,11 @@
 -- Slashes, prefixes and names
-use Rattle.std.proofs.Common.{◌≡◌, ◌≢◌, ℕ, ◌+◌, ◌-◌, ◌<◌, ◌≤◌, true, false, not, List, [], length, get_or, take, drop, map, Ok, Err, refl, sym, ◌∙◌, ap, arith, ◌==◌, eq-eqb, length-drop, length-take, ◌++◌, ◌∷◌, nat_eq, length-append, Option, Some, None, Bor}
+use Rattle.std.proofs.Common.{◌≡◌, ◌≢◌, Bool, Result, ℕ, ◌+◌, ◌-◌, ◌<◌, ◌≤◌, true, false, not, List, [], length, get_or, take, drop, map, Ok, Err, refl, sym, ◌∙◌, ap, arith, ◌==◌, eq-eqb, length-drop, length-take, ◌++◌, ◌∷◌, nat_eq, length-append, Option, Some, None, Bor}
 use Rattle.std.proofs.lemmas.Bool.{ne_eqb, false_from_ne_true}
 use Rattle.std.proofs.lemmas.Bool.Decides.{nat_tests, Decides-eqb}
 use Rattle.std.proofs.Math.ListN.{get_or-map}
 use Rattle.std.proofs.Math.Seq.{take-append_seam}
 use Rattle.std.proofs.lemmas.List.{get_or-drop, length-map}
+use Rattle.std.proofs.lemmas.List.Elements.{All-drop, All-take}
 use Rattle.std.proofs.lemmas.Slice.Eq.{bytes_eq-Decides, ends_is}
 use Rattle.std.specs.Option.{MatchOption, unwrap_or}
 use Rattle.std.proofs.lemmas.List.Sums.{position_or_len_is, suffix_len_is}
@@ -12,11 +13,15 @@ use Rattle.std.proofs.lemmas.Str.{IsUtf8-from_ascii, IsCharBoundary-from_take, i
 use Rattle.std.proofs.lemmas.Str.Pattern.{NoCharPasses-char}
 use Rattle.std.specs.Char.{to_ascii_lowercase}
 use Rattle.std.specs.List.{ends_with, position_or_len}
-use Rattle.std.specs.Str.{IsUtf8, IsAscii, IsCharBoundary, NoCharPasses}
+use Rattle.std.specs.Prelude.{if◌then◌else◌}
+use Rattle.std.specs.Str.{str_to_ascii_uppercase, is_utf8, IsUtf8, IsAscii, IsCharBoundary, NoCharPasses}
 use Rattle.std.specs.Str.Pattern.{HasCharAt}
 use Rattle.percent_encoding.specs.Percent.{percent_decode}
+use Rattle.eu_base.specs.declared.faults.Fault.{Fault}
 use Rattle.eu_base.specs.declared.faults.Fault.TheVariants.{BadPath}
-use Rattle.eu_routes.specs.Path.{last_len, last_segment, parent, begins_with, without_slash, text_at}
+use Rattle.eu_base.specs.declared.names.Key.{Key}
+use Rattle.eu_routes.specs.Chain.{◌>>=◌}
+use Rattle.eu_routes.specs.Path.{last_len, last_segment, parent, begins_with, without_slash, text_at, app_of, as_name, app_at, id_at, key_at, key_of, is_name, IsUncoded}
 
 -- the first slash of a text
 pub first_slash : (text : List ℕ) (k : ℕ) → k < length text → get_or text k 0 ≡ 47 → ((i : ℕ) → i < k → get_or text i 0 ≢ 47) → position_or_len (λ b. b == 47) text ≡ k
@@ -110,3 +115,58 @@ stripped path (Some x) whole some e =
     let there : ends_with nat_eq path (47 ∷ []) ≡ true = (ends_is Decides-eqb path (47 ∷ []) _ refl).1 x.now some in
     let len : length path - 1 ≡ length x.now = omega (arith, ap length some, length-append x.now (47 ∷ [])) in
     rw (there, len) (sym (ap (take (length x.now)) some ∙ take-append_seam x.now (47 ∷ [])))
+
+-- ---- leases
+
+-- where nothing in a path is encoded, nothing in its last segment is, nor before that
+pub uncoded_last : (path : List ℕ) → IsUncoded path → IsUncoded (last_segment path)
+unfolding last_segment
+uncoded_last path h = All-drop (λ b. b ≢ 37) (length path - last_len path) path h
+
+pub uncoded_parent : (path : List ℕ) → IsUncoded path → IsUncoded (parent path)
+unfolding parent
+uncoded_parent path h = All-take (λ b. b ≢ 37) (length path - last_len path - 1) path h
+
+-- the texts of both segments decide which lease is named
+pub key_by_texts : (path app id : List ℕ) → text_at (last_segment (parent path)) ≡ Ok app → text_at (last_segment path) ≡ Ok id → key_at path ≡ key_of app id
+unfolding key_at app_at id_at key_of
+key_by_texts path app id first second = rw (first, second) refl
+
+-- where one of them is no text, none is named
+pub no_app_text : (path : List ℕ) (f : Fault) → text_at (last_segment (parent path)) ≡ Err f → key_at path ≡ Err f
+unfolding key_at app_at
+no_app_text path f is = rw is refl
+
+chosen_fails : {X : Type 0} (b : Bool) (x : X) (f : Fault) → (if b then Ok x else Err BadPath) ≡ Err f → f ≡ BadPath
+chosen_fails true x f e = cc
+chosen_fails false x f e = cc
+
+text_fails : (segment : List ℕ) (f : Fault) → text_at segment ≡ Err f → f ≡ BadPath
+unfolding text_at
+text_fails segment f e = chosen_fails (is_utf8 (percent_decode segment)) (percent_decode segment) f e
+
+app_fails : (text : List ℕ) (f : Fault) → app_of text ≡ Err f → f ≡ BadPath
+unfolding app_of as_name
+app_fails text f e = by (is_name text) e
+  where
+    by : (b : Bool) → ((if b then Ok text else Err BadPath) >>= λ name. Ok (str_to_ascii_uppercase name)) ≡ Err f → f ≡ BadPath
+    by true e = cc
+    by false e = cc
+
+abbrev keyed : List ℕ → List ℕ → Result Key Fault
+keyed app id = Ok (record { app = app; id = id })
+
+pub no_id_text : (path : List ℕ) (f : Fault) → text_at (last_segment path) ≡ Err f → key_at path ≡ Err f
+unfolding key_at app_at id_at
+no_id_text path f is = by (text_at (last_segment (parent path))) refl
+  where
+    bad : f ≡ BadPath
+    bad = text_fails (last_segment path) f is
+
+    after : (r : Result (List ℕ) Fault) → ((g : Fault) → r ≡ Err g → g ≡ BadPath) → (r >>= λ app. (text_at (last_segment path) >>= as_name) >>= keyed app) ≡ Err f
+    after (Ok app) fails = rw is refl
+    after (Err g) fails = ap Err (fails g refl ∙ sym bad)
+
+    by : (r : Result (List ℕ) Fault) → text_at (last_segment (parent path)) ≡ r → ((r >>= app_of) >>= λ app. (text_at (last_segment path) >>= as_name) >>= keyed app) ≡ Err f
+    by (Ok text) e = after (app_of text) (app_fails text)
+    by (Err g) e = ap Err (text_fails _ g e ∙ sym bad)

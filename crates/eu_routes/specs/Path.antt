@@ -1,5 +1,5 @@
 -- The path of a request's target, and its segments
-use Rattle.std.specs.Prelude.{◌≡◌, ℕ, ◌-◌, Bool, ◌&&◌, not, List, [], ◌∷◌, length, map, take, drop, Result, Ok, Err, nat_lt, nat_eq, ◌==◌, if◌then◌else◌, codes}
+use Rattle.std.specs.Prelude.{◌≡◌, ◌≢◌, ℕ, ◌-◌, All, Bool, ◌&&◌, not, List, [], ◌∷◌, length, map, take, drop, Result, Ok, Err, nat_lt, nat_eq, ◌==◌, if◌then◌else◌, codes}
 use Rattle.std.specs.Char.{to_ascii_lowercase}
 use Rattle.std.specs.List.{ends_with, position_or_len, suffix_len}
 use Rattle.std.specs.Str.{bytes_eq, is_utf8, str_to_ascii_uppercase}
@@ -55,6 +55,10 @@ last_segment path = drop (length path - last_len path) path
 unfoldable pub parent : List ℕ → List ℕ
 parent path = take (length path - last_len path - 1) path
 
+-- no byte is `%`, so that nothing is decoded
+abbrev pub IsUncoded : List ℕ → Type 0
+IsUncoded text = All (λ b. b ≢ 37) text
+
 -- ---- names
 
 -- the text that a segment stands for: UTF-8, once it is decoded
@@ -62,8 +66,11 @@ unfoldable pub text_at : List ℕ → Result (List ℕ) Fault
 text_at segment = if is_utf8 (percent_decode segment) then Ok (percent_decode segment) else Err BadPath
 
 -- a name has 1 to 255 bytes
+abbrev pub is_name : List ℕ → Bool
+is_name text = nat_lt 0 (length text) && nat_lt (length text) 256
+
 unfoldable pub as_name : List ℕ → Result (List ℕ) Fault
-as_name text = if nat_lt 0 (length text) && nat_lt (length text) 256 then Ok text else Err BadPath
+as_name text = if is_name text then Ok text else Err BadPath
 
 -- an application, its ASCII letters in capitals
 unfoldable pub app_of : List ℕ → Result (List ℕ) Fault
@@ -78,6 +85,13 @@ app_at segment = text_at segment >>= app_of
 -- the id that a segment names
 unfoldable pub id_at : List ℕ → Result (List ℕ) Fault
 id_at segment = text_at segment >>= as_name
+
+-- the lease of those names: an application, and the id of an instance
+unfoldable pub key_of : List ℕ → List ℕ → Result Key Fault
+key_of app id = do
+  app ← app_of app
+  id ← as_name id
+  Ok (record { app = app; id = id })
 
 -- the lease that the last two segments of a path name: an application, and the id of an instance
 unfoldable pub key_at : List ℕ → Result Key Fault

@@ -1,5 +1,5 @@
 -- What a request asks for
-use Rattle.std.specs.Prelude.{ℕ, List, Option, Some, None, Result, Ok, Err, if◌then◌else◌, codes}
+use Rattle.std.specs.Prelude.{◌≡◌, ℕ, Bool, true, ◌||◌, List, Option, Some, None, Result, Ok, Err, IsOk, if◌then◌else◌, codes}
 use Rattle.std.specs.Option.{ok_or}
 use Rattle.std.specs.Str.{bytes_eq}
 use Rattle.eu_base.specs.declared.faults.Fault.{Fault}
@@ -13,7 +13,7 @@ use Rattle.eu_routes.specs.declared.table.Page.{Page}
 use Rattle.eu_routes.specs.declared.table.Page.TheVariants as page
 use Rattle.eu_routes.specs.Chain.{◌>>=◌, Gives}
 use Rattle.eu_routes.specs.Table.{page_of}
-use Rattle.eu_routes.specs.Path.{path_of, last_segment, parent, app_at, key_at}
+use Rattle.eu_routes.specs.Path.{path_of, last_segment, parent, app_at, key_at, IsUncoded}
 use Rattle.eu_routes.specs.Query.{stamp_at, status_at, settings_at, number_of}
 
 -- what is asked for
@@ -147,6 +147,30 @@ ask_at (Some page.Config) method path query = config_ask method query
 -- what a request of that method, target and query asks for
 abbrev pub route_of : List ℕ → List ℕ → List ℕ → Result Asked Fault
 route_of method target query = ask_at (page_of (path_of target)) method (path_of target) query
+
+-- ---- what is known before any memory is taken
+
+-- the method is one of the page's
+abbrev pub takes : Page → List ℕ → Bool
+takes page.Applications method = bytes_eq method (codes "GET")
+takes page.Application method = bytes_eq method (codes "GET") || bytes_eq method (codes "POST")
+takes page.Lease method = bytes_eq method (codes "GET") || bytes_eq method (codes "PUT") || bytes_eq method (codes "DELETE")
+takes page.LeaseStatus method = bytes_eq method (codes "PUT") || bytes_eq method (codes "DELETE")
+takes page.Batch method = bytes_eq method (codes "POST")
+takes page.StatusPage method = bytes_eq method (codes "GET")
+takes page.Config method = bytes_eq method (codes "PUT")
+
+-- the segments of the path that are to be names are names
+abbrev pub HasNames : Page → List ℕ → Type 0
+HasNames page.Application path = IsOk (app_at (last_segment path))
+HasNames page.Lease path = IsOk (key_at path)
+HasNames page.LeaseStatus path = IsOk (key_at (parent path))
+HasNames _ path = Unit {0}
+
+-- there is such a route; and where nothing in the path is encoded, its names are names
+abbrev pub IsKnown : Option Page → List ℕ → List ℕ → Type 0
+IsKnown None method path = ⊥
+IsKnown (Some page) method path = (takes page method ≡ true) × (IsUncoded path → HasNames page path)
 
 -- the route is what is asked for, and a fault is the one that is found; where memory ran out, nothing is known
 abbrev pub Reads : Result Route Fault → Result Asked Fault → Type 0

@@ -1,7 +1,8 @@
 //! What each method asks of each page.
-ghost use Rattle.std.specs.Prelude.{◌≡◌};
+ghost use Rattle.std.specs.Prelude.{◌≡◌, ◌≢◌, true, Err, IsOk, Some};
 ghost use Rattle.eu_routes.specs.Route as spec;
-ghost use Rattle.eu_routes.specs.Route.{Reads};
+ghost use Rattle.eu_routes.specs.Path.{app_at, key_at, IsUncoded};
+ghost use Rattle.eu_routes.specs.Route.{IsKnown, Reads};
 
 use crate::asks::Route;
 use crate::paths::{app_at, cut, key_at, path_of};
@@ -21,7 +22,8 @@ const OVERRIDDEN: &str = "overriddenstatus";
 
 #[tactic(auto, unfolding(crate::specs::Route::applications_ask))]
 fn ask_applications(method: &str) -> Result<Route, Fault>
-    ensures { Reads result (spec.applications_ask method.now) }
+    ensures said { Reads result (spec.applications_ask method.now) }
+    ensures memory { result ≢ Err Fault.OutOfMemory }
 {
     match method {
         "GET" => Ok(Route::All),
@@ -31,7 +33,8 @@ fn ask_applications(method: &str) -> Result<Route, Fault>
 
 #[tactic(auto, unfolding(crate::specs::Route::batch_ask))]
 fn ask_batch(method: &str) -> Result<Route, Fault>
-    ensures { Reads result (spec.batch_ask method.now) }
+    ensures said { Reads result (spec.batch_ask method.now) }
+    ensures memory { result ≢ Err Fault.OutOfMemory }
 {
     match method {
         "POST" => Ok(Route::Batch),
@@ -41,7 +44,8 @@ fn ask_batch(method: &str) -> Result<Route, Fault>
 
 #[tactic(auto, unfolding(crate::specs::Route::page_ask))]
 fn ask_page(method: &str) -> Result<Route, Fault>
-    ensures { Reads result (spec.page_ask method.now) }
+    ensures said { Reads result (spec.page_ask method.now) }
+    ensures memory { result ≢ Err Fault.OutOfMemory }
 {
     match method {
         "GET" => Ok(Route::StatusPage),
@@ -51,7 +55,8 @@ fn ask_page(method: &str) -> Result<Route, Fault>
 
 #[tactic(auto, unfolding(crate::specs::Route::config_ask))]
 fn ask_config(alloc: Global, method: &str, query: &str) -> Result<Route, Fault>
-    ensures { Reads result (spec.config_ask method.now query.now) }
+    ensures said { Reads result (spec.config_ask method.now query.now) }
+    ensures memory { result ≡ Err Fault.OutOfMemory → spec.takes Page.Config method.now ≡ true }
 {
     match method {
         "PUT" => Ok(Route::Reconfigure(config_at(alloc, query)?)),
@@ -61,7 +66,8 @@ fn ask_config(alloc: Global, method: &str, query: &str) -> Result<Route, Fault>
 
 #[tactic(auto, unfolding(crate::specs::Route::listing_ask))]
 fn ask_listing(alloc: Global, segment: &str) -> Result<Route, Fault>
-    ensures { Reads result (spec.listing_ask segment.now) }
+    ensures said { Reads result (spec.listing_ask segment.now) }
+    ensures memory { IsUncoded segment.now → result ≡ Err Fault.OutOfMemory → IsOk (app_at segment.now) }
 {
     if segment == "delta" {
         return Ok(Route::Delta);
@@ -71,7 +77,8 @@ fn ask_listing(alloc: Global, segment: &str) -> Result<Route, Fault>
 
 #[tactic(auto, unfolding(crate::specs::Route::application_ask))]
 fn ask_application(alloc: Global, method: &str, path: &str) -> Result<Route, Fault>
-    ensures { Reads result (spec.application_ask method.now path.now) }
+    ensures said { Reads result (spec.application_ask method.now path.now) }
+    ensures memory { result ≡ Err Fault.OutOfMemory → IsKnown (Some Page.Application) method.now path.now }
 {
     let (_, segment) = cut(path);
     match method {
@@ -83,7 +90,8 @@ fn ask_application(alloc: Global, method: &str, path: &str) -> Result<Route, Fau
 
 #[tactic(auto, unfolding(crate::specs::Route::renewal_ask))]
 fn ask_renewal(alloc: Global, path: &str, query: &str) -> Result<Route, Fault>
-    ensures { Reads result (spec.renewal_ask path.now query.now) }
+    ensures said { Reads result (spec.renewal_ask path.now query.now) }
+    ensures memory { IsUncoded path.now → result ≡ Err Fault.OutOfMemory → IsOk (key_at path.now) }
 {
     let key = key_at(alloc, path)?;
     let dirty = stamp_at(alloc, query, STAMP)?;
@@ -97,7 +105,8 @@ fn ask_renewal(alloc: Global, path: &str, query: &str) -> Result<Route, Fault>
 
 #[tactic(auto, unfolding(crate::specs::Route::lease_ask))]
 fn ask_lease(alloc: Global, method: &str, path: &str, query: &str) -> Result<Route, Fault>
-    ensures { Reads result (spec.lease_ask method.now path.now query.now) }
+    ensures said { Reads result (spec.lease_ask method.now path.now query.now) }
+    ensures memory { result ≡ Err Fault.OutOfMemory → IsKnown (Some Page.Lease) method.now path.now }
 {
     match method {
         "GET" => Ok(Route::One(key_at(alloc, path)?)),
@@ -109,7 +118,8 @@ fn ask_lease(alloc: Global, method: &str, path: &str, query: &str) -> Result<Rou
 
 #[tactic(auto, unfolding(crate::specs::Route::setting_ask))]
 fn ask_setting(alloc: Global, path: &str, query: &str) -> Result<Route, Fault>
-    ensures { Reads result (spec.setting_ask path.now query.now) }
+    ensures said { Reads result (spec.setting_ask path.now query.now) }
+    ensures memory { IsUncoded path.now → result ≡ Err Fault.OutOfMemory → IsOk (key_at path.now) }
 {
     let key = key_at(alloc, path)?;
     let Some(status) = status_at(alloc, query, STATUS)? else {
@@ -121,7 +131,8 @@ fn ask_setting(alloc: Global, path: &str, query: &str) -> Result<Route, Fault>
 
 #[tactic(auto, unfolding(crate::specs::Route::unsetting_ask))]
 fn ask_unsetting(alloc: Global, path: &str, query: &str) -> Result<Route, Fault>
-    ensures { Reads result (spec.unsetting_ask path.now query.now) }
+    ensures said { Reads result (spec.unsetting_ask path.now query.now) }
+    ensures memory { IsUncoded path.now → result ≡ Err Fault.OutOfMemory → IsOk (key_at path.now) }
 {
     let key = key_at(alloc, path)?;
     let status = status_at(alloc, query, STATUS)?;
@@ -131,7 +142,8 @@ fn ask_unsetting(alloc: Global, path: &str, query: &str) -> Result<Route, Fault>
 
 #[tactic(auto, unfolding(crate::specs::Route::status_ask))]
 fn ask_status(alloc: Global, method: &str, path: &str, query: &str) -> Result<Route, Fault>
-    ensures { Reads result (spec.status_ask method.now path.now query.now) }
+    ensures said { Reads result (spec.status_ask method.now path.now query.now) }
+    ensures memory { result ≡ Err Fault.OutOfMemory → IsKnown (Some Page.LeaseStatus) method.now path.now }
 {
     let (path, _) = cut(path);
     match method {
@@ -142,7 +154,9 @@ fn ask_status(alloc: Global, method: &str, path: &str, query: &str) -> Result<Ro
 }
 
 impl Routes {
-    ghost use Rattle.eu_routes.specs.Route.{Reads, route_of};
+    ghost use Rattle.eu_routes.specs.Path.{path_of};
+    ghost use Rattle.eu_routes.specs.Route.{IsKnown, Reads, route_of};
+    ghost use Rattle.eu_routes.specs.Table.{page_of};
 
     /// What a request asks for, by its method, and by its target's parts before and behind the first `?`.
     ///
@@ -167,11 +181,13 @@ impl Routes {
     ///
     /// The first that holds: `NoRoute` for any other request, `BadPath` where a segment is no name, `BadValue` where a stamp or
     /// a status isn't one, where `value` is missing from a PUT of a status, or where one of the four values of settings is missing or
-    /// past its limits (`Config::new`). `OutOfMemory` comes where memory is refused. The routes are those of Eureka's
+    /// past its limits (`Config::new`). `OutOfMemory` comes where memory is refused, but never in place of `NoRoute`, nor of `BadPath`
+    /// where nothing in the path is encoded. The routes are those of Eureka's
     /// `ApplicationsResource`, `ApplicationResource`, `InstanceResource` and `PeerReplicationResource`, and `status` and `config`,
     /// which are this registry's own.
     pub fn find(&self, alloc: Global, method: &str, path: &str, query: &str) -> Result<Route, Fault>
-        ensures { Reads result (route_of method.now path.now query.now) }
+        ensures said { Reads result (route_of method.now path.now query.now) }
+        ensures memory { result ≡ Err Fault.OutOfMemory → IsKnown (page_of (path_of path.now)) method.now (path_of path.now) }
     {
         let path = path_of(path);
         let Some(page) = self.page_at(path) else {

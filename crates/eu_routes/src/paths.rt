@@ -1,5 +1,5 @@
 //! The path of a target, and the names in its segments.
-ghost use Rattle.std.specs.Prelude.{◌≡◌, IfSome, IfNone, true, false, length, drop, IsAscii};
+ghost use Rattle.std.specs.Prelude.{◌≡◌, ◌≢◌, Err, IfErr, IfSome, IfNone, IsOk, OnOk, true, false, length, drop, IsAscii};
 ghost use Rattle.std.specs.Cow.{cow_str_bytes};
 ghost use Rattle.eu_routes.specs.Chain.{Gives};
 ghost use Rattle.eu_routes.specs.Path as spec;
@@ -69,10 +69,11 @@ pub fn cut(path: &str) -> (&str, &str)
     }
 }
 
-/// The text that a segment stands for. `BadPath` where it isn't UTF-8 once it is decoded; `OutOfMemory`.
+/// The text that a segment stands for. `BadPath` where it isn't UTF-8 once it is decoded; `OutOfMemory`, where something is encoded.
 #[tactic(auto, unfolding(crate::specs::Path::text_at))]
 fn text_at(alloc: Global, segment: &str) -> Result<CowStr<'_, Global>, Fault>
-    ensures { Gives cow_str_bytes result (spec.text_at segment.now) }
+    ensures said { Gives cow_str_bytes result (spec.text_at segment.now) }
+    ensures memory { spec.IsUncoded segment.now → result ≢ Err Fault.OutOfMemory }
 {
     match percent_decode_str(segment).decode_utf8(alloc) {
         Ok(text) => Ok(text),
@@ -81,56 +82,85 @@ fn text_at(alloc: Global, segment: &str) -> Result<CowStr<'_, Global>, Fault>
     }
 }
 
-/// The application of that name. `BadPath` where it is no name; `OutOfMemory`.
+/// `BadPath` where a text is no name: where it hasn't 1 to 255 bytes. Takes no memory.
+fn judge(text: &str) -> Result<(), Fault>
+    ensures name { OnOk result (spec.is_name text.now ≡ true) }
+    ensures other { IfErr result (λ f. (f ≡ Fault.BadPath) × (spec.is_name text.now ≡ false)) }
+{
+    if text.is_empty() || text.len() > 255 {
+        return Err(Fault::BadPath);
+    }
+    Ok(())
+}
+
+/// The application of that name. `BadPath` where it is no name; else `OutOfMemory`.
 #[tactic(auto, unfolding(crate::specs::Path::app_of, crate::specs::Path::as_name))]
 fn app_of(alloc: Global, text: &str) -> Result<App, Fault>
-    ensures { Gives (λ a. a) result (spec.app_of text.now) }
+    ensures said { Gives (λ a. a) result (spec.app_of text.now) }
+    ensures memory { result ≡ Err Fault.OutOfMemory → IsOk (spec.app_of text.now) }
 {
+    judge(text)?;
     match App::read(alloc, text) {
         Ok(app) => Ok(app),
-        Err(Fault::OutOfMemory) => Err(Fault::OutOfMemory),
-        Err(_) => Err(Fault::BadPath),
+        Err(_) => Err(Fault::OutOfMemory),
     }
 }
 
-/// The id of that name. `BadPath` where it is no name; `OutOfMemory`.
+/// The id of that name. `BadPath` where it is no name; else `OutOfMemory`.
 #[tactic(auto, unfolding(crate::specs::Path::as_name))]
 fn id_of(alloc: Global, text: &str) -> Result<Id, Fault>
-    ensures { Gives (λ i. i) result (spec.as_name text.now) }
+    ensures said { Gives (λ i. i) result (spec.as_name text.now) }
+    ensures memory { result ≡ Err Fault.OutOfMemory → IsOk (spec.as_name text.now) }
 {
+    judge(text)?;
     match Id::read(alloc, text) {
         Ok(id) => Ok(id),
-        Err(Fault::OutOfMemory) => Err(Fault::OutOfMemory),
-        Err(_) => Err(Fault::BadPath),
+        Err(_) => Err(Fault::OutOfMemory),
     }
 }
 
-/// The application that a segment names. `BadPath` where it names none; `OutOfMemory`.
+/// The application that a segment names. `BadPath` where it names none; `OutOfMemory`, but not in place of that where nothing in the
+/// segment is encoded.
 #[tactic(auto, unfolding(crate::specs::Path::app_at))]
 pub fn app_at(alloc: Global, segment: &str) -> Result<App, Fault>
-    ensures { Gives (λ a. a) result (spec.app_at segment.now) }
+    ensures said { Gives (λ a. a) result (spec.app_at segment.now) }
+    ensures memory { spec.IsUncoded segment.now → result ≡ Err Fault.OutOfMemory → IsOk (spec.app_at segment.now) }
 {
     let text = text_at(alloc, segment)?;
     app_of(alloc, text.as_str())
 }
 
-/// The id that a segment names. `BadPath` where it names none; `OutOfMemory`.
-#[tactic(auto, unfolding(crate::specs::Path::id_at))]
-fn id_at(alloc: Global, segment: &str) -> Result<Id, Fault>
-    ensures { Gives (λ i. i) result (spec.id_at segment.now) }
+/// The lease of those names. `BadPath` where one of them is no name, which takes no memory; else `OutOfMemory`.
+#[tactic(auto, unfolding(crate::specs::Path::key_of, crate::specs::Path::app_of, crate::specs::Path::as_name))]
+fn key_of(alloc: Global, app: &str, id: &str) -> Result<Key, Fault>
+    ensures said { Gives (λ k. k) result (spec.key_of app.now id.now) }
+    ensures memory { result ≡ Err Fault.OutOfMemory → IsOk (spec.key_of app.now id.now) }
 {
-    let text = text_at(alloc, segment)?;
-    id_of(alloc, text.as_str())
+    judge(app)?;
+    judge(id)?;
+    let app = app_of(alloc, app)?;
+    let id = id_of(alloc, id)?;
+    Ok(Key { app, id })
 }
 
-/// The lease that the last two segments of a path name. `BadPath` where one of them is no name; `OutOfMemory`.
-#[tactic(auto, unfolding(crate::specs::Path::key_at))]
-pub fn key_at(alloc: Global, path: &str) -> Result<Key, Fault>
-    ensures { Gives (λ k. k) result (spec.key_at path.now) }
+/// The last two segments of a path: an application's, and an id's.
+fn segments(path: &str) -> (&str, &str)
+    ensures app { result.0.now ≡ spec.last_segment (spec.parent path.now) }
+    ensures id { result.1.now ≡ spec.last_segment path.now }
 {
-    let (path, id) = cut(path);
-    let (_, app) = cut(path);
-    let app = app_at(alloc, app)?;
-    let id = id_at(alloc, id)?;
-    Ok(Key { app, id })
+    let (before, id) = cut(path);
+    let (_, app) = cut(before);
+    (app, id)
+}
+
+/// The lease that the last two segments of a path name. `BadPath` where one of them is no name; `OutOfMemory`, but not in place of
+/// that where nothing in the path is encoded.
+pub fn key_at(alloc: Global, path: &str) -> Result<Key, Fault>
+    ensures said { Gives (λ k. k) result (spec.key_at path.now) }
+    ensures memory { spec.IsUncoded path.now → result ≡ Err Fault.OutOfMemory → IsOk (spec.key_at path.now) }
+{
+    let (app, id) = segments(path);
+    let app = text_at(alloc, app)?;
+    let id = text_at(alloc, id)?;
+    key_of(alloc, app.as_str(), id.as_str())
 }

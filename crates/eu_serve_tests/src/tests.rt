@@ -543,6 +543,43 @@ fn a_pass_in_time_grants_nothing(rt: HostRuntime) -> Result<(), Fail> {
     Ok(())
 }
 
+/// Settings whose interval between two passes is some fifty days.
+const OTHER_SETTINGS: &str =
+    "PUT /eureka/config?preservation=off&percent=85&interval=30&evictMs=4294967295 HTTP/1.1\r\nHost: x\r\nConnection: close\r\n\r\n";
+
+/// Whether a client that registers for a second, and then changes the settings, is evicted within the next seconds.
+fn is_evicted_all_the_same<R: Net<Stream = TcpStream> + Clock>(
+    rt: &R,
+    alloc: Global,
+    address: SocketAddr,
+) -> io::Result<bool> {
+    let registered = is_answered(rt, alloc, address, FOR_A_SECOND, REGISTERED);
+    let changed = is_answered(rt, alloc, address, OTHER_SETTINGS, RENEWED);
+    let last = TcpStream::connect(rt, address)?;
+    thread::sleep(rt, Duration::from_millis(4_000));
+    Ok(registered && changed && is_answered_on(alloc, last, LOOK, EMPTY))
+}
+
+/// The evictor goes on at the pace that the server was started with.
+#[test]
+fn a_change_of_the_settings_leaves_the_pace(rt: HostRuntime) -> Result<(), Fail> {
+    let (listener, address) = listen(&rt)?;
+    let mut plan = plan(3, 10_000)?;
+    plan.config = Config::new(false, 85, 30, 500)?;
+    plan.periods = Periods {
+        evictor: 500,
+        bucket: 900_000,
+        threshold: 900_000,
+    };
+    let (alloc, machine) = (rt.alloc(), &rt);
+    let (out, evicted) = beside(machine, alloc, &listener, &plan, move || {
+        is_evicted_all_the_same(machine, alloc, address)
+    });
+    assert!(rt; evicted?);
+    assert!(rt; out?.as_slice() == b"served 3\n".as_slice());
+    Ok(())
+}
+
 #[test]
 fn a_failed_accept_ends_the_server(rt: HostRuntime) -> Result<(), Fail> {
     let (listener, address) = listen(&rt)?;

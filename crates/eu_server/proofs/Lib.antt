@@ -2,3 +2,4 @@ pub mod Desks
 pub mod Alike
 pub mod Scripts
 pub mod Audits
+pub mod Texts

@@ -1,11 +1,11 @@
 -- A desk runs a script as the lease machine does
-use Rattle.std.proofs.Common.{◌≡◌, ℕ, Bool, false, List, Option, None, Result, Ok, Err, sym, subst, ◌∙◌}
-use Rattle.std.proofs.lemmas.Bool.{true≢false}
+use Rattle.std.proofs.Common.{◌≡◌, ℕ, Bool, List, length, Option, None, Result, Ok, Err, refl, sym, subst, ◌∙◌, inr, arith}
+use Rattle.std.proofs.Math.Seq.{take-length}
 use Rattle.eu_base.specs.declared.settings.Config.{Config}
 use Rattle.eu_lines.specs.declared.faults.ScriptFault.{ScriptFault}
-use Rattle.eu_lines.specs.declared.faults.ScriptFault.TheVariants.{BadLine, Read, Write, OutOfMemory}
+use Rattle.eu_lines.specs.declared.faults.ScriptFault.TheVariants.{OutOfMemory}
 use Rattle.eu_lines.specs.Lines.{lines_of}
-use Rattle.eu_lines.specs.Script.{Outcome}
+use Rattle.eu_lines.specs.Script.{Outcome, Printed}
 use Rattle.eu_server.specs.declared.desk.Desk.{Desk}
 use Rattle.eu_server.specs.Desk.{DeskAnswers, DeskRefuses, HoldsRun, Keeps, Leaves}
 use Rattle.eu_server.specs.Script.{Ran, Answers, Refuses, ScriptRuns}
@@ -32,16 +32,23 @@ module _ {C : Type 0} (config : Config) (asks : C → ℕ → ℕ × C) where
   runs d d' x x' left failed_reader failed_writer read result out same closed p =
       outcome (DeskAnswers asks) DeskRefuses (Answers config asks) Refuses IsAt both bad d d' None x x' left failed_reader failed_writer read result out (same, subst (λ b. HoldsRun b None) (sym closed) tt) p
 
-  module _ (d d' : Desk) (x x' : C) (left : Option (List ℕ)) (failed_reader : Bool) (read out : List ℕ) (same : d.config ≡ config) (closed : d.book ≡ None) where
-    -- the same where its printed lines go nowhere: it was answered whole, and the desk keeps the account of its run
-    pub leaves : Outcome (DeskAnswers asks) DeskRefuses d x d' x' left failed_reader false read (Ok tt) out → Leaves config asks x x' left failed_reader read (Ok d')
-    leaves p =
-        let r = printed (DeskAnswers asks) DeskRefuses (Answers config asks) Refuses IsAt both bad d None x (lines_of read) out d' x' (same, subst (λ b. HoldsRun b None) (sym closed) tt) p.2 in
-        (r.0, (out, (p.0, p.1, r.1)), r.2.1)
+  -- where it was answered whole, the desk keeps the account of its run
+  pub leaves : (d d' : Desk) (x x' : C) (left : Option (List ℕ)) (failed_reader failed_writer : Bool) (read out : List ℕ) → d.config ≡ config → d.book ≡ None
+      → Outcome (DeskAnswers asks) DeskRefuses d x d' x' left failed_reader failed_writer read (Ok tt) out
+      → Leaves config asks x x' left failed_reader failed_writer read (Ok d') out
+  leaves d d' x x' left failed_reader failed_writer read out same closed p =
+      let r = printed (DeskAnswers asks) DeskRefuses (Answers config asks) Refuses IsAt both bad d None x (lines_of read) out d' x' (same, subst (λ b. HoldsRun b None) (sym closed) tt) p.2 in
+      (r.0, (p.0, p.1, r.1), r.2.1)
 
-    -- or it ended by a fault
-    pub ends : (f : ScriptFault) → Outcome (DeskAnswers asks) DeskRefuses d x d' x' left failed_reader false read (Err f) out → Leaves config asks x x' left failed_reader read (Err f)
-    ends Write p = absurd (true≢false (sym p.2.0))
-    ends (BadLine n) p = let r = runs d d' x x' left failed_reader false read (Err (BadLine n)) out same closed p in (r.0, (out, r.1))
-    ends Read p = let r = runs d d' x x' left failed_reader false read (Err Read) out same closed p in (r.0, (out, r.1))
-    ends OutOfMemory p = let r = runs d d' x x' left failed_reader false read (Err OutOfMemory) out same closed p in (r.0, (out, r.1))
+  -- a desk that a script left let it end so
+  pub left_so : (d : Desk) (x x' : C) (left : Option (List ℕ)) (failed_reader failed_writer : Bool) (read out : List ℕ)
+      → Leaves config asks x x' left failed_reader failed_writer read (Ok d) out → ScriptRuns config asks x x' left failed_reader failed_writer read (Ok tt) out
+  left_so d x x' left failed_reader failed_writer read out leaves = (leaves.0, leaves.1)
+
+  -- and the same script may end for want of memory, once its lines are answered
+  pub without_memory : (x x' : C) (left : Option (List ℕ)) (failed_reader failed_writer : Bool) (read out : List ℕ) (end : Option Ran)
+      → Outcome (Answers config asks) Refuses None x end x' left failed_reader failed_writer read (Ok tt) out
+      → ScriptRuns config asks x x' left failed_reader failed_writer read (Err OutOfMemory) out
+  without_memory x x' left failed_reader failed_writer read out end whole =
+      let lines = lines_of read in
+      (end, (read, inr (refl, whole.0, whole.1), (length lines, omega arith, end, x', subst (λ l. Printed (Answers config asks) None x l out end x') (sym (take-length lines)) whole.2)))

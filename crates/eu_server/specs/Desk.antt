@@ -6,10 +6,12 @@ use Rattle.eu_book.specs.Account.{Account}
 use Rattle.eu_book.specs.Peers.{state_of}
 use Rattle.eu_lines.specs.declared.faults.ScriptFault.{ScriptFault}
 use Rattle.eu_lines.specs.declared.faults.ScriptFault.TheVariants.{OutOfMemory, Write}
+use Rattle.eu_lines.specs.Script.{Outcome}
+use Rattle.eu_journal_text.specs.Text.{journal_text}
 use Rattle.eu_model.specs.Server.{plain_server}
 use Rattle.eu_server.specs.declared.desk.Desk.{Desk}
-use Rattle.eu_server.specs.Audit.{Journals, SilentlyRuns, audit_text}
-use Rattle.eu_server.specs.Script.{Ran, Answers, Refuses, SaysClosed, SaysOpened, Tells}
+use Rattle.eu_server.specs.Audit.{Journals}
+use Rattle.eu_server.specs.Script.{Ran, Answers, Refuses, ScriptRuns, SaysClosed, SaysOpened, Tells}
 use Rattle.eu_words.specs.Lines.{Said}
 use Rattle.eu_words.specs.Lines.Said.{Register, Renew, Cancel, SetStatus, UnsetStatus, Adopt, Roll, Update, Reconfigure, Evict, Drain, Landed, Lost}
 
@@ -94,16 +96,20 @@ abbrev pub Audits : Option Account → Bool → ℕ → Type 0
 Audits None answer n = (answer ≡ true) × (n ≡ 0)
 Audits (Some a) answer n = (n ≡ length a.entries) × (IsTrue answer ↔ IsRun (state_of a.base) a.entries (state_of a.state))
 
--- The line of that answer was written: all of it, or a front, where the writer failed; and nothing where there was no memory for it
-abbrev pub TellsVerdict : Bool → ℕ → Bool → Result (Unit {0}) ScriptFault → List ℕ → Type 0
-TellsVerdict answer n failed (Ok u) out = out ≡ audit_text answer n
-TellsVerdict answer n failed (Err Write) out = (failed ≡ true) × (k : ℕ) × (out ≡ take k (audit_text answer n))
-TellsVerdict answer n failed (Err OutOfMemory) out = out ≡ []
-TellsVerdict answer n failed (Err _) out = ⊥
+-- the text of the journal of an account; where there is none, nothing
+abbrev pub text_of : Option Account → List ℕ
+text_of None = []
+text_of (Some a) = journal_text (state_of a.base) a.entries (state_of a.state)
 
--- A script whose printed lines go nowhere ended so: with a desk that keeps the account of its run, or by a fault, which no writer made
-module _ {C : Type 0} (config : Config) (asks : C → ℕ → ℕ × C) (x x' : C) (left : Option (List ℕ)) (failed_reader : Bool) (read : List ℕ) where
-  abbrev pub Leaves : Result Desk ScriptFault → Type 0
-  Leaves (Ok d) = (end : Option Ran) × SilentlyRuns config asks x x' left failed_reader read (Ok tt) end × Keeps d end
-  Leaves (Err Write) = ⊥
-  Leaves (Err fault) = (end : Option Ran) × SilentlyRuns config asks x x' left failed_reader read (Err fault) end
+-- A text was written: all of it, or a front, where the writer failed; and nothing where there was no memory for it
+abbrev pub Writes : List ℕ → Bool → Result (Unit {0}) ScriptFault → List ℕ → Type 0
+Writes text failed (Ok u) out = out ≡ text
+Writes text failed (Err Write) out = (failed ≡ true) × (k : ℕ) × (out ≡ take k text)
+Writes text failed (Err OutOfMemory) out = out ≡ []
+Writes text failed (Err _) out = ⊥
+
+-- A script ended so: with a desk that keeps the account of its run, or by a fault. It wrote out
+module _ {C : Type 0} (config : Config) (asks : C → ℕ → ℕ × C) (x x' : C) (left : Option (List ℕ)) (failed_reader failed_writer : Bool) (read : List ℕ) where
+  abbrev pub Leaves : Result Desk ScriptFault → List ℕ → Type 0
+  Leaves (Ok d) out = (end : Option Ran) × Outcome (Answers config asks) Refuses None x end x' left failed_reader failed_writer read (Ok tt) out × Keeps d end
+  Leaves (Err fault) out = ScriptRuns config asks x x' left failed_reader failed_writer read (Err fault) out

@@ -2,34 +2,18 @@
 ghost use Rattle.std.specs.Prelude.{ℕ, Bool, List, ◌≡◌, OnOk, OnErr, true, take};
 ghost use Rattle.std.specs.Io.KnownBytes.{Appends, Consumes};
 ghost use Rattle.eu_lines.specs.Script.{Wrote};
-ghost use Rattle.eu_server.specs.Audit.{AuditRuns};
-ghost use Rattle.eu_server.specs.Desk.{Leaves, TellsVerdict};
+ghost use Rattle.eu_server.specs.Audit.{AuditRuns, audit_text};
+ghost use Rattle.eu_server.specs.Desk.{Writes};
 
-use crate::desk::{Desk, Verdict};
+use crate::desk::Verdict;
 use crate::printing::print_audit;
+use crate::script::answer_whole;
 use eu_base::Config;
 use eu_clock::Chooser;
-use eu_lines::{ScriptFault, answer_lines};
+use eu_lines::ScriptFault;
 use eu_stream::{Discarding, Reading, Sink, Source, WriteFault, Writing, write_whole};
 use std::alloc::Global;
 use std::io::{Read, Write};
-
-/// Has a desk answer a script to its end, and lets go what the lines print. Fails as `answer_audit` does, but never by `Write`.
-fn answer_silently<R: Source, C: Chooser>(
-    alloc: Global,
-    reader: &mut R,
-    config: Config,
-    chooser: &mut C,
-) -> Result<Desk, ScriptFault>
-    ensures leaves { (read : List ℕ) × Consumes (R.remaining reader.old) (R.remaining reader.new) read
-        × Leaves config C.asks chooser.old chooser.new (R.remaining reader.new) (R.failed reader.new) read result }
-    ensures sound_reader { OnOk result (R.failed reader.new ≡ R.failed reader.old) }
-    ensures same_reader { R.stream reader.new ≡ R.stream reader.old }
-{
-    let mut desk = Desk::new(config);
-    answer_lines(alloc, reader, &mut Discarding, &mut desk, chooser)?;
-    Ok(desk)
-}
 
 /// Writes a text, and flushes it.
 fn write_flushed<W: Sink>(writer: &mut W, text: &[u8]) -> Result<(), WriteFault>
@@ -45,7 +29,7 @@ fn write_flushed<W: Sink>(writer: &mut W, text: &[u8]) -> Result<(), WriteFault>
 
 /// Writes the line of a verdict, and flushes it. `OutOfMemory` comes before anything is written, `Write` where a write or a flush failed.
 fn tell_verdict<W: Sink>(alloc: Global, writer: &mut W, verdict: Verdict) -> Result<(), ScriptFault>
-    ensures told { Wrote (W.contents writer.old) (W.contents writer.new) (TellsVerdict verdict.is_run verdict.entries (W.failed writer.new) result) }
+    ensures told { Wrote (W.contents writer.old) (W.contents writer.new) (Writes (audit_text verdict.is_run verdict.entries) (W.failed writer.new) result) }
     ensures sound { OnOk result (W.failed writer.new ≡ W.failed writer.old) }
     ensures same_stream { W.stream writer.new ≡ W.stream writer.old }
 {
@@ -81,7 +65,7 @@ pub fn answer_audit<R: Source, W: Sink, C: Chooser>(
     ensures same_reader { R.stream reader.new ≡ R.stream reader.old }
     ensures same_writer { W.stream writer.new ≡ W.stream writer.old }
 {
-    let desk = answer_silently(alloc, reader, config, chooser)?;
+    let desk = answer_whole(alloc, reader, &mut Discarding, config, chooser)?;
     let verdict = desk.judge(alloc)?;
     tell_verdict(alloc, writer, verdict)?;
     Ok(verdict.is_run)

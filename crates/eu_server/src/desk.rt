@@ -1,5 +1,6 @@
 //! A book that answers the lines of a script.
 ghost use Rattle.std.specs.Prelude.{◌≡◌, ◌≢◌, ◌++◌, [], None, OnOk, IfOk, IfErr, IfSome, Err, IsTrue, not, string_bytes};
+ghost use Rattle.eu_lines.specs.Script.{Wrote};
 ghost use Rattle.eu_server.specs.Texts.{answer_text, settled_text};
 ghost use Rattle.eu_model.specs.Answers.{Shows};
 ghost use Rattle.eu_model.specs.View.{counts, listing};
@@ -7,7 +8,7 @@ ghost use Rattle.eu_page.specs.Page.{shown_page};
 ghost use Rattle.eu_words.specs.Lines.{said_of};
 ghost use Rattle.eu_words.specs.Lines.Said.{Open};
 ghost use Rattle.eu_server.specs.Script.{opens, Commands};
-ghost use Rattle.eu_server.specs.Desk.{Audits, DeskAnswers, DeskRefuses, ClosedAnswers, OpenedAnswers, Told, commands, is_of_peer, is_stamped, is_of_status};
+ghost use Rattle.eu_server.specs.Desk.{Audits, DeskAnswers, DeskRefuses, ClosedAnswers, OpenedAnswers, Told, Writes, commands, is_of_peer, is_stamped, is_of_status, text_of};
 
 use crate::printing::{print_counts, print_look, print_page, print_refusal, print_reply};
 use eu_audit::audit;
@@ -15,8 +16,10 @@ use eu_base::{Config, Fault, Moment};
 use eu_book::{Book, Receipt};
 use eu_clock::Chooser;
 use eu_core::Registry;
-use eu_lines::{Answerer, LineError};
+use eu_journal_text::{WriteError, write_journal};
+use eu_lines::{Answerer, LineError, ScriptFault};
 use eu_model::Command;
+use eu_stream::Sink;
 use eu_words::{Line, Opening, read_line};
 use std::alloc::{AllocError, Global};
 
@@ -68,6 +71,26 @@ impl Desk {
             is_run,
             entries: entries.len(),
         })
+    }
+
+    /// Writes the text of the book's journal (`eu_journal_text::write_journal`): its base, its entries, and the state in which the
+    /// book is. Before the registry is open there is none, and nothing is written. `OutOfMemory` where no memory is left: nothing
+    /// was written then. `Write` where a write failed, now or before: a front of the text is written then.
+    pub fn write_journal<J: Sink>(&self, alloc: Global, journal: &mut J) -> Result<(), ScriptFault>
+        ensures wrote { Wrote (J.contents journal.old) (J.contents journal.new) (Writes (text_of self.now.book) (J.failed journal.new) result) }
+        ensures sound { OnOk result (J.failed journal.new ≡ J.failed journal.old) }
+        ensures same_stream { J.stream journal.new ≡ J.stream journal.old }
+    {
+        let Some(book) = self.book.as_ref() else {
+            return Ok(());
+        };
+        let kept = book.journal();
+        let end = book.state(alloc)?;
+        match write_journal(alloc, journal, &kept.base, kept.entries.as_slice(), &end) {
+            Ok(()) => Ok(()),
+            Err(WriteError::Write) => Err(ScriptFault::Write),
+            Err(WriteError::OutOfMemory) => Err(ScriptFault::OutOfMemory),
+        }
     }
 
     /// Answers a line before the registry is open: opens it. `Bad` where the line doesn't say that; `OutOfMemory`.

@@ -2,6 +2,7 @@
 ghost use Rattle.std.specs.Prelude.{ℕ, Bool, List, ◌≡◌, OnOk};
 ghost use Rattle.std.specs.Io.KnownBytes.{Consumes};
 ghost use Rattle.eu_lines.specs.Script.{Wrote};
+ghost use Rattle.eu_server.specs.Desk.{Leaves};
 ghost use Rattle.eu_server.specs.Script.{ScriptRuns};
 
 use crate::desk::Desk;
@@ -11,6 +12,27 @@ use eu_lines::{ScriptFault, answer_lines};
 use eu_stream::{Reading, Sink, Source, Writing};
 use std::alloc::Global;
 use std::io::{Read, Write};
+
+/// Has a desk answer a script to its end, as `answer_script` does and with its faults, and hands the desk out.
+pub fn answer_whole<R: Source, W: Sink, C: Chooser>(
+    alloc: Global,
+    reader: &mut R,
+    writer: &mut W,
+    config: Config,
+    chooser: &mut C,
+) -> Result<Desk, ScriptFault>
+    ensures leaves { (read : List ℕ) × Consumes (R.remaining reader.old) (R.remaining reader.new) read
+        × Wrote (W.contents writer.old) (W.contents writer.new)
+        (Leaves config C.asks chooser.old chooser.new (R.remaining reader.new) (R.failed reader.new) (W.failed writer.new) read result) }
+    ensures sound_reader { OnOk result (R.failed reader.new ≡ R.failed reader.old) }
+    ensures sound_writer { OnOk result (W.failed writer.new ≡ W.failed writer.old) }
+    ensures same_reader { R.stream reader.new ≡ R.stream reader.old }
+    ensures same_writer { W.stream writer.new ≡ W.stream writer.old }
+{
+    let mut desk = Desk::new(config);
+    answer_lines(alloc, reader, writer, &mut desk, chooser)?;
+    Ok(desk)
+}
 
 /// Runs a script: reads lines to its end, has a registry with these settings answer them, and writes what they print.
 ///
@@ -78,10 +100,9 @@ pub fn answer_script<R: Source, W: Sink, C: Chooser>(
     ensures same_reader { R.stream reader.new ≡ R.stream reader.old }
     ensures same_writer { W.stream writer.new ≡ W.stream writer.old }
 {
-    let mut desk = Desk::new(config);
-    let result = answer_lines(alloc, reader, writer, &mut desk, chooser);
+    let desk = answer_whole(alloc, reader, writer, config, chooser)?;
     drop(desk);
-    result
+    Ok(())
 }
 
 /// Runs a script as `answer_script` does, over any reader and writer of std.

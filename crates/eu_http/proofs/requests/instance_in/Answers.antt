@@ -8,7 +8,7 @@ use Rattle.eu_http.proofs.requests.instance_in.Goals as goal
 pub returns-in-Ok : goal.returns-in-Ok
 returns-in-Ok c =
     let text = c.in-Ok.ensures.cases in
-    rw (of_text c.args.body.now (instance_of c.args.app.now c.args.moment c.args.body.now) (Err NotJson) text.1, ← text.0) (read_as fields_of c.read_instance.result _ c.read_instance.ensures)
+    rw (of_text c.args.body.now (instance_of c.args.app.now c.args.moment c.args.body.now) (Err NotJson) text.1, ← text.0) (read_as fields_of c.read_instance.result _ c.read_instance.ensures.said)
 
 pub returns-in-Err : goal.returns-in-Err
 returns-in-Err c = λ other. of_bytes c.args.body.now _ _ c.in-Err.ensures.cases.0

@@ -8,3 +8,6 @@ of_object-requires c = record {
   members = sym c.is_object.ensures ∙ c.if-not-is_object.false;
   whole = whole_get (codes "instance") (view c.in_ok-body.body) (view c.in-Some.instance) (sym c.has_fraction-fraction.ensures ∙ c.if-fraction.false) (sym c.in-Some.ensures);
 }
+
+pub returns-clause-memory : goal.returns-clause-memory
+returns-clause-memory c = λ _. c.in_ok-body.ensures.filled

@@ -1,7 +1,7 @@
 use Rattle.std.proofs.Common.{sym, subst}
 use Rattle.std.specs.FinMap.{get}
 use Rattle.eu_model.specs.Kept.{after, kept_adopt}
-use Rattle.eu_audit.specs.Changed.{change_of}
+use Rattle.eu_audit_changes.specs.Changed.{change_of}
 use Rattle.eu_audit.specs.Verdict.{IsWithinLimits}
 use Rattle.eu_audit.proofs.JudgeLemmas.{accepted}
 use Rattle.eu_audit.proofs.LimitLemmas.{adopt_limits}

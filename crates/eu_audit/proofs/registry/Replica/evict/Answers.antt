@@ -19,4 +19,4 @@ returns c =
     let extra = c.extra_time-extra.ensures ∙ ap (λ (q : Plain). extra_time q.config q.previous t) c.self.view_is in
     let judged = subst (λ x. Judged (λ new. (takes p.leases t x vs ≡ true) × (new ≡ kept_evicted p t vs)) next) extra c.without.ensures in
     subst (λ reply. Judged (PlainStep p Evict t reply) next) (ap Evicted c.as_slice-victims.ensures ∙ sym c.in-Evicted.is)
-    (by_victims p t vs (c.if-victims-number_evicted.false ∙ c.number_evicted.ensures) next judged)
+    (by_victims p t vs (c.evicts_as_many.ensures.0 c.if-not-evicts_as_many.false) next judged)

@@ -4,7 +4,7 @@ use Rattle.std.specs.FinMap.{get}
 use Rattle.eu_model.specs.Change.{Change}
 use Rattle.eu_model.specs.declared.views.Listed.{Listed}
 use Rattle.eu_model.specs.Kept.{after, kept_renew, kept_renew_fault}
-use Rattle.eu_audit.specs.Changed.{change_of}
+use Rattle.eu_audit_changes.specs.Changed.{change_of}
 use Rattle.eu_audit.specs.Verdict.{IsWithinLimits}
 use Rattle.eu_audit.proofs.JudgeLemmas.{accepted}
 use Rattle.eu_audit.proofs.LimitLemmas.{renew_limits}

@@ -1,7 +1,7 @@
 use Rattle.std.proofs.Common.{Bool, sym, subst}
 use Rattle.std.specs.FinMap.{get}
 use Rattle.eu_model.specs.Kept.{after, kept_one, kept_set_status}
-use Rattle.eu_audit.specs.Changed.{change_of}
+use Rattle.eu_audit_changes.specs.Changed.{change_of}
 use Rattle.eu_audit.specs.PlainRuns.{Becomes}
 use Rattle.eu_audit.specs.Verdict.{Judged, IsWithinLimits}
 use Rattle.eu_audit.proofs.JudgeLemmas.{becomes, for_any}

@@ -10,36 +10,36 @@ use Rattle.eu_audit.proofs.registry.Replica.step.Goals as goal
 
 pub returns-in-Cancel : goal.returns-in-Cancel
 returns-in-Cancel c =
-    let judged : Command → Option Plain → Type 0 = λ command. Judged (PlainStep c.args.self command c.args.moment c.args.reply.now) in
+    let judged : Command → Option Plain → Type 0 = λ command. Judged (PlainStep c.args.self command c.args.entry.now.moment c.args.entry.now.reply) in
     let k = c.in-Cancel.key in
     subst (λ command. IfOk c.cancel.result (judged command)) (sym c.in-Cancel.is)
-    (of_any (λ t. Judged (PlainStep c.args.self (Cancel k c.in-Cancel.replicated) t c.args.reply.now)) c.args.moment c.cancel.result
-    (of_any (λ replicated next. (t : ℕ) → Judged (PlainStep c.args.self (Cancel k replicated) t c.args.reply.now) next) c.in-Cancel.replicated c.cancel.result c.cancel.ensures))
+    (of_any (λ t. Judged (PlainStep c.args.self (Cancel k c.in-Cancel.replicated) t c.args.entry.now.reply)) c.args.entry.now.moment c.cancel.result
+    (of_any (λ replicated next. (t : ℕ) → Judged (PlainStep c.args.self (Cancel k replicated) t c.args.entry.now.reply) next) c.in-Cancel.replicated c.cancel.result c.cancel.ensures))
 
 pub returns-in-SetStatus : goal.returns-in-SetStatus
 returns-in-SetStatus c =
-    let judged : Command → Option Plain → Type 0 = λ command. Judged (PlainStep c.args.self command c.args.moment c.args.reply.now) in
+    let judged : Command → Option Plain → Type 0 = λ command. Judged (PlainStep c.args.self command c.args.entry.now.moment c.args.entry.now.reply) in
     subst (λ command. IfOk c.set_status.result (judged command)) (sym c.in-SetStatus.is)
     (of_any (λ replicated. judged (SetStatus c.in-SetStatus.key c.in-SetStatus.status c.in-SetStatus.dirty replicated)) c.in-SetStatus.replicated c.set_status.result c.set_status.ensures)
 
 pub returns-in-UnsetStatus : goal.returns-in-UnsetStatus
 returns-in-UnsetStatus c =
-    let judged : Command → Option Plain → Type 0 = λ command. Judged (PlainStep c.args.self command c.args.moment c.args.reply.now) in
+    let judged : Command → Option Plain → Type 0 = λ command. Judged (PlainStep c.args.self command c.args.entry.now.moment c.args.entry.now.reply) in
     subst (λ command. IfOk c.unset_status.result (judged command)) (sym c.in-UnsetStatus.is)
     (of_any (λ replicated. judged (UnsetStatus c.in-UnsetStatus.key c.in-UnsetStatus.status c.in-UnsetStatus.dirty replicated)) c.in-UnsetStatus.replicated c.unset_status.result c.unset_status.ensures)
 
 pub returns-in-Roll : goal.returns-in-Roll
 returns-in-Roll c =
-    subst (λ command. Judged (PlainStep c.args.self command c.args.moment c.args.reply.now) c.roll.result) (sym c.in-Roll.is) (c.roll.ensures c.args.moment)
+    subst (λ command. Judged (PlainStep c.args.self command c.args.entry.now.moment c.args.entry.now.reply) c.roll.result) (sym c.in-Roll.is) (c.roll.ensures c.args.entry.now.moment)
 
 pub returns-in-Update : goal.returns-in-Update
 returns-in-Update c =
-    subst (λ command. Judged (PlainStep c.args.self command c.args.moment c.args.reply.now) c.update.result) (sym c.in-Update.is) (c.update.ensures c.args.moment)
+    subst (λ command. Judged (PlainStep c.args.self command c.args.entry.now.moment c.args.entry.now.reply) c.update.result) (sym c.in-Update.is) (c.update.ensures c.args.entry.now.moment)
 
 pub returns-in-Reconfigure : goal.returns-in-Reconfigure
 returns-in-Reconfigure c =
-    subst (λ command. Judged (PlainStep c.args.self command c.args.moment c.args.reply.now) c.reconfigure.result) (sym c.in-Reconfigure.is) (c.reconfigure.ensures c.args.moment)
+    subst (λ command. Judged (PlainStep c.args.self command c.args.entry.now.moment c.args.entry.now.reply) c.reconfigure.result) (sym c.in-Reconfigure.is) (c.reconfigure.ensures c.args.entry.now.moment)
 
 pub returns-in-Evict : goal.returns-in-Evict
 returns-in-Evict c =
-    subst (λ command. Judged (PlainStep c.args.self command c.args.moment c.args.reply.now) c.evict.result) (sym c.in-Evict.is) c.evict.ensures
+    subst (λ command. Judged (PlainStep c.args.self command c.args.entry.now.moment c.args.entry.now.reply) c.evict.result) (sym c.in-Evict.is) c.evict.ensures

@@ -1,11 +1,12 @@
-use Rattle.std.proofs.Common.{◌∙◌, ◌++◌, ◌∷◌, [], ap, arith, refl, subst, sym}
+use Rattle.std.proofs.Common.{◌≡◌, None, ◌∙◌, ◌++◌, ◌∷◌, [], ap, arith, refl, subst, sym}
 use Rattle.std.specs.Prelude.{Ok}
 use Rattle.std.specs.Option.{option_map}
 use Rattle.eu_core.specs.Stepped.{Chooses}
 use Rattle.eu_model.specs.ServerAnswers.{ServerAnswers}
 use Rattle.eu_model.specs.State.{server_of_state}
 use Rattle.eu_book.specs.Account.{Account, Applies, IsKept, Refuses, entry, grown, ready}
-use Rattle.eu_book.specs.Peers.{served}
+use Rattle.eu_base.specs.declared.faults.Fault.TheVariants.{OutOfMemory}
+use Rattle.eu_book.specs.Peers.{known_fault, served}
 use Rattle.eu_book.specs.Renewed.{entries_by}
 use Rattle.eu_book.proofs.BookLemmas.{sums_fit, kept_entered, entered, entered_plain, is_refused}
 use Rattle.eu_book.proofs.book.Book.enter.Goals as goal
@@ -30,6 +31,10 @@ returns-in-Err-clause-refused g c =
     let state = served c.self.inside.registry c.self.inside.peers in
     let a : Account = record { base = server_of_state c.self.inside.journal.base; first = c.self.inside.journal.first; entries = c.self.inside.journal.entries.items; state = state; totals = c.self.inside.totals } in
     subst (λ x. Refuses x c.args.command c.args.moment c.in-Err.fault) c.self.view_is (is_refused a c.args.command c.args.moment c.in-Err.fault c.in-Err.ensures.refused)
+
+pub returns-in-Err-clause-memory : goal.returns-in-Err-clause-memory
+returns-in-Err-clause-memory g c =
+    subst (λ x. c.in-Err.fault ≡ OutOfMemory → known_fault x.totals.steps x.state.queues c.args.command c.args.moment ≡ None) c.self.view_is c.in-Err.ensures.memory
 
 pub invariant_of-self : goal.invariant_of-self
 invariant_of-self g c =

@@ -1,0 +1,58 @@
+#!/usr/bin/env bash
+# Entries a second of the auditor: 65,536 by the processor time of `eureka audit` less that of `eureka script` over the same lines, for journals
+# that have 65,536 entries of one kind over so many leases. The first word may name the program; else it is this repository's.
+set -euo pipefail
+top=$(cd "$(dirname "${BASH_SOURCE[0]}")/.." && pwd)
+if [ $# -eq 0 ]; then
+    "$top/eureka" script < /dev/null
+fi
+program=${1:-$top/crates/eureka/out/eureka}
+work=$(mktemp -d)
+trap 'rm -rf "$work"' EXIT
+
+# So many leases, and lines of that kind up to 131,072 commands: where the journal is full, the next command begins it anew, so that it has
+# the last 65,536 of them. The leases last for 24 days, but where passes are forbidden: then for a second each, and end one after the other.
+script() {
+    awk -v leases="$1" -v kind="$2" 'BEGIN {
+        print "open 1"
+        secs = kind == "forbidden" ? 1 : 2147483
+        for (i = 0; i < leases; i++) printf "register %d A%d host-%d %d UP UNKNOWN 0 c\n", i, i % 100, i, secs
+        for (n = leases; n < 131072; n++) {
+            i = (n * 7919) % leases
+            if (kind == "renewals") printf "renew %d A%d host-%d - - c\n", n, i % 100, i
+            if (kind == "registrations") printf "register %d A%d host-%d 2147483 UP UNKNOWN - c\n", n, i % 100, i
+            if (kind == "idle" || kind == "forbidden") printf "evict %d\n", 200000 + n
+            if (kind == "taking" && n % 2 == 0) printf "register %d B short-%d 1 UP UNKNOWN - c\n", n * 1000, n
+            if (kind == "taking" && n % 2 == 1) printf "evict %d\n", n * 1000 + 1
+        }
+    }'
+}
+
+# processor time of three runs, in seconds
+timed() {
+    local TIMEFORMAT='%U %S'
+    { time for _ in {1..3}; do "$program" "$@" < "$work/script" > "$work/out"; done 2> /dev/null; } 2>&1 | awk '{ print $1 + $2 }'
+}
+
+# entries a second: the median of five turns, the least and the most
+rate() {
+    for _ in {1..5}; do
+        echo "$(timed script "$@") $(timed audit "$@")"
+        [ "$(cat "$work/out")" = "audit yes 65536" ]
+    done | awk '{ print 3 * 65536 / ($2 - $1) / 1000 }' | sort -n |
+        awk '{ all[NR] = $1 } END { printf "%.0f thousand entries a second (%.0f to %.0f)\n", all[3], all[1], all[5] }'
+}
+
+for leases in 1000 65000; do
+    for kind in renewals registrations forbidden; do
+        script "$leases" "$kind" > "$work/script"
+        found=$(rate)
+        echo "$kind over $leases leases: $found"
+    done
+    # passes that find nobody, and those of which each takes the lease that came before it
+    for kind in idle taking; do
+        script "$leases" "$kind" > "$work/script"
+        found=$(rate --preservation off --percent 0)
+        echo "$kind passes over $leases leases: $found"
+    done
+done

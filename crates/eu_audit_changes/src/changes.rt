@@ -1,0 +1,326 @@
+//! What registrations, adoptions and cancels change.
+ghost use Rattle.std.specs.Prelude.{◌≡◌, ◌≤◌, ◌^◌, not, is_some, IfOk, true};
+ghost use Rattle.std.specs.Option.{option_copied, option_map, option_map_or};
+ghost use Rattle.eu_model.specs.Override.{rule, is_status};
+ghost use Rattle.eu_model.specs.Change.{newer, row_after, told, under_row, joined, up_after, one_more, uncounted};
+ghost use Rattle.eu_model.specs.Kept.{kept_register, kept_adopt, kept_cancel};
+ghost use Rattle.eu_audit_changes.specs.Changed.{change_of, under_listed};
+
+use eu_base::{Instance, Moment, Status};
+use eu_model::{Listed, Reply, Times};
+use std::alloc::{AllocError, Global};
+
+/// What a command on one lease leaves at the key of the lease and at its id, and what it is answered.
+#[derive(Debug, Drop)]
+pub struct Changed {
+    /// The lease that is held then, if there is one.
+    pub lease: Option<Listed>,
+    /// The override row of the id, if there is one then.
+    pub row: Option<Status>,
+    /// The clients that are expected then.
+    pub expected: u64,
+    /// Whether a renewal is counted.
+    pub counted: bool,
+    /// What the command is answered.
+    pub reply: Reply,
+}
+
+impl Changed {
+    /// Nothing changes but, perhaps, the row.
+    pub(crate) fn kept(
+        alloc: Global,
+        held: Option<&Listed>,
+        row: Option<Status>,
+        expected: u64,
+        reply: Reply,
+    ) -> Result<Changed, AllocError>
+        ensures { IfOk result (λ c. change_of c ≡ uncounted (option_copied held.entry) row expected reply) }
+    {
+        let lease = match held {
+            Some(held) => Some(copied(alloc, held)?),
+            None => None,
+        };
+        Ok(Changed {
+            lease,
+            row,
+            expected,
+            counted: false,
+            reply,
+        })
+    }
+}
+
+/// The same lease once more. `AllocError` where no memory is left.
+pub fn copied(alloc: Global, held: &Listed) -> Result<Listed, AllocError>
+    ensures { IfOk result (λ l. l ≡ held.now) }
+{
+    let instance = held.instance.copy(alloc)?;
+    Ok(Listed {
+        instance,
+        times: held.times,
+    })
+}
+
+/// Whether both are one status.
+pub(crate) fn is_status(status: Status, other: Status) -> bool
+    ensures { result ≡ is_status status other }
+{
+    status as u8 == other as u8
+}
+
+/// The override rule.
+pub(crate) fn rule(
+    own: Status,
+    row: Option<Status>,
+    held: Option<Status>,
+    replicated: bool,
+) -> Status
+    ensures { result ≡ rule own row held replicated }
+{
+    match own {
+        Status::Up | Status::OutOfService => match row {
+            Some(status) => status,
+            None => match held {
+                Some(Status::Up) if !replicated => Status::Up,
+                Some(Status::OutOfService) if !replicated => Status::OutOfService,
+                _ => own,
+            },
+        },
+        _ => own,
+    }
+}
+
+/// The row that an overridden status tells: none, where it is UNKNOWN.
+fn told(overridden: Status) -> Option<Status>
+    ensures { result ≡ told overridden }
+{
+    match overridden {
+        Status::Unknown => None,
+        _ => Some(overridden),
+    }
+}
+
+/// The row after a registration.
+fn row_after(row: Option<Status>, overridden: Status) -> Option<Status>
+    ensures { result ≡ row_after row overridden }
+{
+    match row {
+        Some(status) => Some(status),
+        None => told(overridden),
+    }
+}
+
+/// The first moment at which the instance was up.
+pub(crate) fn up_after(up: u64, status: Status, moment: Moment) -> u64
+    ensures { result ≡ up_after up status moment }
+{
+    match status {
+        Status::Up if up == 0 => moment.ms(),
+        _ => up,
+    }
+}
+
+/// The instance of a lease that is held.
+fn instance_of(held: Option<&Listed>) -> Option<&Instance>
+    ensures { option_copied result ≡ option_map (λ l. l.instance) (option_copied held.entry) }
+{
+    match held {
+        Some(held) => Some(&held.instance),
+        None => None,
+    }
+}
+
+/// The overridden status of the instance that a registration takes.
+fn newer_overridden(held: Option<&Instance>, instance: &Instance) -> Status
+    ensures { result ≡ (newer (option_copied held.entry) instance.now).overridden }
+{
+    match held {
+        Some(held) if instance.dirty < held.dirty => held.overridden,
+        _ => instance.overridden,
+    }
+}
+
+/// The instance that a registration takes. `AllocError` where no memory is left.
+fn newer(
+    alloc: Global,
+    held: Option<&Instance>,
+    instance: &Instance,
+) -> Result<Instance, AllocError>
+    ensures { IfOk result (λ i. i ≡ newer (option_copied held.entry) instance.now) }
+{
+    match held {
+        Some(held) if instance.dirty < held.dirty => {
+            let mut chosen = held.copy(alloc)?;
+            chosen.secs = instance.secs;
+            Ok(chosen)
+        }
+        _ => instance.copy(alloc),
+    }
+}
+
+/// The instance, where this is the row of its id.
+pub(crate) fn under_row(row: Option<Status>, mut instance: Instance) -> Instance
+    ensures { result ≡ under_row row instance }
+{
+    if let Some(status) = row {
+        instance.overridden = status;
+    }
+    instance
+}
+
+/// The instance that a registration leaves. `AllocError` where no memory is left.
+fn joined(
+    alloc: Global,
+    held: Option<&Instance>,
+    row: Option<Status>,
+    instance: &Instance,
+    replicated: bool,
+) -> Result<Instance, AllocError>
+    ensures { IfOk result (λ i. i ≡ joined (option_copied held.entry) row instance.now replicated) }
+{
+    let new_row = row_after(row, newer_overridden(held, instance));
+    let mut left = under_row(new_row, newer(alloc, held, instance)?);
+    let held_status = match held {
+        Some(held) => Some(held.status),
+        None => None,
+    };
+    left.status = rule(left.status, new_row, held_status, replicated);
+    Ok(left)
+}
+
+/// When the instance of a lease was first up, and 0 where none is held.
+fn first_up(held: Option<&Listed>) -> u64
+    ensures { result ≡ option_map_or (λ l. l.times.up) (option_copied held.entry) 0 }
+{
+    match held {
+        Some(held) => held.times.up,
+        None => 0,
+    }
+}
+
+/// Whether no lease is held.
+fn is_absent(held: Option<&Listed>) -> bool
+    ensures { result ≡ not (is_some (option_copied held.entry)) }
+{
+    match held {
+        Some(_) => false,
+        None => true,
+    }
+}
+
+/// The number expected after a registration.
+fn one_more(comes: bool, expected: u64) -> u64
+    requires { expected ≤ 2 ^ 40 }
+    ensures { result ≡ one_more comes expected }
+{
+    if comes && expected > 0 {
+        expected + 1
+    } else {
+        expected
+    }
+}
+
+/// What a registration of the instance at the moment changes, where `held` is the lease of its key, `row` the override row of its id, and
+/// so many clients are expected. `replicated` says that a peer sends it.
+///
+/// No more than 2^40 clients are expected, which is for the caller to see to. `AllocError` where no memory is left.
+pub fn register(
+    alloc: Global,
+    held: Option<&Listed>,
+    row: Option<Status>,
+    expected: u64,
+    instance: &Instance,
+    replicated: bool,
+    moment: Moment,
+) -> Result<Changed, AllocError>
+    requires { expected ≤ 2 ^ 40 }
+    ensures { IfOk result (λ c. change_of c ≡ kept_register (option_copied held.entry) row expected instance.now replicated moment) }
+{
+    let before = instance_of(held);
+    let fresh = is_absent(held);
+    let row_then = row_after(row, newer_overridden(before, instance));
+    let left = joined(alloc, before, row, instance, replicated)?;
+    let times = Times {
+        registered: moment.ms(),
+        updated: moment.ms(),
+        up: up_after(first_up(held), left.status, moment),
+    };
+    Ok(Changed {
+        lease: Some(Listed {
+            instance: left,
+            times,
+        }),
+        row: row_then,
+        expected: one_more(fresh, expected),
+        counted: false,
+        reply: Reply::Registered { fresh },
+    })
+}
+
+/// The lease, where the row that an adopted instance tells overrides. `AllocError` where no memory is left.
+fn overridden_by(
+    alloc: Global,
+    row: Option<Status>,
+    held: Option<&Listed>,
+) -> Result<Option<Listed>, AllocError>
+    ensures { IfOk result (λ l. l ≡ option_map (under_listed row) (option_copied held.entry)) }
+{
+    let Some(held) = held else {
+        return Ok(None);
+    };
+    let instance = under_row(row, held.instance.copy(alloc)?);
+    Ok(Some(Listed {
+        instance,
+        times: held.times,
+    }))
+}
+
+/// What an adoption of a peer's instance at the moment changes, where `held` is the lease of its key, `row` the override row of its id,
+/// and so many clients are expected.
+///
+/// No more than 2^40 clients are expected, which is for the caller to see to. `AllocError` where no memory is left.
+pub fn adopt(
+    alloc: Global,
+    held: Option<&Listed>,
+    row: Option<Status>,
+    expected: u64,
+    instance: &Instance,
+    moment: Moment,
+) -> Result<Changed, AllocError>
+    requires { expected ≤ 2 ^ 40 }
+    ensures { IfOk result (λ c. change_of c ≡ kept_adopt (option_copied held.entry) row expected instance.now moment) }
+{
+    let told = told(instance.overridden);
+    let held = overridden_by(alloc, told, held)?;
+    register(
+        alloc,
+        held.as_ref(),
+        told.or(row),
+        expected,
+        instance,
+        true,
+        moment,
+    )
+}
+
+/// What a cancel changes, where `held` is the lease, and so many clients are expected. Takes no memory.
+pub fn cancel(held: Option<&Listed>, expected: u64) -> Changed
+    ensures { change_of result ≡ kept_cancel (option_copied held.entry) expected }
+{
+    match held {
+        Some(_) => Changed {
+            lease: None,
+            row: None,
+            expected: expected.saturating_sub(1),
+            counted: false,
+            reply: Reply::Done,
+        },
+        None => Changed {
+            lease: None,
+            row: None,
+            expected,
+            counted: false,
+            reply: Reply::NotFound,
+        },
+    }
+}

@@ -1,0 +1,281 @@
+//! What renewals change, and statuses that are set or unset.
+ghost use Rattle.std.specs.Prelude.{◌≡◌, ◌+◌, ◌*◌, IfOk, Some};
+ghost use Rattle.std.specs.Option.{option_copied};
+ghost use Rattle.eu_model.specs.Change.{renew_reply, brought, stamped, renew_as, in_status, out_of_override, uncounted};
+ghost use Rattle.eu_model.specs.Kept.{kept, raised, kept_renew, kept_set_status, kept_unset_status, kept_seen, kept_expired};
+ghost use Rattle.eu_model.specs.Plain.{listed};
+ghost use Rattle.eu_model.specs.Record.{renewed};
+ghost use Rattle.eu_audit_changes.specs.Changed.{change_of};
+
+use crate::changes::{Changed, is_status, rule, under_row, up_after};
+use eu_base::{Instance, Moment, Stamp, Status};
+use eu_model::{Listed, Reply, Times};
+use std::alloc::{AllocError, Global};
+
+/// Whether a lease has expired at a moment, if it is granted so many extra milliseconds. Takes no memory.
+pub fn expired(held: &Listed, moment: Moment, extra: u64) -> bool
+    ensures { result ≡ kept_expired held.now moment extra }
+{
+    let deadline = held.times.updated as u128 + 1000 * held.instance.secs as u128 + extra as u128;
+    deadline < moment.ms() as u128
+}
+
+/// The lease, where it is visible.
+fn seen(permitted: bool, moment: Moment, held: Option<&Listed>) -> Option<&Listed>
+    ensures { option_copied result ≡ kept_seen permitted moment (option_copied held.entry) }
+{
+    match held {
+        Some(held) if permitted && expired(held, moment, 0) => None,
+        _ => held,
+    }
+}
+
+/// The moments of a lease that lasts so many seconds, and is renewed.
+fn renewed(times: Times, secs: u32, moment: Moment) -> Times
+    ensures { result ≡ record times { updated = moment + 1000 * secs } }
+{
+    Times {
+        registered: times.registered,
+        updated: moment.ms() + 1000 * secs as u64,
+        up: times.up,
+    }
+}
+
+/// The instance, with a greater stamp than the one that it has.
+fn stamped(dirty: Option<Stamp>, mut instance: Instance) -> Instance
+    ensures { result ≡ stamped dirty instance }
+{
+    match dirty {
+        Some(stamp) if instance.dirty < stamp.value => {
+            instance.dirty = stamp.value;
+            instance
+        }
+        _ => instance,
+    }
+}
+
+/// The instance in these statuses.
+fn in_statuses(mut instance: Instance, status: Status, overridden: Status) -> Instance
+    ensures { result ≡ record instance { status = status; overridden = overridden } }
+{
+    instance.status = status;
+    instance.overridden = overridden;
+    instance
+}
+
+/// What a renewal is answered that finds this instance. `AllocError` where no memory is left.
+fn renew_reply(
+    alloc: Global,
+    dirty: Option<Stamp>,
+    instance: &Instance,
+    replicated: bool,
+) -> Result<Reply, AllocError>
+    ensures { IfOk result (λ r. r ≡ renew_reply dirty instance.now replicated) }
+{
+    match dirty {
+        Some(stamp) if instance.dirty < stamp.value => Ok(Reply::Stale),
+        Some(stamp) if stamp.value < instance.dirty && replicated => {
+            Ok(Reply::Conflict(instance.copy(alloc)?))
+        }
+        _ => Ok(Reply::Done),
+    }
+}
+
+/// The row that a peer's stale renewal brings.
+fn brought(
+    reply: &Reply,
+    replicated: bool,
+    overridden: Option<Status>,
+    row: Option<Status>,
+) -> Option<Status>
+    ensures { result ≡ brought reply.now replicated overridden row }
+{
+    let Reply::Stale = reply else {
+        return None;
+    };
+    let Some(overridden) = overridden else {
+        return None;
+    };
+    if !replicated || is_status(overridden, Status::Unknown) {
+        return None;
+    }
+    match row {
+        Some(row) if is_status(overridden, row) => None,
+        _ => Some(overridden),
+    }
+}
+
+/// A renewal that gives this status. `AllocError` where no memory is left.
+fn renew_as(
+    alloc: Global,
+    held: &Listed,
+    row: Option<Status>,
+    expected: u64,
+    dirty: Option<Stamp>,
+    overridden: Option<Status>,
+    replicated: bool,
+    moment: Moment,
+    status: Status,
+) -> Result<Changed, AllocError>
+    ensures { IfOk result (λ c. change_of c ≡ kept (renew_as (raised held.now) row expected dirty overridden replicated moment status)) }
+{
+    let instance = held.instance.copy(alloc)?;
+    let instance = in_statuses(instance, status, held.instance.overridden);
+    let reply = renew_reply(alloc, dirty, &instance, replicated)?;
+    let new_row = brought(&reply, replicated, overridden, row);
+    Ok(Changed {
+        lease: Some(Listed {
+            instance: under_row(new_row, instance),
+            times: renewed(held.times, held.instance.secs, moment),
+        }),
+        row: new_row.or(row),
+        expected,
+        counted: true,
+        reply,
+    })
+}
+
+/// What a renewal at the moment changes, where `held` is the lease, `row` the override row of its id, and so many clients are expected.
+/// The sender knows the instance by the stamp `dirty`, if it gives one, and by the overridden status, if it gives one. `replicated` says
+/// that a peer sends it.
+///
+/// `AllocError` where no memory is left.
+pub fn renew(
+    alloc: Global,
+    held: Option<&Listed>,
+    row: Option<Status>,
+    expected: u64,
+    dirty: Option<Stamp>,
+    overridden: Option<Status>,
+    replicated: bool,
+    moment: Moment,
+) -> Result<Changed, AllocError>
+    ensures { IfOk result (λ c. change_of c ≡ kept_renew (option_copied held.entry) row expected dirty overridden replicated moment) }
+{
+    let Some(lease) = held else {
+        return Changed::kept(alloc, held, row, expected, Reply::NotFound);
+    };
+    let own = lease.instance.status;
+    let status = rule(own, row, Some(own), replicated);
+    if is_status(status, Status::Unknown) {
+        return Changed::kept(alloc, held, row, expected, Reply::NotFound);
+    }
+    renew_as(
+        alloc, lease, row, expected, dirty, overridden, replicated, moment, status,
+    )
+}
+
+/// A lease that is renewed, and nothing else. `AllocError` where no memory is left.
+fn renewed_lease(alloc: Global, held: &Listed, moment: Moment) -> Result<Listed, AllocError>
+    ensures { IfOk result (λ l. l ≡ listed (renewed (raised held.now) moment)) }
+{
+    let instance = held.instance.copy(alloc)?;
+    Ok(Listed {
+        instance,
+        times: renewed(held.times, held.instance.secs, moment),
+    })
+}
+
+/// A lease that is renewed, with its instance in a status that is set. `AllocError` where no memory is left.
+fn in_status(
+    alloc: Global,
+    held: &Listed,
+    status: Status,
+    dirty: Option<Stamp>,
+    moment: Moment,
+) -> Result<Listed, AllocError>
+    ensures { IfOk result (λ l. l ≡ listed (in_status (raised held.now) status dirty moment)) }
+{
+    let instance = in_statuses(held.instance.copy(alloc)?, status, status);
+    let mut times = renewed(held.times, held.instance.secs, moment);
+    times.up = up_after(held.times.up, status, moment);
+    Ok(Listed {
+        instance: stamped(dirty, instance),
+        times,
+    })
+}
+
+/// A lease that is renewed, with nothing that overrides. `AllocError` where no memory is left.
+fn out_of_override(
+    alloc: Global,
+    held: &Listed,
+    suggested: Option<Status>,
+    dirty: Option<Stamp>,
+    moment: Moment,
+) -> Result<Listed, AllocError>
+    ensures { IfOk result (λ l. l ≡ listed (out_of_override (raised held.now) suggested dirty moment)) }
+{
+    let status = suggested.unwrap_or(Status::Unknown);
+    let instance = in_statuses(held.instance.copy(alloc)?, status, Status::Unknown);
+    Ok(Listed {
+        instance: stamped(dirty, instance),
+        times: renewed(held.times, held.instance.secs, moment),
+    })
+}
+
+/// A lease of which nothing is counted, with the reply `Done`.
+fn done(lease: Listed, row: Option<Status>, expected: u64) -> Changed
+    ensures { change_of result ≡ uncounted (Some lease) row expected Reply.Done }
+{
+    Changed {
+        lease: Some(lease),
+        row,
+        expected,
+        counted: false,
+        reply: Reply::Done,
+    }
+}
+
+/// What a status that is set at the moment changes, where `held` is the lease, `row` the override row of its id, and so many clients are
+/// expected. `permitted` says that eviction is permitted, so that a lease that has expired isn't visible; `dirty` is the stamp of the
+/// change, if one is given.
+///
+/// `AllocError` where no memory is left.
+pub fn set_status(
+    alloc: Global,
+    permitted: bool,
+    held: Option<&Listed>,
+    row: Option<Status>,
+    expected: u64,
+    status: Status,
+    dirty: Option<Stamp>,
+    moment: Moment,
+) -> Result<Changed, AllocError>
+    ensures { IfOk result (λ c. change_of c ≡ kept_set_status (kept_seen permitted moment (option_copied held.entry)) (option_copied held.entry) row expected status dirty moment) }
+{
+    let Some(lease) = seen(permitted, moment, held) else {
+        return Changed::kept(alloc, held, row, expected, Reply::NotFound);
+    };
+    if is_status(lease.instance.status, status) {
+        return Ok(done(renewed_lease(alloc, lease, moment)?, row, expected));
+    }
+    let lease = in_status(alloc, lease, status, dirty, moment)?;
+    Ok(done(lease, Some(status), expected))
+}
+
+/// What a status that is unset at the moment changes, where `held` is the lease, `row` the override row of its id, and so many clients are
+/// expected. `permitted` says that eviction is permitted, so that a lease that has expired isn't visible; `suggested` is the status that
+/// the instance may have then, and `dirty` the stamp of the change, if they are given.
+///
+/// `AllocError` where no memory is left.
+pub fn unset_status(
+    alloc: Global,
+    permitted: bool,
+    held: Option<&Listed>,
+    row: Option<Status>,
+    expected: u64,
+    suggested: Option<Status>,
+    dirty: Option<Stamp>,
+    moment: Moment,
+) -> Result<Changed, AllocError>
+    ensures { IfOk result (λ c. change_of c ≡ kept_unset_status (kept_seen permitted moment (option_copied held.entry)) (option_copied held.entry) row expected suggested dirty moment) }
+{
+    let Some(lease) = seen(permitted, moment, held) else {
+        return Changed::kept(alloc, held, row, expected, Reply::NotFound);
+    };
+    let lease = match row {
+        Some(_) => out_of_override(alloc, lease, suggested, dirty, moment)?,
+        None => renewed_lease(alloc, lease, moment)?,
+    };
+    Ok(done(lease, None, expected))
+}

@@ -1,0 +1,5 @@
+//! Tests of journals as text.
+#![tactic(auto)]
+
+#[cfg(test)]
+mod tests;

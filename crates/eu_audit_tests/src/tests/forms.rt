@@ -1,4 +1,4 @@
-//! States and entries, told in a few words. The application is A where an id alone names a lease, and each client is at the host h.
+//! States and entries, told in a few words. Each application is A, and each client is at the host h.
 use eu_audit::audit;
 use eu_base::{
     Action, App, Codes, Config, Fault, Id, Instance, Key, Moment, Rest, Stamp, Status, Task,
@@ -8,7 +8,7 @@ use eu_model::{
 };
 use std::alloc::Global;
 
-/// An instance: its name (`APP/ID`, or an id), its status and its overridden one, its stamp, and its duration in seconds.
+/// An instance: its id, its status and its overridden one, its stamp, and its duration in seconds.
 #[derive(Clone, Copy)]
 pub struct Client {
     pub id: &'static str,
@@ -41,20 +41,14 @@ pub struct Told {
 pub enum Step {
     /// A client registers.
     Register(Client),
-    /// A peer sends the registration of a client.
-    Replicate(Client),
     /// A renewal of an id, with a stamp or none, and whether a peer sends it.
     Renew(&'static str, Option<u64>, bool),
-    /// A renewal of an id, with a stamp and the overridden status that its sender knows, and whether a peer sends it.
-    Bring(&'static str, u64, Status, bool),
     /// A client of that id leaves.
     Cancel(&'static str),
     /// An operator sets the status of an id.
     Set(&'static str, Status),
     /// An operator takes that back, and gives no other.
     Unset(&'static str),
-    /// An operator takes that back, and gives this status.
-    Restore(&'static str, Status),
     /// A peer tells of an instance.
     Adopt(Client),
     Roll,
@@ -128,13 +122,8 @@ pub fn at(ms: u64) -> Result<Moment, Fault> {
     Moment::new(ms).ok_or(Fault::BadValue)
 }
 
-/// The key of that name: `APP/ID`, or an id, whose application is A then.
-pub fn key(alloc: Global, name: &str) -> Result<Key, Fault> {
-    let (app, id) = match name.split_once('/') {
-        Some((app, id)) => (app, id),
-        None => ("A", name),
-    };
-    let app = App::read(alloc, app)?;
+pub fn key(alloc: Global, id: &str) -> Result<Key, Fault> {
+    let app = App::read(alloc, "A")?;
     let id = Id::read(alloc, id)?;
     Ok(Key { app, id })
 }
@@ -212,24 +201,23 @@ fn renewal(
     alloc: Global,
     id: &str,
     dirty: Option<u64>,
-    overridden: Option<Status>,
     replicated: bool,
 ) -> Result<Command, Fault> {
     let key = key(alloc, id)?;
     Ok(Command::Renew {
         key,
         dirty: dirty.and_then(Stamp::new),
-        overridden,
+        overridden: None,
         replicated,
     })
 }
 
 /// A client registers.
-fn registration(alloc: Global, client: Client, replicated: bool) -> Result<Command, Fault> {
+fn registration(alloc: Global, client: Client) -> Result<Command, Fault> {
     let instance = instance(alloc, client)?;
     Ok(Command::Register {
         instance,
-        replicated,
+        replicated: false,
     })
 }
 
@@ -251,11 +239,11 @@ fn setting(alloc: Global, id: &str, status: Status) -> Result<Command, Fault> {
     })
 }
 
-fn unsetting(alloc: Global, id: &str, status: Option<Status>) -> Result<Command, Fault> {
+fn unsetting(alloc: Global, id: &str) -> Result<Command, Fault> {
     let key = key(alloc, id)?;
     Ok(Command::UnsetStatus {
         key,
-        status,
+        status: None,
         dirty: None,
         replicated: false,
     })
@@ -263,16 +251,11 @@ fn unsetting(alloc: Global, id: &str, status: Option<Status>) -> Result<Command,
 
 pub fn command(alloc: Global, step: Step) -> Result<Command, Fault> {
     match step {
-        Step::Register(client) => registration(alloc, client, false),
-        Step::Replicate(client) => registration(alloc, client, true),
-        Step::Renew(id, dirty, replicated) => renewal(alloc, id, dirty, None, replicated),
-        Step::Bring(id, dirty, overridden, replicated) => {
-            renewal(alloc, id, Some(dirty), Some(overridden), replicated)
-        }
+        Step::Register(client) => registration(alloc, client),
+        Step::Renew(id, dirty, replicated) => renewal(alloc, id, dirty, replicated),
         Step::Cancel(id) => cancel(alloc, id),
         Step::Set(id, status) => setting(alloc, id, status),
-        Step::Unset(id) => unsetting(alloc, id, None),
-        Step::Restore(id, status) => unsetting(alloc, id, Some(status)),
+        Step::Unset(id) => unsetting(alloc, id),
         Step::Adopt(client) => Ok(Command::Adopt {
             instance: instance(alloc, client)?,
         }),
@@ -401,21 +384,6 @@ pub fn judged(alloc: Global, base: Form, lines: &[Line], end: Form) -> Result<bo
     let entries = entries(alloc, lines)?;
     let end = state(alloc, end)?;
     verdict(alloc, base, entries, end)
-}
-
-/// A base, some lines, an end, and whether the lines lead there.
-pub type Case = (Form, &'static [Line], Form, bool);
-
-/// The place of the first case, from 0, that isn't judged so.
-pub fn first_wrong(alloc: Global, cases: &[Case]) -> Result<Option<usize>, Fault> {
-    let mut place = 0usize;
-    for (base, lines, end, wanted) in cases {
-        if judged(alloc, *base, lines, *end)? != *wanted {
-            return Ok(Some(place));
-        }
-        place = place.saturating_add(1);
-    }
-    Ok(None)
 }
 
 /// The auditor's verdict on no entries from a server to itself.

@@ -1,7 +1,6 @@
 //! Which servers are plain forms: each is judged as its own end, without an entry.
 use crate::tests::forms::{
-    Answer, CLIENT, Case, Client, Form, Lease, Line, NEW, Step, Told, entries, first_wrong, listed,
-    listing, stands, state, task, tasks, verdict,
+    CLIENT, Client, Form, Lease, NEW, Told, listed, listing, stands, state, task, tasks,
 };
 use eu_base::{Action, Config, Fault, Id, Moment, Status, Task};
 use eu_model::{Listed, Listing, Queue, Queues, State, Tasks};
@@ -118,56 +117,7 @@ fn rows_are_in_order_each_once(rt: HostRuntime) {
     }
 }
 
-/// Two leases and two rows, in order.
-const ORDERED: Form = Form {
-    leases: &[I1, I2],
-    rows: &[("i1", Status::Up), ("i2", Status::Down)],
-    ..NEW
-};
-
-/// The leases the other way round.
-const SWAPPED: Form = Form {
-    leases: &[I2, I1],
-    ..ORDERED
-};
-
-/// A lease twice.
-const TWICE: Form = Form {
-    leases: &[I1, I1, I2],
-    ..ORDERED
-};
-
-/// The rows the other way round.
-const SWAPPED_ROWS: Form = Form {
-    rows: &[("i2", Status::Down), ("i1", Status::Up)],
-    ..ORDERED
-};
-
-/// A row twice.
-const ROW_TWICE: Form = Form {
-    rows: &[("i1", Status::Up), ("i1", Status::Up), ("i2", Status::Down)],
-    ..ORDERED
-};
-
-/// The base or the end alone is no plain form, though both hold the same.
-const ONE_SIDE: [Case; 9] = [
-    (ORDERED, &[], ORDERED, true),
-    (ORDERED, &[], SWAPPED, false),
-    (SWAPPED, &[], ORDERED, false),
-    (ORDERED, &[], TWICE, false),
-    (TWICE, &[], ORDERED, false),
-    (ORDERED, &[], SWAPPED_ROWS, false),
-    (SWAPPED_ROWS, &[], ORDERED, false),
-    (ORDERED, &[], ROW_TWICE, false),
-    (ROW_TWICE, &[], ORDERED, false),
-];
-
-#[test]
-fn base_and_end_are_each_judged(rt: HostRuntime) {
-    assert!(rt; first_wrong(rt.alloc(), ONE_SIDE.as_slice()) == Ok(None));
-}
-
-pub fn no_tasks(alloc: Global) -> Tasks {
+fn no_tasks(alloc: Global) -> Tasks {
     Tasks::new(Vec::new(alloc))
 }
 
@@ -300,8 +250,7 @@ fn numbered(alloc: Global, number: u32) -> Result<Id, Fault> {
     Id::read(alloc, id.as_str())
 }
 
-/// A task that cancels the lease of that number, queued at 1,000.
-pub fn cancel(alloc: Global, number: u32) -> Result<Task, Fault> {
+fn cancel(alloc: Global, number: u32) -> Result<Task, Fault> {
     let mut task = task(alloc, CANCEL)?;
     task.key.id = numbered(alloc, number)?;
     Ok(task)
@@ -372,35 +321,4 @@ fn judged_full(alloc: Global, count: u32) -> Result<bool, Fault> {
 fn a_server_at_its_limits_stands(rt: HostRuntime) {
     assert!(rt; judged_full(rt.alloc(), 65_536) == Ok(true));
     assert!(rt; judged_full(rt.alloc(), 65_537) == Ok(false));
-}
-
-/// A server with so many such leases, and so many renewals since the last minute.
-fn brim(alloc: Global, since: u64) -> Result<State, Fault> {
-    let mut state = state(alloc, NEW)?;
-    state.leases = full(alloc, 65_536)?;
-    state.since = since;
-    Ok(state)
-}
-
-/// The verdict on lines that leave a full server as it was, but for so many renewals.
-fn judged_brim(alloc: Global, lines: &[Line], since: u64) -> Result<bool, Fault> {
-    let base = brim(alloc, 0)?;
-    let entries = entries(alloc, lines)?;
-    let end = brim(alloc, since)?;
-    verdict(alloc, base, entries, end)
-}
-
-/// The first of the leases is renewed at the moment at which it was.
-const RENEWS: [Line; 1] = [(MOST, Step::Renew("i100000", None, false), Answer::Done)];
-
-/// One more comes and goes.
-const COMES_AND_GOES: [Line; 2] = [
-    (MOST, Step::Register(CLIENT), Answer::Fresh),
-    (MOST, Step::Cancel("i1"), Answer::Done),
-];
-
-#[test]
-fn a_full_server_takes_none_more(rt: HostRuntime) {
-    assert!(rt; judged_brim(rt.alloc(), RENEWS.as_slice(), 1) == Ok(true));
-    assert!(rt; judged_brim(rt.alloc(), COMES_AND_GOES.as_slice(), 0) == Ok(false));
 }

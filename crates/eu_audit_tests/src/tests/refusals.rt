@@ -1,8 +1,10 @@
 //! Entries whose command is refused at their moment, each beside one that isn't.
-use crate::tests::forms::{
-    Answer, CLIENT, Case, Client, Form, Lease, NEW, Step, Told, first_wrong,
-};
-use eu_base::Action;
+use crate::tests::forms::{Answer, CLIENT, Client, Form, Lease, Line, NEW, Step, Told, judged};
+use eu_base::{Action, Fault};
+use std::alloc::Global;
+
+/// A base, an entry, an end, and whether the entry leads there.
+type Case = (Form, Line, Form, bool);
 
 const I2: Client = Client { id: "i2", ..CLIENT };
 
@@ -25,7 +27,7 @@ const BRIM: Form = Form {
 const COMES: [Case; 2] = [
     (
         BRIM,
-        &[(2_000, Step::Register(I2), Answer::Fresh)],
+        (2_000, Step::Register(I2), Answer::Fresh),
         Form {
             leases: &[
                 LEASE,
@@ -42,7 +44,7 @@ const COMES: [Case; 2] = [
     ),
     (
         BRIM,
-        &[(2_000, Step::Register(CLIENT), Answer::Again)],
+        (2_000, Step::Register(CLIENT), Answer::Again),
         Form {
             leases: &[Lease {
                 registered: 2_000,
@@ -59,7 +61,7 @@ const COMES: [Case; 2] = [
 const RENEWS: [Case; 3] = [
     (
         BRIM,
-        &[(2_000, Step::Renew("i1", None, false), Answer::Done)],
+        (2_000, Step::Renew("i1", None, false), Answer::Done),
         Form {
             leases: &[Lease {
                 updated: 92_000,
@@ -71,13 +73,13 @@ const RENEWS: [Case; 3] = [
     ),
     (
         BRIM,
-        &[(2_000, Step::Renew("i2", None, false), Answer::NotFound)],
+        (2_000, Step::Renew("i2", None, false), Answer::NotFound),
         BRIM,
         true,
     ),
     (
         Form { since: 0, ..BRIM },
-        &[(2_000, Step::Renew("i1", None, false), Answer::Done)],
+        (2_000, Step::Renew("i1", None, false), Answer::Done),
         Form {
             leases: &[Lease {
                 updated: 92_000,
@@ -121,37 +123,37 @@ const IDLE: Form = Form {
 const DRAINS: [Case; 6] = [
     (
         WAITS,
-        &[(31_000, Step::Drain(0), Answer::Batch(&[TASK]))],
+        (31_000, Step::Drain(0), Answer::Batch(&[TASK])),
         FLIES,
         true,
     ),
     (
         WAITS,
-        &[(31_001, Step::Drain(0), Answer::Batch(&[TASK]))],
+        (31_001, Step::Drain(0), Answer::Batch(&[TASK])),
         FLIES,
         false,
     ),
     (
         WAITS,
-        &[(31_001, Step::Drain(0), Answer::Batch(&[]))],
+        (31_001, Step::Drain(0), Answer::Batch(&[])),
         IDLE,
         false,
     ),
     (
         IDLE,
-        &[(2_000, Step::Drain(0), Answer::Batch(&[]))],
+        (2_000, Step::Drain(0), Answer::Batch(&[])),
         IDLE,
         false,
     ),
     (
         FLIES,
-        &[(2_000, Step::Drain(0), Answer::Batch(&[TASK]))],
+        (2_000, Step::Drain(0), Answer::Batch(&[TASK])),
         FLIES,
         false,
     ),
     (
         WAITS,
-        &[(2_000, Step::Drain(1), Answer::Batch(&[TASK]))],
+        (2_000, Step::Drain(1), Answer::Batch(&[TASK])),
         FLIES,
         false,
     ),
@@ -161,25 +163,25 @@ const DRAINS: [Case; 6] = [
 const LANDS: [Case; 4] = [
     (
         FLIES,
-        &[(2_000, Step::Land(0, &[200]), Answer::Settled)],
+        (2_000, Step::Land(0, &[200]), Answer::Settled),
         IDLE,
         true,
     ),
     (
         FLIES,
-        &[(2_000, Step::Land(0, &[200, 200]), Answer::Settled)],
+        (2_000, Step::Land(0, &[200, 200]), Answer::Settled),
         IDLE,
         false,
     ),
     (
         FLIES,
-        &[(2_000, Step::Land(0, &[]), Answer::Settled)],
+        (2_000, Step::Land(0, &[]), Answer::Settled),
         IDLE,
         false,
     ),
     (
         WAITS,
-        &[(2_000, Step::Land(0, &[]), Answer::Settled)],
+        (2_000, Step::Land(0, &[]), Answer::Settled),
         WAITS,
         false,
     ),
@@ -187,31 +189,28 @@ const LANDS: [Case; 4] = [
 
 /// A batch is lost, unless none is in flight; what is too old doesn't wait again.
 const LOSES: [Case; 4] = [
+    (FLIES, (31_000, Step::Lose(0), Answer::Settled), WAITS, true),
     (
         FLIES,
-        &[(31_000, Step::Lose(0), Answer::Settled)],
-        WAITS,
-        true,
-    ),
-    (
-        FLIES,
-        &[(31_001, Step::Lose(0), Answer::Settled)],
+        (31_001, Step::Lose(0), Answer::Settled),
         WAITS,
         false,
     ),
-    (
-        FLIES,
-        &[(31_001, Step::Lose(0), Answer::Settled)],
-        IDLE,
-        true,
-    ),
-    (
-        WAITS,
-        &[(2_000, Step::Lose(0), Answer::Settled)],
-        WAITS,
-        false,
-    ),
+    (FLIES, (31_001, Step::Lose(0), Answer::Settled), IDLE, true),
+    (WAITS, (2_000, Step::Lose(0), Answer::Settled), WAITS, false),
 ];
+
+/// The place of the first case, from 0, that isn't judged so.
+fn first_wrong(alloc: Global, cases: &[Case]) -> Result<Option<usize>, Fault> {
+    let mut place = 0usize;
+    for (base, line, end, wanted) in cases {
+        if judged(alloc, *base, &[*line], *end)? != *wanted {
+            return Ok(Some(place));
+        }
+        place = place.saturating_add(1);
+    }
+    Ok(None)
+}
 
 #[test]
 fn what_cannot_be_counted_is_no_run(rt: HostRuntime) {

@@ -1,4 +1,4 @@
-//! Tests of the auditor: runs that it takes and lists that it refuses, with values from the rules, worked out by hand.
+//! Tests of the auditor: whole journals, with values worked out by hand from the rules, and books whose journal is a run.
 #![tactic(auto)]
 
 #[cfg(test)]

@@ -2,9 +2,6 @@
 mod books;
 mod closed;
 mod drawn;
-mod forms;
 mod memory;
 mod passes;
-mod plain;
-mod refusals;
 mod replies;

@@ -2,4 +2,5 @@
 mod batch_responses;
 mod batches;
 mod instances;
+mod memory;
 mod responses;

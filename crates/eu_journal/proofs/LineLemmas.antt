@@ -6,13 +6,14 @@ use Rattle.eu_model.specs.declared.commands.Command.{Command}
 use Rattle.eu_model.specs.declared.commands.Command.TheVariants as command
 use Rattle.eu_model.specs.declared.commands.Reply.{Reply}
 use Rattle.eu_model.specs.declared.commands.Reply.TheVariants as reply
-use Rattle.eu_journal.specs.Law.{IsCommand, IsReply, LinesComeBack, bare}
+use Rattle.eu_journal.specs.Law.{LinesComeBack, bare}
+use Rattle.eu_journal_values.specs.Limits.{IsCommand, IsReply}
 use Rattle.eu_journal.specs.LineReading.{answered_line, asked_line, digest_line, flight_line, head_line, head_of, lease_line, line_of, row_line, sent_line, task_in, victim_line, waiting_line}
 use Rattle.eu_journal.specs.Lines.{line_tree}
-use Rattle.eu_journal.specs.Members.{below_32, moment_in, moment_of, optional_in, status_in}
-use Rattle.eu_journal.specs.Reading.{adopt_of, cancel_of, codes_of, command_of, config_from, conflict_of, drain_of, expected_of, instance_in, key_in, landed_of, last_of, lost_of, name_of, reconfigure_of, register_of, registered_of, renew_of, reply_of, set_status_of, stamp_in, times_of, unset_status_of}
-use Rattle.eu_journal.proofs.BackLemmas.{codes_back, config_back, instance_back, key_back, moment_back, name_back, optional_moment_back, optional_stamp_back, optional_status_back, small_back, status_back, step, task_back}
-use Rattle.eu_journal.specs.Trees.{command_rest, command_tree, config_tree, reply_rest, reply_tree, whole_number}
+use Rattle.eu_journal_values.specs.Members.{below_32, moment_in, moment_of, optional_in, status_in}
+use Rattle.eu_journal_values.specs.Reading.{adopt_of, cancel_of, codes_of, command_of, config_from, conflict_of, drain_of, expected_of, instance_in, key_in, landed_of, last_of, lost_of, name_of, reconfigure_of, register_of, registered_of, renew_of, reply_of, set_status_of, stamp_in, times_of, unset_status_of}
+use Rattle.eu_journal_values.proofs.BackLemmas.{codes_back, config_back, instance_back, key_back, moment_back, name_back, optional_moment_back, optional_stamp_back, optional_status_back, small_back, status_back, step, task_back}
+use Rattle.eu_journal_values.specs.Trees.{command_rest, command_tree, config_tree, reply_rest, reply_tree, whole_number}
 use Rattle.eu_journal.specs.declared.lines.JournalLine.TheVariants as line
 
 -- ---- commands

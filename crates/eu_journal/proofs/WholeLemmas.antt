@@ -11,8 +11,8 @@ use Rattle.eu_model.specs.declared.commands.Command.{Command}
 use Rattle.eu_model.specs.declared.commands.Command.TheVariants as command
 use Rattle.eu_model.specs.declared.commands.Reply.{Reply}
 use Rattle.eu_model.specs.declared.commands.Reply.TheVariants as reply
-use Rattle.eu_journal.specs.Lines.{line_tree, task_rest}
-use Rattle.eu_journal.specs.Trees.{command_rest, command_tree, instance_tree, optional, reply_rest, reply_tree, rest_tree, stamp_tree, status_tree, task_tree, whole_number}
+use Rattle.eu_journal.specs.Lines.{line_tree}
+use Rattle.eu_journal_values.specs.Trees.{command_rest, command_tree, instance_tree, optional, reply_rest, reply_tree, rest_tree, stamp_tree, status_tree, task_rest, task_tree, whole_number}
 use Rattle.eu_journal.specs.declared.lines.JournalLine.{JournalLine}
 use Rattle.eu_journal.specs.declared.lines.JournalLine.TheVariants as line
 

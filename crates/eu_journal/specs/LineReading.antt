@@ -3,11 +3,11 @@ use Rattle.std.specs.Prelude.{ℕ, List, Result, Ok, Err, if◌then◌else◌, �
 use Rattle.std.specs.Str.{bytes_eq}
 use Rattle.serde_json.specs.Data.{Data}
 use Rattle.eu_base.specs.declared.tasks.Task.{Task}
-use Rattle.eu_journal.specs.Answered.{◌>>=◌}
-use Rattle.eu_journal.specs.Members.{member_in, moment_in, number_in, optional_in, status_in, text_in}
-use Rattle.eu_journal.specs.Reading.{command_of, config_from, instance_in, key_in, name_of, reply_of, task_of, times_of}
-use Rattle.eu_journal.specs.declared.faults.LineFault.{LineFault}
-use Rattle.eu_journal.specs.declared.faults.LineFault.TheVariants.{NotALine}
+use Rattle.eu_journal_values.specs.Answered.{◌>>=◌}
+use Rattle.eu_journal_values.specs.Members.{member_in, moment_in, number_in, optional_in, status_in, text_in}
+use Rattle.eu_journal_values.specs.Reading.{command_of, config_from, instance_in, key_in, name_of, reply_of, task_of, times_of}
+use Rattle.eu_journal_values.specs.declared.faults.LineFault.{LineFault}
+use Rattle.eu_journal_values.specs.declared.faults.LineFault.TheVariants.{NotALine}
 use Rattle.eu_journal.specs.declared.lines.Head.{Head}
 use Rattle.eu_journal.specs.declared.lines.JournalLine.{JournalLine}
 use Rattle.eu_journal.specs.declared.lines.JournalLine.TheVariants as line

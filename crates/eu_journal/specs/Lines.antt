@@ -2,12 +2,9 @@
 use Rattle.std.specs.Prelude.{codes}
 use Rattle.serde_json.specs.Data.{Data, string, object, no_members, member}
 use Rattle.eu_base.specs.declared.tasks.Task.{Task}
-use Rattle.eu_journal.specs.Trees.{command_rest, command_tree, config_tree, instance_tree, key_tree, optional, reply_rest, reply_tree, rest_tree, status_tree, task_tree, times_tree, whole_number}
+use Rattle.eu_journal_values.specs.Trees.{command_rest, command_tree, config_tree, instance_tree, key_tree, optional, reply_rest, reply_tree, rest_tree, status_tree, task_rest, task_tree, times_tree, whole_number}
 use Rattle.eu_journal.specs.declared.lines.JournalLine.{JournalLine}
 use Rattle.eu_journal.specs.declared.lines.JournalLine.TheVariants as line
-
-abbrev pub task_rest : Task → Data
-task_rest t = optional rest_tree t.instance
 
 -- Members stand in the order of their names. Of the instance that a line may have, the rest is a member of the line
 abbrev pub line_tree : JournalLine → Data

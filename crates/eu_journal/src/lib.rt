@@ -1,19 +1,11 @@
 //! A journal as lines of JSON: each line to JSON, and back.
 #![tactic(auto)]
 
-mod commands_read;
-mod commands_write;
-mod faults;
 mod law;
 mod lines;
 mod lines_read;
 mod lines_write;
-mod members;
-mod read;
-mod replies;
-mod write;
 
-pub use faults::LineFault;
 pub use law::lines_come_back;
 pub use lines::{DigestText, Head, JournalLine};
 pub use lines_read::line_of;

@@ -1,17 +1,16 @@
 //! Lines from JSON.
 ghost use Rattle.std.specs.Prelude.{◌≡◌};
 ghost use Rattle.serde_json.specs.View.{view};
-ghost use Rattle.eu_journal.specs.Answered.{Gives};
+ghost use Rattle.eu_journal_values.specs.Answered.{Gives};
 ghost use Rattle.eu_journal.specs.LineReading.{answered_line, asked_line, digest_line, first_format, flight_line, head_line, head_of, lease_line, line_named, line_of, row_line, sent_line, task_in, victim_line, waiting_line};
-ghost use Rattle.eu_journal.specs.Members.{moment_in, optional_in};
+ghost use Rattle.eu_journal_values.specs.Members.{moment_in, optional_in};
 
-use crate::commands_read::command_of;
-use crate::faults::LineFault;
 use crate::lines::{DigestText, Head, JournalLine};
-use crate::members::{member_in, moment_in, number_in, status_in, text_in};
-use crate::read::{config_from, id_of, instance_in, key_in, task_of, times_of};
-use crate::replies::reply_of;
 use eu_base::{Moment, Task};
+use eu_journal_values::{
+    LineFault, command_of, config_from, id_of, instance_in, key_in, member_in, moment_in,
+    number_in, reply_of, status_in, task_of, text_in, times_of,
+};
 use eu_model::Listed;
 use serde_json::Value;
 use std::alloc::Global;

@@ -2,16 +2,15 @@
 ghost use Rattle.std.specs.Prelude.{◌≡◌, false, IfOk};
 ghost use Rattle.serde_json.specs.View.{view};
 ghost use Rattle.serde_json.specs.Written.{has_float};
-ghost use Rattle.eu_journal.specs.Lines.{line_tree, task_rest};
-ghost use Rattle.eu_journal.specs.Trees.{command_rest, optional, reply_rest, rest_tree, whole_number};
+ghost use Rattle.eu_journal.specs.Lines.{line_tree};
+ghost use Rattle.eu_journal_values.specs.Trees.{command_rest, optional, reply_rest, rest_tree, task_rest, whole_number};
 
-use crate::commands_write::command_value;
 use crate::lines::{Head, JournalLine};
-use crate::replies::reply_value;
-use crate::write::{
-    config_value, instance_value, key_value, status_value, task_value, times_value,
-};
 use eu_base::{Id, Instance, Key, Moment, Status, Task};
+use eu_journal_values::{
+    command_value, config_value, instance_value, key_value, reply_value, status_value, task_value,
+    times_value,
+};
 use eu_model::{Command, Entry, Listed, Reply};
 use serde_json::{Value, json};
 use std::alloc::{AllocError, Global};

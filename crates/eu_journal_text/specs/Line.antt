@@ -1,12 +1,12 @@
 -- What the text of a line says
 use Rattle.std.specs.Prelude.{◌≡◌, ℕ, List, Some, Result, Ok}
 use Rattle.serde_json.specs.Read.{read}
-use Rattle.eu_journal.specs.Answered.{◌>>=◌}
+use Rattle.eu_journal_values.specs.Answered.{◌>>=◌}
 use Rattle.eu_journal.specs.Law.{IsLine, bare_line}
 use Rattle.eu_journal.specs.LineReading.{line_of}
 use Rattle.eu_journal.specs.Lines.{line_tree}
-use Rattle.eu_journal.specs.Members.{needed}
-use Rattle.eu_journal.specs.declared.faults.LineFault.{LineFault}
+use Rattle.eu_journal_values.specs.Members.{needed}
+use Rattle.eu_journal_values.specs.declared.faults.LineFault.{LineFault}
 use Rattle.eu_journal.specs.declared.lines.JournalLine.{JournalLine}
 
 -- what its JSON says

@@ -2,10 +2,11 @@
 ghost use Rattle.std.specs.Prelude.{◌≡◌, ◌⊎◌, MatchResult, None, Some};
 ghost use Rattle.serde_json.specs.Read.{read};
 ghost use Rattle.serde_json.specs.View.{view};
-ghost use Rattle.eu_journal.specs.Answered.{Gives};
+ghost use Rattle.eu_journal_values.specs.Answered.{Gives};
 ghost use Rattle.eu_journal_text.specs.Line.{LineTextsComeBack, line_in};
 
-use eu_journal::{JournalLine, LineFault, line_of};
+use eu_journal::{JournalLine, line_of};
+use eu_journal_values::LineFault;
 use serde_json::Value;
 use std::alloc::Global;
 

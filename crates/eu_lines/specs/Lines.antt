@@ -2,6 +2,11 @@
 use Rattle.std.specs.Prelude.{◌≡◌, ◌≢◌, ◌⊎◌, ℕ, ◌≤◌, ◌<◌, List, [], ◌∷◌, ◌++◌, length, Option, ◌==◌}
 use Rattle.std.specs.List.{AllByRecursion, slice_split}
 use Rattle.std.specs.Io.KnownBytes.{IsAtEnd}
+use Rattle.eu_lines.specs.declared.limits.Limits.{Limits}
+
+-- a line of a script has up to 4,096 bytes, and a script up to 16,777,216
+abbrev pub script_limits : Limits
+script_limits = record { line = 4096; text = 16777216 }
 
 -- the lines of a text: its parts between LFs, so the last is empty where the text ends with LF
 abbrev pub lines_of : List ℕ → List (List ℕ)
@@ -19,17 +24,17 @@ HasNoEnd bytes = AllByRecursion (λ b. b ≢ 10) bytes
 abbrev pub AreWholeLines : List ℕ → List ℕ → Type 0
 AreWholeLines text given = IsWhole given × (tail : List ℕ) × (text ≡ given ++ tail) × HasNoEnd tail
 
--- the part within the bound of the bytes that were read: the first 16,777,216, where there are more
-abbrev pub IsWithinBound : List ℕ → List ℕ → Type 0
-IsWithinBound read text = (rest : List ℕ) × (read ≡ text ++ rest) × (length text ≤ 16777216) × (0 < length rest → length text ≡ 16777216)
+-- the part within the bound of the bytes that were read: as many of the first as a text may have, where there are more
+abbrev pub IsWithinBound : ℕ → List ℕ → List ℕ → Type 0
+IsWithinBound most read text = (rest : List ℕ) × (read ≡ text ++ rest) × (length text ≤ most) × (0 < length rest → length text ≡ most)
 
 -- Bytes whose lines may be judged, where these bytes were read and these are left: whole lines within the bound,
 -- or the whole text, at its end.
-abbrev pub IsJudged : Option (List ℕ) → List ℕ → List ℕ → Type 0
-IsJudged left read given =
-    ((rest : List ℕ) × (read ≡ given ++ rest) × IsWhole given × (length given ≤ 16777216))
-    ⊎ ((given ≡ read) × (length read ≤ 16777216) × IsAtEnd left)
+abbrev pub IsJudged : ℕ → Option (List ℕ) → List ℕ → List ℕ → Type 0
+IsJudged most left read given =
+    ((rest : List ℕ) × (read ≡ given ++ rest) × IsWhole given × (length given ≤ most))
+    ⊎ ((given ≡ read) × (length read ≤ most) × IsAtEnd left)
 
 -- What is kept of a line: all of it, or of one that is too long more than a line may have.
-abbrev pub IsKept : List ℕ → List ℕ → Type 0
-IsKept kept line = ((kept ≡ line) × (length line ≤ 4096)) ⊎ ((4096 < length kept) × (4096 < length line))
+abbrev pub IsKept : ℕ → List ℕ → List ℕ → Type 0
+IsKept longest kept line = ((kept ≡ line) × (length line ≤ longest)) ⊎ ((longest < length kept) × (longest < length line))

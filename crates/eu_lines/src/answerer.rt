@@ -1,7 +1,7 @@
 //! Whoever answers lines.
-ghost use Rattle.std.specs.Prelude.{◌≡◌, ◌≤◌, ◌<◌, ℕ, List, [], length, OnOk, Err, string_bytes};
+ghost use Rattle.std.specs.Prelude.{◌≡◌, ◌<◌, ℕ, List, [], length, OnOk, Err, string_bytes};
 
-use crate::{LONGEST_LINE, LineError};
+use crate::LineError;
 use std::alloc::Global;
 
 /// Whoever answers lines, over a context that is lent for each.
@@ -12,8 +12,7 @@ pub trait Answerer<X> {
     // An answerer in one state, with one context, finds the line bad.
     ghost refuses: { Self → X → List ℕ → Type 0 };
 
-    /// Answers one line, without its LF: it isn't empty, and has at most `LONGEST_LINE` bytes. What the line
-    /// prints goes into `out`.
+    /// Answers one line, without its LF, that isn't empty. What it prints goes into `out`.
     ///
     /// Of a bad line the error is `Bad`, and where there is no memory for the answer `OutOfMemory`. What is then in
     /// `out` isn't printed, and `self` is left open. A bad line leaves `context` as it was; where there is no memory
@@ -26,7 +25,6 @@ pub trait Answerer<X> {
         out: &mut String,
     ) -> Result<(), LineError>
         requires some { 0 < length line.now }
-        requires short { length line.now ≤ LONGEST_LINE }
         requires empty { string_bytes out.old ≡ [] }
         ensures ok { OnOk result (answers self.old context.old line.now (string_bytes out.new) self.new context.new) }
         ensures bad { result ≡ Err LineError.Bad → refuses self.old context.old line.now }

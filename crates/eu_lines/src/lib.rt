@@ -8,13 +8,12 @@
 
 mod answerer;
 mod faults;
+mod limits;
 mod lines;
 mod run;
 mod script;
 
 pub use answerer::Answerer;
 pub use faults::{LineError, ScriptFault};
-pub use script::{MOST_BYTES, answer_lines};
-
-/// The most bytes of a line, without its LF. A longer line is bad.
-pub const LONGEST_LINE: usize = 4096;
+pub use limits::{LONGEST_LINE, Limits, MOST_BYTES};
+pub use script::answer_lines;

@@ -1,8 +1,7 @@
 //! Lines cut from a text, and the front of one that hasn't ended.
-ghost use Rattle.std.specs.Prelude.{◌≡◌, ◌≤◌, ◌++◌, ◌∷◌, ℕ, List, length, IfSome, IfNone, OnOk, OnErr, vec_len};
+ghost use Rattle.std.specs.Prelude.{◌≡◌, ◌≤◌, ◌<◌, ◌^◌, ◌+◌, ◌++◌, ◌∷◌, ℕ, List, length, IfSome, IfNone, OnOk, OnErr, vec_len};
 ghost use Rattle.eu_lines.specs.Lines.{HasNoEnd, IsKept};
 
-use crate::LONGEST_LINE;
 use std::alloc::AllocError;
 
 /// The text before the first LF, and the text after it; none where there is no LF.
@@ -19,12 +18,13 @@ pub fn cut(text: &[u8]) -> Option<(&[u8], &[u8])>
     None
 }
 
-/// Adds a part of a line to what is kept of it: of a line that is too long its front alone.
-pub fn keep(kept: &mut Vec<u8>, part: &[u8]) -> Result<(), AllocError>
-    ensures ok { OnOk result ((line : List ℕ) → IsKept kept.old.items line → IsKept kept.new.items (line ++ part.now)) }
-    ensures few { vec_len kept.old ≤ 4097 → vec_len kept.new ≤ 4097 }
+/// Adds a part of a line to what is kept of it: of a line of more than so many bytes its front alone.
+pub fn keep(kept: &mut Vec<u8>, longest: usize, part: &[u8]) -> Result<(), AllocError>
+    requires { longest < 2 ^ 62 }
+    ensures ok { OnOk result ((line : List ℕ) → IsKept longest kept.old.items line → IsKept longest kept.new.items (line ++ part.now)) }
+    ensures few { vec_len kept.old ≤ longest + 1 → vec_len kept.new ≤ longest + 1 }
     ensures err { OnErr result (kept.new.items ≡ kept.old.items) }
 {
-    let room = (LONGEST_LINE + 1).saturating_sub(kept.len());
+    let room = (longest + 1).saturating_sub(kept.len());
     kept.extend_from_slice(&part[..part.len().min(room)])
 }

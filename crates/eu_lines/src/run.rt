@@ -7,7 +7,7 @@ ghost use Rattle.eu_lines.specs.Steps.{Adds, Takes, StopsAdding, StopsTaking};
 
 use crate::faults::fault_at;
 use crate::lines::{cut, keep};
-use crate::{Answerer, LONGEST_LINE, LineError, ScriptFault};
+use crate::{Answerer, Limits, LineError, ScriptFault};
 use eu_stream::{Sink, WriteFault, write_whole};
 use std::alloc::Global;
 
@@ -46,21 +46,22 @@ impl Run {
 /// Answers one line of any length, and puts what it prints to the end of `waiting`. `one` is room for it.
 fn answer_line<X, D: Answerer<X>>(
     alloc: Global,
+    limits: Limits,
     desk: &mut D,
     context: &mut X,
     line: &[u8],
     one: &mut String,
     waiting: &mut Vec<u8>,
 ) -> Result<(), LineError>
-    ensures ok { OnOk result ((out : List ℕ) × Prints D.answers desk.old context.old line.now out desk.new context.new × (waiting.new.items ≡ waiting.old.items ++ out)) }
-    ensures bad { result ≡ Err LineError.Bad → IsBad D.refuses desk.old context.old line.now }
+    ensures ok { OnOk result ((out : List ℕ) × Prints limits D.answers desk.old context.old line.now out desk.new context.new × (waiting.new.items ≡ waiting.old.items ++ out)) }
+    ensures bad { result ≡ Err LineError.Bad → IsBad limits D.refuses desk.old context.old line.now }
     ensures same_context { result ≡ Err LineError.Bad → context.new ≡ context.old }
     ensures err { OnErr result (waiting.new.items ≡ waiting.old.items) }
 {
     if line.is_empty() {
         return Ok(());
     }
-    if line.len() > LONGEST_LINE {
+    if line.len() > limits.line {
         return Err(LineError::Bad);
     }
     one.clear();
@@ -72,26 +73,44 @@ fn answer_line<X, D: Answerer<X>>(
 /// Answers the line that ends with this part.
 fn answer_part<X, D: Answerer<X>>(
     alloc: Global,
+    limits: Limits,
     run: &mut Run,
     desk: &mut D,
     context: &mut X,
     part: &[u8],
 ) -> Result<(), LineError>
-    requires { run.old.number < 2 ^ 63 }
-    ensures ok { OnOk result ((line : List ℕ) → IsKept run.old.kept.items line
-        → ((out : List ℕ) × Prints D.answers desk.old context.old (line ++ part.now) out desk.new context.new × (run.new.waiting.items ≡ run.old.waiting.items ++ out))) }
+    requires room { run.old.number < 2 ^ 63 }
+    requires bounded { limits.line < 2 ^ 62 }
+    ensures ok { OnOk result ((line : List ℕ) → IsKept limits.line run.old.kept.items line
+        → ((out : List ℕ) × Prints limits D.answers desk.old context.old (line ++ part.now) out desk.new context.new × (run.new.waiting.items ≡ run.old.waiting.items ++ out))) }
     ensures kept { OnOk result (run.new.kept.items ≡ []) }
     ensures number { OnOk result (run.new.number ≡ run.old.number + 1) }
-    ensures bad { result ≡ Err LineError.Bad → (line : List ℕ) → IsKept run.old.kept.items line → IsBad D.refuses desk.old context.old (line ++ part.now) }
+    ensures bad { result ≡ Err LineError.Bad → (line : List ℕ) → IsKept limits.line run.old.kept.items line → IsBad limits D.refuses desk.old context.old (line ++ part.now) }
     ensures same_context { result ≡ Err LineError.Bad → context.new ≡ context.old }
     ensures err { OnErr result ((run.new.waiting.items ≡ run.old.waiting.items) × (run.new.number ≡ run.old.number)) }
 {
     if run.kept.is_empty() {
-        answer_line(alloc, desk, context, part, &mut run.one, &mut run.waiting)?;
+        answer_line(
+            alloc,
+            limits,
+            desk,
+            context,
+            part,
+            &mut run.one,
+            &mut run.waiting,
+        )?;
     } else {
-        keep(&mut run.kept, part)?;
+        keep(&mut run.kept, limits.line, part)?;
         let line = run.kept.as_slice();
-        answer_line(alloc, desk, context, line, &mut run.one, &mut run.waiting)?;
+        answer_line(
+            alloc,
+            limits,
+            desk,
+            context,
+            line,
+            &mut run.one,
+            &mut run.waiting,
+        )?;
         run.kept.clear();
     }
     run.number += 1;
@@ -128,21 +147,23 @@ fn write_out<W: Sink>(writer: &mut W, waiting: &mut Vec<u8>) -> Result<(), Write
 /// Answers the line that ends with this part. Where it isn't answered, the lines before it are written.
 pub fn take_line<W: Sink, X, D: Answerer<X>>(
     alloc: Global,
+    limits: Limits,
     run: &mut Run,
     desk: &mut D,
     context: &mut X,
     writer: &mut W,
     part: &[u8],
 ) -> Result<(), ScriptFault>
-    requires { run.old.number < 2 ^ 63 }
-    ensures ok { OnOk result (Adds D.answers run.old desk.old context.old (W.contents writer.old) part.now run.new desk.new context.new (W.contents writer.new)) }
+    requires room { run.old.number < 2 ^ 63 }
+    requires bounded { limits.line < 2 ^ 62 }
+    ensures ok { OnOk result (Adds limits D.answers run.old desk.old context.old (W.contents writer.old) part.now run.new desk.new context.new (W.contents writer.new)) }
     ensures kept { OnOk result (run.new.kept.items ≡ []) }
     ensures number { OnOk result (run.new.number ≡ run.old.number + 1) }
-    ensures err { IfErr result (StopsAdding D.answers D.refuses run.old desk.old context.old (W.contents writer.old) part.now context.new (W.contents writer.new) (W.failed writer.new)) }
+    ensures err { IfErr result (StopsAdding limits D.answers D.refuses run.old desk.old context.old (W.contents writer.old) part.now context.new (W.contents writer.new) (W.failed writer.new)) }
     ensures sound { OnOk result (W.failed writer.new ≡ W.failed writer.old) }
     ensures same_stream { W.stream writer.new ≡ W.stream writer.old }
 {
-    if let Err(error) = answer_part(alloc, run, desk, context, part) {
+    if let Err(error) = answer_part(alloc, limits, run, desk, context, part) {
         write_out(writer, &mut run.waiting)?;
         return Err(fault_at(error, run.number + 1));
     }
@@ -155,26 +176,28 @@ pub fn take_line<W: Sink, X, D: Answerer<X>>(
 /// Answers the lines that end in this part of the text, writes and flushes what they print, and keeps the rest.
 pub fn take_chunk<W: Sink, X, D: Answerer<X>>(
     alloc: Global,
+    limits: Limits,
     run: &mut Run,
     desk: &mut D,
     context: &mut X,
     writer: &mut W,
     chunk: &[u8],
 ) -> Result<(), ScriptFault>
-    requires { run.old.number + length chunk.now < 2 ^ 63 }
-    ensures ok { OnOk result (Takes D.answers run.old desk.old context.old (W.contents writer.old) chunk.now run.new desk.new context.new (W.contents writer.new)) }
+    requires room { run.old.number + length chunk.now < 2 ^ 63 }
+    requires bounded { limits.line < 2 ^ 62 }
+    ensures ok { OnOk result (Takes limits D.answers run.old desk.old context.old (W.contents writer.old) chunk.now run.new desk.new context.new (W.contents writer.new)) }
     ensures written { OnOk result (run.new.waiting.items ≡ []) }
     ensures number { OnOk result (run.new.number ≤ run.old.number + length chunk.now) }
-    ensures err { IfErr result (StopsTaking D.answers D.refuses run.old desk.old context.old (W.contents writer.old) chunk.now context.new (W.contents writer.new) (W.failed writer.new)) }
+    ensures err { IfErr result (StopsTaking limits D.answers D.refuses run.old desk.old context.old (W.contents writer.old) chunk.now context.new (W.contents writer.new) (W.failed writer.new)) }
     ensures sound { OnOk result (W.failed writer.new ≡ W.failed writer.old) }
     ensures same_stream { W.stream writer.new ≡ W.stream writer.old }
 {
     let mut rest = chunk;
     'lines: while let Some((part, after)) = cut(rest) {
-        take_line(alloc, run, desk, context, writer, part)?;
+        take_line(alloc, limits, run, desk, context, writer, part)?;
         rest = after;
     }
-    let kept = keep(&mut run.kept, rest);
+    let kept = keep(&mut run.kept, limits.line, rest);
     write_out(writer, &mut run.waiting)?;
     Ok(kept?)
 }
@@ -182,19 +205,21 @@ pub fn take_chunk<W: Sink, X, D: Answerer<X>>(
 /// Answers the last line, at the end of the text, and writes and flushes what it prints.
 pub fn take_end<W: Sink, X, D: Answerer<X>>(
     alloc: Global,
+    limits: Limits,
     run: &mut Run,
     desk: &mut D,
     context: &mut X,
     writer: &mut W,
 ) -> Result<(), ScriptFault>
-    requires { run.old.number < 2 ^ 63 }
-    ensures ok { OnOk result (Adds D.answers run.old desk.old context.old (W.contents writer.old) [] run.new desk.new context.new (W.contents writer.new)) }
+    requires room { run.old.number < 2 ^ 63 }
+    requires bounded { limits.line < 2 ^ 62 }
+    ensures ok { OnOk result (Adds limits D.answers run.old desk.old context.old (W.contents writer.old) [] run.new desk.new context.new (W.contents writer.new)) }
     ensures written { OnOk result (run.new.waiting.items ≡ []) }
-    ensures err { IfErr result (StopsAdding D.answers D.refuses run.old desk.old context.old (W.contents writer.old) [] context.new (W.contents writer.new) (W.failed writer.new)) }
+    ensures err { IfErr result (StopsAdding limits D.answers D.refuses run.old desk.old context.old (W.contents writer.old) [] context.new (W.contents writer.new) (W.failed writer.new)) }
     ensures sound { OnOk result (W.failed writer.new ≡ W.failed writer.old) }
     ensures same_stream { W.stream writer.new ≡ W.stream writer.old }
 {
-    take_line(alloc, run, desk, context, writer, &[])?;
+    take_line(alloc, limits, run, desk, context, writer, &[])?;
     write_out(writer, &mut run.waiting)?;
     Ok(())
 }

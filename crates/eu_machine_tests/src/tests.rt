@@ -3,5 +3,6 @@ mod deadlines;
 mod eviction;
 mod index;
 mod lease;
+mod memory;
 mod meter;
 mod store;

@@ -50,6 +50,14 @@ with_server_options app =
     (option_rule (codes "workers") (Signed (pos 1) (pos 16)) (codes "2")))
     (option_rule (codes "expected") (Signed (pos 0) (pos 4294967295)) (codes "1"))
 
+-- the option `--journal FILE`, which may be left out
+abbrev pub journal_rule : Rule
+journal_rule = record (new_rule (codes "journal")) { long = Some (codes "journal"); value_names = 1 }
+
+-- a command with that option more
+abbrev pub with_journal : App → App
+with_journal app = with_rule app journal_rule
+
 abbrev required : App → App
 required app = record app { top = record app.top { subcommand_required = true } }
 
@@ -57,9 +65,9 @@ required app = record app { top = record app.top { subcommand_required = true } 
 abbrev pub program_app : ValueParser → ValueParser → ValueParser → App
 program_app one other third =
     with_subcommand (with_subcommand (with_subcommand (required (new_app (codes "eureka")))
-    (with_options (new_app (codes "script")) one).top)
+    (with_journal (with_options (new_app (codes "script")) one)).top)
     (with_options (new_app (codes "audit")) other).top)
-    (with_server_options (with_options (new_app (codes "serve")) third)).top
+    (with_journal (with_server_options (with_options (new_app (codes "serve")) third))).top
 
 -- ---- what was given
 

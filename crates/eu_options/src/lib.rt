@@ -4,5 +4,5 @@
 mod options;
 mod serving;
 
-pub use options::{command, config_of, seed_of, serving_of};
+pub use options::{command, config_of, journal_of, seed_of, serving_of};
 pub use serving::Serving;

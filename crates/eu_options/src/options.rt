@@ -1,9 +1,9 @@
 //! The words of the command line.
-ghost use Rattle.std.specs.Prelude.{ℕ, ◌≡◌, ◌≤◌, ◌<◌, ◌^◌, false, codes, IfOk, IfSome, IsSome};
-ghost use Rattle.clap.specs.Words.{rule_of, app_of, new_app};
+ghost use Rattle.std.specs.Prelude.{ℕ, ◌≡◌, ◌≤◌, ◌<◌, ◌^◌, false, codes, option_map, IfOk, IfSome, IsSome};
+ghost use Rattle.clap.specs.Words.{rule_of, app_of, new_app, first_value, found_of};
 ghost use Rattle.clap.specs.declared.builder.command.Command.TheViews.{out-Command};
 ghost use Rattle.eu_options.specs.declared.serving.Serving.{Serving};
-ghost use Rattle.eu_options.specs.Options.{option_rule, needed_rule, with_options, with_server_options, seed_rule, program_app, IsSwitchParser, IsNumber, IsConfig, IsServing};
+ghost use Rattle.eu_options.specs.Options.{option_rule, needed_rule, with_journal, with_options, with_server_options, seed_rule, program_app, IsSwitchParser, IsNumber, IsConfig, IsServing};
 
 use crate::serving::Serving;
 use clap::builder::ValueParser;
@@ -14,6 +14,10 @@ use std::alloc::{AllocError, Global};
 
 /// The words of an option that is on or off.
 static SWITCH: [&str; 2] = ["on", "off"];
+
+/// What `--journal` does at a command that makes a journal.
+const WRITES_JOURNAL: &str =
+    "Writes the journal to this file at the end; what the file held before is lost";
 
 /// The option `--NAME VALUE`, with the value that it has where it isn't given.
 fn option<'a>(
@@ -119,18 +123,34 @@ fn with_server<'a>(alloc: Global, command: Command<'a>) -> Result<Command<'a>, A
         .arg(expected)
 }
 
+/// The option that names the file of a journal.
+fn with_journal<'a>(
+    alloc: Global,
+    command: Command<'a>,
+    help: &'a str,
+) -> Result<Command<'a>, AllocError>
+    ensures app { IfOk result (λ c. app_of c ≡ with_journal (app_of command.entry)) }
+    ensures local { (out-Command command.entry).has_globals ≡ false → IfOk result (λ c. (out-Command c).has_globals ≡ false) }
+{
+    let journal = Arg::new(alloc, "journal")
+        .long("journal")
+        .value_name("FILE")
+        .help(help);
+    command.arg(journal)
+}
+
 /// The command `script` with its options.
 fn script<'a>(alloc: Global) -> Result<Command<'a>, AllocError>
-    ensures app { IfOk result (λ c. (switch : _) × IsSwitchParser switch × (app_of c ≡ with_options (new_app (codes "script")) switch)) }
+    ensures app { IfOk result (λ c. (switch : _) × IsSwitchParser switch × (app_of c ≡ with_journal (with_options (new_app (codes "script")) switch))) }
     ensures local { IfOk result (λ c. (out-Command c).has_globals ≡ false) }
 {
     let script = Command::new(alloc, "script").about(
         "Runs a script from standard input and prints the replies",
     );
-    with_settings(alloc, script)
+    with_journal(alloc, with_settings(alloc, script)?, WRITES_JOURNAL)
 }
 
-/// The command `audit` with its options, which are those of `script`.
+/// The command `audit` with its options, which are those of `script` but for the journal's.
 fn audit<'a>(alloc: Global) -> Result<Command<'a>, AllocError>
     ensures app { IfOk result (λ c. (switch : _) × IsSwitchParser switch × (app_of c ≡ with_options (new_app (codes "audit")) switch)) }
     ensures local { IfOk result (λ c. (out-Command c).has_globals ≡ false) }
@@ -143,11 +163,12 @@ fn audit<'a>(alloc: Global) -> Result<Command<'a>, AllocError>
 
 /// The command `serve` with its options.
 fn serve<'a>(alloc: Global) -> Result<Command<'a>, AllocError>
-    ensures app { IfOk result (λ c. (switch : _) × IsSwitchParser switch × (app_of c ≡ with_server_options (with_options (new_app (codes "serve")) switch))) }
+    ensures app { IfOk result (λ c. (switch : _) × IsSwitchParser switch × (app_of c ≡ with_journal (with_server_options (with_options (new_app (codes "serve")) switch)))) }
     ensures local { IfOk result (λ c. (out-Command c).has_globals ≡ false) }
 {
     let serve = Command::new(alloc, "serve").about("Serves clients over HTTP");
-    with_server(alloc, with_settings(alloc, serve)?)
+    let server = with_server(alloc, with_settings(alloc, serve)?)?;
+    with_journal(alloc, server, WRITES_JOURNAL)
 }
 
 /// The command line: `eureka script`, `eureka audit` and `eureka serve` with their options. `AllocError` where no memory is left.
@@ -191,6 +212,13 @@ pub fn seed_of(given: &ArgMatches<'_>) -> Option<u64>
     ensures none { (n : ℕ) → n < 2 ^ 64 → IsNumber given.now (codes "seed") n → IsSome result }
 {
     given.get_one::<u64>("seed")
+}
+
+/// The file of the journal that the options give, if they do.
+pub fn journal_of<'a>(given: &ArgMatches<'a>) -> Option<&'a str>
+    ensures { option_map (λ file. file.now) result ≡ first_value (found_of given.now) (codes "journal") }
+{
+    given.get_str("journal")
 }
 
 /// The port that the options give. None where they give none.

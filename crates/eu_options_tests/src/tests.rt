@@ -1,6 +1,6 @@
 //! The command line, from words to settings.
 use clap::error::ErrorKind;
-use eu_options::{command, config_of, seed_of, serving_of};
+use eu_options::{command, config_of, journal_of, seed_of, serving_of};
 use std::alloc::{AllocError, Global};
 use std::test::Fail;
 
@@ -101,6 +101,37 @@ fn a_seed_is_read_where_it_is_given(rt: HostRuntime) -> Result<(), Fail> {
     assert!(rt; read_seed(rt.alloc(), greatest.as_slice())? == Some(u64::MAX));
     let none = ["eureka", "script"];
     assert!(rt; read_seed(rt.alloc(), none.as_slice())?.is_none());
+    Ok(())
+}
+
+/// The file of a journal that words give, if they do.
+fn read_journal<'a>(alloc: Global, words: &'a [&'a str]) -> Result<Option<&'a str>, Fail> {
+    let matches = match command(alloc)?.try_get_matches_from(words) {
+        Ok(matches) => matches,
+        Err(_) => return Err(Fail::from(AllocError)),
+    };
+    Ok(match matches.subcommand() {
+        Some((_, found)) => journal_of(found),
+        None => None,
+    })
+}
+
+#[test]
+fn the_file_of_a_journal_is_read_where_it_is_given(rt: HostRuntime) -> Result<(), Fail> {
+    let some = ["eureka", "script", "--journal", "day one.jsonl"];
+    assert!(rt; read_journal(rt.alloc(), some.as_slice())? == Some("day one.jsonl"));
+    let none = ["eureka", "script"];
+    assert!(rt; read_journal(rt.alloc(), none.as_slice())?.is_none());
+    let serve = [
+        "eureka",
+        "serve",
+        "--journal=x",
+        "--port",
+        "0",
+        "--sessions",
+        "0",
+    ];
+    assert!(rt; read_journal(rt.alloc(), serve.as_slice())? == Some("x"));
     Ok(())
 }
 

@@ -1,3 +1,4 @@
 mod TurnLemmas
 pub mod KeepLemmas
 mod LawLemmas
+pub mod BusyLemmas

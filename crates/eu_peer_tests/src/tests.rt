@@ -1,3 +1,4 @@
 //! The tests, by what they are of.
+mod memory;
 mod servers;
 mod turns;

@@ -3,15 +3,16 @@ ghost use Rattle.std.specs.Prelude.{ℕ, ◌≡◌, ◌≢◌, ◌⊎◌, OnOk, 
 ghost use Rattle.clap.specs.Words.{kind_of};
 ghost use Rattle.std.specs.declared.io.ErrorKind.TheVariants as io_kind;
 
+use crate::files::create;
 use crate::serving::serve;
 use clap::error::ErrorKind;
 use clap::{ArgMatches, Error};
 use eu_base::{Config, Fault};
 use eu_clock::{Chooser, FirstChooser, RngChooser};
-use eu_options::{command, config_of, seed_of, serving_of};
-use eu_server::{ScriptFault, run_audit, run_script};
+use eu_options::{command, config_of, journal_of, seed_of, serving_of};
+use eu_server::{ScriptFault, run_audit, run_script, run_script_with_journal};
 use std::net::{Net, TcpListener, TcpStream};
-use std::rt::Env;
+use std::rt::{Env, Files};
 use std::sync::Wait;
 use std::thread::Threads;
 use std::time::Clock;
@@ -86,14 +87,41 @@ fn tell_words<R: Print + Eprint>(rt: &R, error: &Error) -> u8
     if error.use_stderr() { BAD_INPUT } else { DONE }
 }
 
-/// Runs a script, and gives the exit status.
-fn run<R: Input + Print + Eprint + AllocGlobal, C: Chooser>(
+/// Runs a script and writes its journal to that file, and gives the exit status. The file is created before anything is read.
+fn run_with_journal<R: Files + Input + Print + Eprint + AllocGlobal, C: Chooser>(
     rt: &R,
     config: Config,
+    path: &str,
     chooser: &mut C,
 ) -> u8
     ensures { (result ≡ 0) ⊎ ((result ≡ 2) ⊎ (result ≡ 3)) }
 {
+    let Some(mut journal) = create(rt, path) else {
+        return tell_fault(rt, Fault::Write);
+    };
+    let kept = run_script_with_journal(
+        rt.alloc(),
+        &mut rt.reader(),
+        &mut io::writer(rt),
+        &mut journal,
+        config,
+        chooser,
+    );
+    tell_end(rt, kept)
+}
+
+/// Runs a script, and gives the exit status. Its journal is written to the file of that path, where one is given.
+fn run<R: Files + Input + Print + Eprint + AllocGlobal, C: Chooser>(
+    rt: &R,
+    config: Config,
+    journal: Option<&str>,
+    chooser: &mut C,
+) -> u8
+    ensures { (result ≡ 0) ⊎ ((result ≡ 2) ⊎ (result ≡ 3)) }
+{
+    if let Some(path) = journal {
+        return run_with_journal(rt, config, path, chooser);
+    }
     let ended = run_script(
         rt.alloc(),
         &mut rt.reader(),
@@ -143,15 +171,19 @@ fn tell_no_words(rt: &impl Eprint, kind: io::ErrorKind) -> u8
 }
 
 /// Runs a script as the options say, and gives the exit status.
-fn start_script<R: Input + Print + Eprint + AllocGlobal>(rt: &R, given: &ArgMatches<'_>) -> u8
+fn start_script<R: Files + Input + Print + Eprint + AllocGlobal>(
+    rt: &R,
+    given: &ArgMatches<'_>,
+) -> u8
     ensures { (result ≡ 0) ⊎ ((result ≡ 2) ⊎ (result ≡ 3)) }
 {
     let Some(config) = config_of(given) else {
         return BAD_INPUT;
     };
+    let journal = journal_of(given);
     match seed_of(given) {
-        Some(seed) => run(rt, config, &mut RngChooser::seeded(seed)),
-        None => run(rt, config, &mut FirstChooser),
+        Some(seed) => run(rt, config, journal, &mut RngChooser::seeded(seed)),
+        None => run(rt, config, journal, &mut FirstChooser),
     }
 }
 
@@ -174,6 +206,7 @@ fn start_server<
         + Wait
         + Clock
         + Net<Listener = TcpListener, Stream = TcpStream>
+        + Files
         + Print
         + Eprint
         + AllocGlobal
@@ -184,20 +217,23 @@ fn start_server<
     let (Some(config), Some(serving)) = (config_of(given), serving_of(given)) else {
         return BAD_INPUT;
     };
+    let journal = journal_of(given);
     match seed_of(given) {
-        Some(seed) => serve(rt, config, serving, RngChooser::seeded(seed)),
-        None => serve(rt, config, serving, FirstChooser),
+        Some(seed) => serve(rt, config, serving, journal, RngChooser::seeded(seed)),
+        None => serve(rt, config, serving, journal, FirstChooser),
     }
 }
 
 /// Judges the words, and then does what they say: `eureka script` runs a script from standard input to standard output, `eureka audit`
-/// audits one, `eureka serve` serves HTTP. Gives the exit status: 0 where that is done, of an audit with the answer yes, 2 for bad words and
-/// for a bad line, 3 for any other fault, and where an audit's answer is no.
+/// audits one, `eureka serve` serves HTTP. A script and a server write their journal at the end to the file that the words name, if they
+/// do; it is created before anything is read, or a connection taken. Gives the exit status: 0 where that is done, of an audit with the
+/// answer yes, 2 for bad words and for a bad line, 3 for any other fault, and where an audit's answer is no.
 pub fn start<
     R: Threads
         + Wait
         + Clock
         + Net<Listener = TcpListener, Stream = TcpStream>
+        + Files
         + Env
         + Input
         + Print

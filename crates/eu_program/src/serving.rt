@@ -1,13 +1,16 @@
 //! A server of the port that the options name.
 ghost use Rattle.std.specs.Prelude.{◌≡◌, ◌≢◌, ◌⊎◌, OnOk};
 
+use crate::files::create;
 use crate::program::{DONE, tell_fault};
 use eu_base::{Config, Fault};
 use eu_clock::Chooser;
 use eu_options::Serving;
-use eu_serve::serve_on;
+use eu_serve::{Plan, serve_by, serve_with_journal};
+use eu_stream::Writing;
 use std::io;
 use std::net::{Ipv4Addr, Net, SocketAddr, TcpListener, TcpStream};
+use std::rt::Files;
 use std::sync::Wait;
 use std::thread::Threads;
 use std::time::Clock;
@@ -32,41 +35,70 @@ pub fn listen<R: Net<Listener = TcpListener, Stream = TcpStream> + Eprint>(
 }
 
 /// Tells why a server ended early, if it did and standard error takes it, and gives the exit status.
-fn tell_served(rt: &impl Eprint, ended: Result<(), Fault>) -> u8
+fn tell_served<T: Drop>(rt: &impl Eprint, ended: Result<T, Fault>) -> u8
     ensures whole { OnOk ended (result ≡ 0) }
     ensures fault { (f : Fault) → ended ≡ Err f → result ≡ 3 }
 {
     match ended {
-        Ok(()) => DONE,
+        Ok(served) => {
+            drop(served);
+            DONE
+        }
         Err(fault) => tell_fault(rt, fault),
     }
 }
 
-/// Serves, and gives the exit status: 0 where as many connections as wanted were served.
+/// Serves by a plan and writes the book's journal to that file, and gives the exit status. The file is created before a connection is
+/// taken.
+fn serve_to<
+    R: Threads + Wait + Clock + Files + Print + Eprint + AllocGlobal + Sync,
+    C: Chooser + Send + Drop,
+>(rt: &R, listener: &TcpListener, plan: &Plan, path: &str, chooser: C) -> u8
+    ensures { (result ≡ 0) ⊎ (result ≡ 3) }
+{
+    let Some(mut journal) = create(rt, path) else {
+        return tell_fault(rt, Fault::Write);
+    };
+    let ended = serve_with_journal(
+        rt,
+        rt.alloc(),
+        listener,
+        plan,
+        chooser,
+        &mut Writing::new(&mut journal),
+        &mut io::writer(rt),
+    );
+    tell_served(rt, ended)
+}
+
+/// Serves, and gives the exit status: 0 where as many connections as wanted were served. The journal of the book is written to the file of
+/// that path at the end, where one is given.
 pub fn serve<
     R: Threads
         + Wait
         + Clock
         + Net<Listener = TcpListener, Stream = TcpStream>
+        + Files
         + Print
         + Eprint
         + AllocGlobal
         + Sync,
     C: Chooser + Send + Drop,
->(rt: &R, config: Config, serving: Serving, chooser: C) -> u8
+>(rt: &R, config: Config, serving: Serving, journal: Option<&str>, chooser: C) -> u8
     ensures { (result ≡ 0) ⊎ (result ≡ 3) }
 {
     let Some(listener) = listen(rt, serving.port) else {
         return tell_fault(rt, Fault::Read);
     };
-    let ended = serve_on(
+    let plan = Plan::of_server(config, serving.expected, serving.workers, serving.sessions);
+    if let Some(path) = journal {
+        return serve_to(rt, &listener, &plan, path, chooser);
+    }
+    let ended = serve_by(
         rt,
         rt.alloc(),
         &listener,
-        config,
-        serving.expected,
-        serving.workers,
-        serving.sessions,
+        &plan,
         chooser,
         &mut io::writer(rt),
     );

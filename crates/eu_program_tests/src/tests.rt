@@ -1,4 +1,5 @@
 //! Servers of no session, and whole runs.
+mod journals;
 mod runs;
 
 use eu_base::Config;
@@ -21,7 +22,7 @@ fn idle(port: u16) -> Serving {
 #[test]
 fn a_server_that_is_done_has_exit_status_0(rt: HostRuntime) -> Result<(), Fail> {
     let config = Config::new(true, 85, 30, 60_000)?;
-    assert!(rt; serve(&rt, config, idle(0), FirstChooser) == 0);
+    assert!(rt; serve(&rt, config, idle(0), None, FirstChooser) == 0);
     Ok(())
 }
 
@@ -30,7 +31,7 @@ fn a_port_that_is_taken_is_a_fault(rt: HostRuntime) -> Result<(), Fail> {
     let config = Config::new(true, 85, 30, 60_000)?;
     let taken = TcpListener::bind(&rt, "127.0.0.1:0")?;
     let port = taken.local_addr()?.port();
-    assert!(rt; serve(&rt, config, idle(port), FirstChooser) == 3);
+    assert!(rt; serve(&rt, config, idle(port), None, FirstChooser) == 3);
     Ok(())
 }
 

@@ -1,6 +1,8 @@
 //! The tests, by what they are of.
 mod examples;
+mod journals;
 mod lines;
+mod memory;
 mod peers;
 mod scripts;
 mod settings;

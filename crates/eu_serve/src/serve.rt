@@ -1,9 +1,10 @@
 //! A server.
-ghost use Rattle.std.specs.Prelude.{◌≡◌, ◌≤◌, ◌<◌, ◌⊎◌, ℕ, Ok, Err, IfOk, IfErr, OnOk};
-ghost use Rattle.std.specs.Io.KnownBytes.{Appends};
+ghost use Rattle.std.specs.Prelude.{◌≡◌, ◌≤◌, ◌<◌, ◌⊎◌, ℕ, true, take, Ok, Err, IfOk, IfErr, OnOk};
+ghost use Rattle.std.specs.Io.KnownBytes.{Appends, Keeps};
 ghost use Rattle.eu_book.specs.Account.{IsLawful};
 ghost use Rattle.eu_book.specs.Peers.{state_of};
 ghost use Rattle.eu_serve.specs.Ends.{IsClose, IsEnd, IsStart};
+ghost use Rattle.eu_serve.specs.Journal.{IsUntold, closed_text};
 ghost use Rattle.eu_serve.specs.Served.{served_text};
 ghost use Rattle.eu_serve.specs.Unlimited.{IsUnlimited};
 ghost use Rattle.eu_settle.specs.Settled.{IsMismatch, IsSettled};
@@ -15,9 +16,11 @@ use eu_accept::{Acceptor, Connections, Timeouts};
 use eu_base::{Config, Fault};
 use eu_clock::{Chooser, SystemClock};
 use eu_gate::{Admission, MOST_WORKERS, Periods};
+use eu_journal_text::{WriteError, write_journal};
 use eu_routes::Routes;
 use eu_settle::{Closed, settle};
 use eu_shared::{Blanks, Label, Pass, Shared, Unclosed, close};
+use eu_stream::Sink;
 use eu_workers::{Job, Site, Work, Worker, run_all};
 use std::alloc::Global;
 use std::io::Write;
@@ -30,7 +33,7 @@ use std::time::Clock;
 /// The workers that are timers.
 const TIMERS: usize = 3;
 
-/// What a server is to do. `serve_on` has the plan of an ordinary one.
+/// What a server is to do. `Plan::of_server` is that of an ordinary one.
 #[derive(Clone, Copy)]
 pub struct Plan {
     /// The settings of its registry.
@@ -48,8 +51,10 @@ pub struct Plan {
 }
 
 impl Plan {
-    /// That of a server with these settings, at their pace and with a server's timeouts.
-    fn of_server(config: Config, expected: u32, workers: u32, sessions: u32) -> Plan
+    /// That of an ordinary server with these settings, which expects so many clients, and serves so many connections by so many workers:
+    /// its evictor takes a turn each `evict_ms` of the settings, the bucket ends a minute each `BUCKET_MS`, the threshold is updated each
+    /// `THRESHOLD_MS`, and its timeouts are `READ_TIMEOUT_MS`, `WRITE_TIMEOUT_MS`, `LINGER_MS` and `LINGER_BYTES`.
+    pub fn of_server(config: Config, expected: u32, workers: u32, sessions: u32) -> Plan
         ensures settings { (result.config ≡ config) × (result.expected ≡ expected) × (result.workers ≡ workers) × (result.sessions ≡ sessions) }
         ensures periods { result.periods ≡ record { evictor = config.evict_ms; bucket = 60000; threshold = 900000 } }
         ensures timeouts { result.timeouts ≡ record { read = 10000; write = 10000; linger = 1000; linger_bytes = 65536 } }
@@ -292,6 +297,22 @@ fn tell<W: Write>(writer: &mut W, served: u64) -> Result<(), Fault>
     Ok(())
 }
 
+/// Serves by a plan as `serve_book` does, over a book of its own.
+fn serve_new<R: Threads + Wait + Clock + Sync, H: Chooser + Send + Drop>(
+    rt: &R,
+    alloc: Global,
+    listener: &TcpListener,
+    plan: &Plan,
+    chooser: H,
+) -> Result<Outcome, Fault>
+    ensures lawful { IfOk result (λ o. IsLawful (account_of o.closed)) }
+    ensures plain { IfOk result (λ o. (o.closed.base ≡ state_of (account_of o.closed).base) × (o.closed.end ≡ state_of (account_of o.closed).state)) }
+    ensures settled { IfOk result (λ o. IsSettled o.closed.first o.closed.logs.items o.closed.entries.items) }
+    ensures fault { IfErr result IsEnd }
+{
+    serve_book::<Brand, R, H>(rt, alloc, listener, plan, chooser, Blanks::new())
+}
+
 /// Serves by a plan, as `serve_on` does by that of an ordinary server: with its faults, each when it comes there.
 pub fn serve_by<R: Threads + Wait + Clock + Sync, H: Chooser + Send + Drop, W: Write>(
     rt: &R,
@@ -304,8 +325,80 @@ pub fn serve_by<R: Threads + Wait + Clock + Sync, H: Chooser + Send + Drop, W: W
     ensures told { OnOk result ((n : ℕ) × Appends (W.contents writer.old) (W.contents writer.new) (served_text n)) }
     ensures untold { IfErr result (λ f. (f ≡ Fault.Write) ⊎ (IsEnd f × (writer.new ≡ writer.old))) }
 {
-    let outcome = serve_book::<Brand, R, H>(rt, alloc, listener, plan, chooser, Blanks::new())?;
-    tell(writer, outcome.served)
+    let served = serve_new(rt, alloc, listener, plan, chooser)?.served;
+    tell(writer, served)
+}
+
+/// Writes the text of a closed book's journal, and flushes it. `OutOfMemory` where there is no memory for the text: nothing was written
+/// then. `Write` where a write or the flush failed, now or before: a front of the text was written then.
+fn write_closed<J: Sink>(alloc: Global, journal: &mut J, closed: &Closed) -> Result<(), Fault>
+    ensures written { OnOk result (Appends (J.contents journal.old) (J.contents journal.new) (closed_text closed.now)) }
+    ensures sound { OnOk result (J.failed journal.new ≡ J.failed journal.old) }
+    ensures fault { IfErr result (λ f. (f ≡ Fault.OutOfMemory) ⊎ (f ≡ Fault.Write)) }
+    ensures memory { result ≡ Err Fault.OutOfMemory → Keeps (J.contents journal.old) (J.contents journal.new) }
+    ensures front { result ≡ Err Fault.Write → (k : ℕ) × Appends (J.contents journal.old) (J.contents journal.new) (take k (closed_text closed.now)) }
+    ensures failed { result ≡ Err Fault.Write → J.failed journal.new ≡ true }
+    ensures same_stream { J.stream journal.new ≡ J.stream journal.old }
+{
+    let entries = closed.entries.as_slice();
+    match write_journal(alloc, journal, &closed.base, entries, &closed.end) {
+        Ok(()) => flush(journal),
+        Err(WriteError::Write) => Err(Fault::Write),
+        Err(WriteError::OutOfMemory) => Err(Fault::OutOfMemory),
+    }
+}
+
+/// Flushes a writer. `Write` where that fails.
+fn flush<J: Sink>(journal: &mut J) -> Result<(), Fault>
+    ensures kept { Keeps (J.contents journal.old) (J.contents journal.new) }
+    ensures sound { OnOk result (J.failed journal.new ≡ J.failed journal.old) }
+    ensures fault { IfErr result (λ f. (f ≡ Fault.Write) × (J.failed journal.new ≡ true)) }
+    ensures same_stream { J.stream journal.new ≡ J.stream journal.old }
+{
+    match journal.flush() {
+        Ok(()) => Ok(()),
+        Err(_) => Err(Fault::Write),
+    }
+}
+
+/// Serves by a plan as `serve_by` does, but before `served N` is written, what is left of the journal of the book is written to another
+/// writer, and flushed. It gives what was served, and the book, closed and settled, as `serve_book` does.
+///
+/// What is written there is the text of a journal (`eu_journal_text::journal_text`): the state with which the closed book's journal begins,
+/// its entries, and the state with which it ends. The whole text is in memory before it is written.
+///
+/// # Errors
+///
+/// Those of `serve_on`, each when it comes there, and `OutOfMemory` also where there is no memory for the text: nothing is written then,
+/// neither there nor of `served N`. `Write` comes also where a write or a flush of the journal failed, now or before: then a front of the
+/// text was written there, and nothing of `served N`. Where `Write` comes of `served N`, the text was written whole.
+pub fn serve_with_journal<
+    R: Threads + Wait + Clock + Sync,
+    H: Chooser + Send + Drop,
+    J: Sink,
+    W: Write,
+>(
+    rt: &R,
+    alloc: Global,
+    listener: &TcpListener,
+    plan: &Plan,
+    chooser: H,
+    journal: &mut J,
+    writer: &mut W,
+) -> Result<Outcome, Fault>
+    ensures lawful { IfOk result (λ o. IsLawful (account_of o.closed)) }
+    ensures plain { IfOk result (λ o. (o.closed.base ≡ state_of (account_of o.closed).base) × (o.closed.end ≡ state_of (account_of o.closed).state)) }
+    ensures settled { IfOk result (λ o. IsSettled o.closed.first o.closed.logs.items o.closed.entries.items) }
+    ensures written { IfOk result (λ o. Appends (J.contents journal.old) (J.contents journal.new) (closed_text o.closed)) }
+    ensures told { IfOk result (λ o. Appends (W.contents writer.old) (W.contents writer.new) (served_text o.served)) }
+    ensures untold { IfErr result (λ f. IsUntold (writer.new ≡ writer.old) (J.failed journal.new) (J.contents journal.old) (J.contents journal.new) f) }
+    ensures sound { OnOk result (J.failed journal.new ≡ J.failed journal.old) }
+    ensures same_journal { J.stream journal.new ≡ J.stream journal.old }
+{
+    let outcome = serve_new(rt, alloc, listener, plan, chooser)?;
+    write_closed(alloc, journal, &outcome.closed)?;
+    tell(writer, outcome.served)?;
+    Ok(outcome)
 }
 
 /// Serves so many connections of a listener, by so many workers, 1 to 16, and then writes `served N`, N being how many there were.

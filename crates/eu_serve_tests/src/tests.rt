@@ -1,4 +1,6 @@
 //! Servers of a few sessions, with clients in the same process.
+mod cuts;
+mod journals;
 
 use eu_accept::Timeouts;
 use eu_base::{Config, Fault};

@@ -4,7 +4,8 @@ use Rattle.std.proofs.Math.Seq.{take-length}
 use Rattle.eu_base.specs.declared.settings.Config.{Config}
 use Rattle.eu_lines.specs.declared.faults.ScriptFault.{ScriptFault}
 use Rattle.eu_lines.specs.declared.faults.ScriptFault.TheVariants.{OutOfMemory}
-use Rattle.eu_lines.specs.Lines.{lines_of}
+use Rattle.eu_lines.specs.declared.limits.Limits.{Limits}
+use Rattle.eu_lines.specs.Lines.{lines_of, script_limits}
 use Rattle.eu_lines.specs.Script.{Outcome, Printed}
 use Rattle.eu_server.specs.declared.desk.Desk.{Desk}
 use Rattle.eu_server.specs.Desk.{DeskAnswers, DeskRefuses, HoldsRun, Keeps, Leaves}
@@ -26,19 +27,21 @@ module _ {C : Type 0} (config : Config) (asks : C → ℕ → ℕ × C) where
   bad d s x line at p = p s at.1
 
   -- what a desk before the registry is opened does with a script
-  pub runs : (d d' : Desk) (x x' : C) (left : Option (List ℕ)) (failed_reader failed_writer : Bool) (read : List ℕ) (result : Result (Unit {0}) ScriptFault) (out : List ℕ)
-      → d.config ≡ config → d.book ≡ None → Outcome (DeskAnswers asks) DeskRefuses d x d' x' left failed_reader failed_writer read result out
+  pub runs : (limits : Limits) → limits ≡ script_limits → (d d' : Desk) (x x' : C) (left : Option (List ℕ)) (failed_reader failed_writer : Bool) (read : List ℕ) (result : Result (Unit {0}) ScriptFault) (out : List ℕ)
+      → d.config ≡ config → d.book ≡ None → Outcome limits (DeskAnswers asks) DeskRefuses d x d' x' left failed_reader failed_writer read result out
       → ScriptRuns config asks x x' left failed_reader failed_writer read result out
-  runs d d' x x' left failed_reader failed_writer read result out same closed p =
-      outcome (DeskAnswers asks) DeskRefuses (Answers config asks) Refuses IsAt both bad d d' None x x' left failed_reader failed_writer read result out (same, subst (λ b. HoldsRun b None) (sym closed) tt) p
+  runs limits are d d' x x' left failed_reader failed_writer read result out same closed p =
+      let q = subst (λ (l : Limits). Outcome l (DeskAnswers asks) DeskRefuses d x d' x' left failed_reader failed_writer read result out) are p in
+      outcome script_limits (DeskAnswers asks) DeskRefuses (Answers config asks) Refuses IsAt both bad d d' None x x' left failed_reader failed_writer read result out (same, subst (λ b. HoldsRun b None) (sym closed) tt) q
 
   -- where it was answered whole, the desk keeps the account of its run
-  pub leaves : (d d' : Desk) (x x' : C) (left : Option (List ℕ)) (failed_reader failed_writer : Bool) (read out : List ℕ) → d.config ≡ config → d.book ≡ None
-      → Outcome (DeskAnswers asks) DeskRefuses d x d' x' left failed_reader failed_writer read (Ok tt) out
+  pub leaves : (limits : Limits) → limits ≡ script_limits → (d d' : Desk) (x x' : C) (left : Option (List ℕ)) (failed_reader failed_writer : Bool) (read out : List ℕ) → d.config ≡ config → d.book ≡ None
+      → Outcome limits (DeskAnswers asks) DeskRefuses d x d' x' left failed_reader failed_writer read (Ok tt) out
       → Leaves config asks x x' left failed_reader failed_writer read (Ok d') out
-  leaves d d' x x' left failed_reader failed_writer read out same closed p =
-      let r = printed (DeskAnswers asks) DeskRefuses (Answers config asks) Refuses IsAt both bad d None x (lines_of read) out d' x' (same, subst (λ b. HoldsRun b None) (sym closed) tt) p.2 in
-      (r.0, (p.0, p.1, r.1), r.2.1)
+  leaves limits are d d' x x' left failed_reader failed_writer read out same closed p =
+      let q = subst (λ (l : Limits). Outcome l (DeskAnswers asks) DeskRefuses d x d' x' left failed_reader failed_writer read (Ok tt) out) are p in
+      let r = printed script_limits (DeskAnswers asks) DeskRefuses (Answers config asks) Refuses IsAt both bad d None x (lines_of read) out d' x' (same, subst (λ b. HoldsRun b None) (sym closed) tt) q.2 in
+      (r.0, (q.0, q.1, r.1), r.2.1)
 
   -- a desk that a script left let it end so
   pub left_so : (d : Desk) (x x' : C) (left : Option (List ℕ)) (failed_reader failed_writer : Bool) (read out : List ℕ)
@@ -47,8 +50,8 @@ module _ {C : Type 0} (config : Config) (asks : C → ℕ → ℕ × C) where
 
   -- and the same script may end for want of memory, once its lines are answered
   pub without_memory : (x x' : C) (left : Option (List ℕ)) (failed_reader failed_writer : Bool) (read out : List ℕ) (end : Option Ran)
-      → Outcome (Answers config asks) Refuses None x end x' left failed_reader failed_writer read (Ok tt) out
+      → Outcome script_limits (Answers config asks) Refuses None x end x' left failed_reader failed_writer read (Ok tt) out
       → ScriptRuns config asks x x' left failed_reader failed_writer read (Err OutOfMemory) out
   without_memory x x' left failed_reader failed_writer read out end whole =
       let lines = lines_of read in
-      (end, (read, inr (refl, whole.0, whole.1), (length lines, omega arith, end, x', subst (λ l. Printed (Answers config asks) None x l out end x') (sym (take-length lines)) whole.2)))
+      (end, (read, inr (refl, whole.0, whole.1), (length lines, omega arith, end, x', subst (λ l. Printed script_limits (Answers config asks) None x l out end x') (sym (take-length lines)) whole.2)))

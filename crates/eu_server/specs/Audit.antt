@@ -7,6 +7,7 @@ use Rattle.eu_book.specs.Account.{most_entries}
 use Rattle.eu_book.specs.Peers.{state_of}
 use Rattle.eu_lines.specs.declared.faults.ScriptFault.{ScriptFault}
 use Rattle.eu_lines.specs.declared.faults.ScriptFault.TheVariants.{Write}
+use Rattle.eu_lines.specs.Lines.{script_limits}
 use Rattle.eu_lines.specs.Script.{Outcome}
 use Rattle.eu_model.specs.declared.commands.Entry.{Entry}
 use Rattle.eu_model.specs.Runs.{Runs}
@@ -43,7 +44,7 @@ module _ {C : Type 0} (config : Config) (asks : C → ℕ → ℕ × C) (x x' : 
   -- it had this result and came to this end, whatever it printed, which a writer took that never fails
   abbrev pub SilentlyRuns : Result (Unit {0}) ScriptFault → Option Ran → Type 0
   SilentlyRuns result end =
-      (printed : List ℕ) × Outcome (Answers config asks) Refuses None x end x' left failed_reader false read result printed
+      (printed : List ℕ) × Outcome script_limits (Answers config asks) Refuses None x end x' left failed_reader false read result printed
 
   -- it was answered whole, and this line tells the answer of its audit
   abbrev pub IsTold : Bool → List ℕ → Type 0

@@ -6,6 +6,7 @@ use Rattle.eu_book.specs.Account.{Account}
 use Rattle.eu_book.specs.Peers.{state_of}
 use Rattle.eu_lines.specs.declared.faults.ScriptFault.{ScriptFault}
 use Rattle.eu_lines.specs.declared.faults.ScriptFault.TheVariants.{OutOfMemory, Write}
+use Rattle.eu_lines.specs.Lines.{script_limits}
 use Rattle.eu_lines.specs.Script.{Outcome}
 use Rattle.eu_journal_text.specs.Text.{journal_text}
 use Rattle.eu_model.specs.Server.{plain_server}
@@ -111,5 +112,5 @@ Writes text failed (Err _) out = ⊥
 -- A script ended so: with a desk that keeps the account of its run, or by a fault. It wrote out
 module _ {C : Type 0} (config : Config) (asks : C → ℕ → ℕ × C) (x x' : C) (left : Option (List ℕ)) (failed_reader failed_writer : Bool) (read : List ℕ) where
   abbrev pub Leaves : Result Desk ScriptFault → List ℕ → Type 0
-  Leaves (Ok d) out = (end : Option Ran) × Outcome (Answers config asks) Refuses None x end x' left failed_reader failed_writer read (Ok tt) out × Keeps d end
+  Leaves (Ok d) out = (end : Option Ran) × Outcome script_limits (Answers config asks) Refuses None x end x' left failed_reader failed_writer read (Ok tt) out × Keeps d end
   Leaves (Err fault) out = ScriptRuns config asks x x' left failed_reader failed_writer read (Err fault) out

@@ -5,6 +5,7 @@ use Rattle.eu_book.specs.Peers.{state_of}
 use Rattle.eu_journal_text.specs.Text.{journal_text}
 use Rattle.eu_lines.specs.declared.faults.ScriptFault.{ScriptFault}
 use Rattle.eu_lines.specs.declared.faults.ScriptFault.TheVariants.{Write}
+use Rattle.eu_lines.specs.Lines.{script_limits}
 use Rattle.eu_lines.specs.Script.{Outcome}
 use Rattle.eu_model.specs.declared.commands.Entry.{Entry}
 use Rattle.eu_model.specs.Server.{PlainServer, plain_server}
@@ -23,7 +24,7 @@ IsTextOf (Some r) text =
 module _ {C : Type 0} (config : Config) (asks : C → ℕ → ℕ × C) (x x' : C) (left : Option (List ℕ)) (failed_reader failed_writer : Bool) (read out : List ℕ) where
   -- it was answered whole, and this is the text of its journal
   abbrev pub IsText : List ℕ → Type 0
-  IsText text = (end : Option Ran) × Outcome (Answers config asks) Refuses None x end x' left failed_reader failed_writer read (Ok tt) out × IsTextOf end text
+  IsText text = (end : Option Ran) × Outcome script_limits (Answers config asks) Refuses None x end x' left failed_reader failed_writer read (Ok tt) out × IsTextOf end text
 
   -- What such a script wrote to its journal, by its result. The flag says whether the journal's writer failed
   abbrev pub JournalRuns : Bool → Result (Unit {0}) ScriptFault → List ℕ → Type 0

@@ -8,6 +8,7 @@ use Rattle.eu_base.specs.declared.times.Stamp.{Stamp}
 use Rattle.eu_base.specs.Settings.{settings_of}
 use Rattle.eu_book.specs.Account.{most_steps}
 use Rattle.eu_lines.specs.declared.faults.ScriptFault.{ScriptFault}
+use Rattle.eu_lines.specs.Lines.{script_limits}
 use Rattle.eu_lines.specs.Script.{Outcome}
 use Rattle.eu_model.specs.declared.commands.Command.{Command}
 use Rattle.eu_model.specs.declared.commands.Command.TheVariants as command
@@ -143,4 +144,4 @@ Refuses s x line = IsMisplaced (line_of line) s
 -- It began before the registry is opened. The flags say whether reader and writer failed
 abbrev pub ScriptRuns : {C : Type 0} → Config → (C → ℕ → ℕ × C) → C → C → Option (List ℕ) → Bool → Bool → List ℕ → Result (Unit {0}) ScriptFault → List ℕ → Type 0
 ScriptRuns config asks x x' left failed_reader failed_writer read result out =
-    (end : Option Ran) × Outcome (Answers config asks) Refuses None x end x' left failed_reader failed_writer read result out
+    (end : Option Ran) × Outcome script_limits (Answers config asks) Refuses None x end x' left failed_reader failed_writer read result out

@@ -28,7 +28,11 @@ fn write_flushed<W: Sink>(writer: &mut W, text: &[u8]) -> Result<(), WriteFault>
 }
 
 /// Writes the line of a verdict, and flushes it. `OutOfMemory` comes before anything is written, `Write` where a write or a flush failed.
-fn tell_verdict<W: Sink>(alloc: Global, writer: &mut W, verdict: Verdict) -> Result<(), ScriptFault>
+pub fn tell_verdict<W: Sink>(
+    alloc: Global,
+    writer: &mut W,
+    verdict: Verdict,
+) -> Result<(), ScriptFault>
     ensures told { Wrote (W.contents writer.old) (W.contents writer.new) (Writes (audit_text verdict.is_run verdict.entries) (W.failed writer.new) result) }
     ensures sound { OnOk result (W.failed writer.new ≡ W.failed writer.old) }
     ensures same_stream { W.stream writer.new ≡ W.stream writer.old }

@@ -8,7 +8,7 @@ ghost use Rattle.eu_server.specs.Script.{ScriptRuns};
 use crate::desk::Desk;
 use eu_base::Config;
 use eu_clock::Chooser;
-use eu_lines::{ScriptFault, answer_lines};
+use eu_lines::{Limits, ScriptFault, answer_lines};
 use eu_stream::{Reading, Sink, Source, Writing};
 use std::alloc::Global;
 use std::io::{Read, Write};
@@ -30,7 +30,8 @@ pub fn answer_whole<R: Source, W: Sink, C: Chooser>(
     ensures same_writer { W.stream writer.new ≡ W.stream writer.old }
 {
     let mut desk = Desk::new(config);
-    answer_lines(alloc, reader, writer, &mut desk, chooser)?;
+    let limits = Limits::of_scripts();
+    answer_lines(alloc, limits, reader, writer, &mut desk, chooser)?;
     Ok(desk)
 }
 

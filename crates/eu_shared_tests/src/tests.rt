@@ -3,6 +3,7 @@ mod accounts;
 mod asks;
 mod checkpoints;
 mod held;
+mod memory;
 mod openings;
 mod passes;
 mod reads;

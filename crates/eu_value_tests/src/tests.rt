@@ -2,6 +2,7 @@
 mod base;
 mod choice;
 mod clock;
+mod memory;
 mod model;
 mod outbox;
 mod page;

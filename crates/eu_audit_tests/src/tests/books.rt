@@ -1,7 +1,7 @@
 //! What a book writes: its journal is a run from its base to what it is.
-use crate::tests::forms::{CLIENT, Client, Step, at, command, entries, state, verdict};
 use crate::tests::replies::{BASE, END, LINES};
 use eu_audit::audit;
+use eu_audit_forms::{CLIENT, Client, Step, at, command, entries, state, verdict};
 use eu_base::{Config, Fault, Moment};
 use eu_book::Book;
 use eu_clock::{Chooser, FirstChooser, ListChooser};

@@ -1,6 +1,6 @@
 //! A closed book of two passes. Pass 0 registers two clients and renews one three times; pass 1 renews the other twice. All is told at
 //! 7 ms, and one client was expected before.
-use crate::tests::forms::{
+use eu_audit_forms::{
     Answer, CLIENT, Client, Form, Lease, NEW, Step, entry, judged, state, verdict,
 };
 use eu_base::Fault;

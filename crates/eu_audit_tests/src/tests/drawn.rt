@@ -1,6 +1,6 @@
 //! Books that are told drawn commands at drawn moments.
 use crate::tests::books::{audited, tell};
-use crate::tests::forms::{Client, at, instance, key};
+use eu_audit_forms::{Client, at, instance, key};
 use eu_base::{Codes, Config, Fault, Instance, Key, Moment, Stamp, Status};
 use eu_book::{Book, Receipt};
 use eu_clock::{FirstChooser, RngChooser};

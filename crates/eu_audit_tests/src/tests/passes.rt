@@ -3,7 +3,7 @@
 //! One client was expected before they came, so that eleven are then. The nine that are silent have expired after 91,000, and i9 hasn't
 //! until 230,000, which is two durations after its renewal. At 85% a pass takes two of ten, and two of eight; at 50% five of ten, and
 //! three of five.
-use crate::tests::forms::{
+use eu_audit_forms::{
     Answer, CLIENT, Client, Form, Lease, NEW, Step, entry, listing, state, verdict,
 };
 use eu_base::{Fault, Moment};

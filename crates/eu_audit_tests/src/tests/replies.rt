@@ -1,5 +1,5 @@
 //! A journal of a server with one peer, with each kind of command and of reply.
-use crate::tests::forms::{Answer, CLIENT, Client, Form, Lease, Line, NEW, Step, Told, judged};
+use eu_audit_forms::{Answer, CLIENT, Client, Form, Lease, Line, NEW, Step, Told, judged};
 use eu_base::{Action, Fault, Status};
 use std::alloc::Global;
 

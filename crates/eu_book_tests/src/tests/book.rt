@@ -9,7 +9,7 @@ use std::alloc::{AllocError, Global};
 
 /// What a book is told.
 #[derive(Clone, Copy)]
-enum Step {
+pub enum Step {
     /// A client that is UP registers this id with the stamp 5, for 10 seconds.
     Register(&'static str),
     /// A peer renews i1 with this stamp.
@@ -30,7 +30,7 @@ enum Step {
     Lose,
 }
 
-fn at(ms: u64) -> Moment
+pub fn at(ms: u64) -> Moment
     requires { ms ≤ 2 ^ 62 }
 {
     Moment::new(ms).unwrap()
@@ -88,7 +88,7 @@ fn landing(alloc: Global, code: u16) -> Result<Command, Fault> {
     Ok(Command::Landed { peer: 0, codes })
 }
 
-fn command(alloc: Global, step: Step) -> Result<Command, Fault> {
+pub fn command(alloc: Global, step: Step) -> Result<Command, Fault> {
     match step {
         Step::Register(id) => registration(alloc, id),
         Step::Renew(dirty) => renewal(alloc, dirty),
@@ -112,7 +112,7 @@ fn action(tasks: &[Task]) -> &'static str {
     }
 }
 
-fn word(reply: &Reply) -> &'static str {
+pub fn word(reply: &Reply) -> &'static str {
     match reply {
         Reply::Registered { fresh: true } => "new",
         Reply::Done => "done",
@@ -384,9 +384,9 @@ fn roll(alloc: Global, book: &mut Book, times: usize) {
 }
 
 /// Where a journal begins, how many entries it has, how many leases its base has, and how many steps were made in all.
-type Extent = (u64, usize, usize, u64);
+pub type Extent = (u64, usize, usize, u64);
 
-fn extent(book: &Book) -> Extent {
+pub fn extent(book: &Book) -> Extent {
     let journal = book.journal();
     let leases = journal.base.leases.as_slice().len();
     (
@@ -519,7 +519,7 @@ fn a_refused_command_leaves_a_full_journal(rt: HostRuntime) {
 }
 
 /// With one peer.
-fn opened_with_peer(alloc: Global) -> Result<Book, Fault> {
+pub fn opened_with_peer(alloc: Global) -> Result<Book, Fault> {
     let config = Config::new(true, 85, 30, 60_000)?;
     Ok(Book::open(alloc, config, 0, 1)?)
 }

@@ -21,7 +21,7 @@ fn read(alloc: Global, text: &str) -> Result<Vec<Command>, Fault> {
 }
 
 /// How many commands it has.
-fn count(alloc: Global, text: &str) -> Result<usize, Fault> {
+pub fn count(alloc: Global, text: &str) -> Result<usize, Fault> {
     Ok(read(alloc, text)?.len())
 }
 
@@ -437,7 +437,7 @@ fn registers(alloc: Global, batch: &str, text: &str) -> Result<bool, Fault> {
 }
 
 /// Whether what is written of the task to register is read again.
-fn comes_back(alloc: Global) -> Result<bool, Fault> {
+pub fn comes_back(alloc: Global) -> Result<bool, Fault> {
     let head =
         r#"{"replicationList":[{"action":"Register","appName":"A","id":"i1","instanceInfo":"#;
     let tail = r#","lastDirtyTimestamp":"5","overriddenStatus":"UNKNOWN","status":"UP"}]}"#;
@@ -472,7 +472,7 @@ fn items_are_read_in_order(rt: HostRuntime) {
 }
 
 /// Whether that is what is written of one answer.
-fn is_answer(alloc: Global, code: u16, is_held: bool, text: &str) -> Result<bool, Fault> {
+pub fn is_answer(alloc: Global, code: u16, is_held: bool, text: &str) -> Result<bool, Fault> {
     let instance = held(alloc, is_held)?;
     let answer = ItemAnswer { code, instance };
     let value = batch_answer_value(alloc, slice::from_ref(&answer));

@@ -49,7 +49,7 @@ fn read(alloc: Global, text: &str) -> Result<Instance, Fault> {
 }
 
 /// The fault of a text for application A.
-fn fault_of(alloc: Global, text: &str) -> Option<Fault> {
+pub fn fault_of(alloc: Global, text: &str) -> Option<Fault> {
     read(alloc, text).err()
 }
 
@@ -605,7 +605,7 @@ fn is_clients(alloc: Global, inner: &Value) -> Result<bool, Fault> {
 }
 
 /// Whether what is written is read again.
-fn comes_again(alloc: Global) -> Result<bool, Fault> {
+pub fn comes_again(alloc: Global) -> Result<bool, Fault> {
     let inner = inner_of(alloc, WRITTEN)?;
     let is_clients = is_clients(alloc, &inner);
     drop(inner);
@@ -653,7 +653,7 @@ fn listing(alloc: Global, leases: &[(&str, &str, &str)]) -> Result<Vec<Listed>, 
 }
 
 /// Whether that is what is written of all these leases.
-fn is_all(alloc: Global, leases: &[(&str, &str, &str)], text: &str) -> Result<bool, Fault> {
+pub fn is_all(alloc: Global, leases: &[(&str, &str, &str)], text: &str) -> Result<bool, Fault> {
     let held = listing(alloc, leases)?;
     let value = applications_value(alloc, &held);
     drop(held);
@@ -675,7 +675,7 @@ fn app_value(alloc: Global, held: &[Listed]) -> Result<Value, Fault> {
 }
 
 /// Whether that is what is written of these leases' application.
-fn is_of_app(alloc: Global, leases: &[(&str, &str, &str)], text: &str) -> Result<bool, Fault> {
+pub fn is_of_app(alloc: Global, leases: &[(&str, &str, &str)], text: &str) -> Result<bool, Fault> {
     let held = listing(alloc, leases)?;
     let value = app_value(alloc, &held);
     drop(held);

@@ -1,7 +1,8 @@
 //! The text of a journal, line by line, and lines that are refused. The digest was computed by another program.
 use eu_base::{App, Config, Fault, Id, Instance, Key, Moment, Rest, Status};
-use eu_journal::{JournalLine, LineFault};
+use eu_journal::JournalLine;
 use eu_journal_text::{journal_text, read_line};
+use eu_journal_values::LineFault;
 use eu_model::{Command, Entry, Keys, Listed, Listing, Queues, Reply, Rows, State, Times};
 use std::alloc::{AllocError, Global};
 

@@ -18,7 +18,7 @@ fn key(alloc: Global, app: &str, id: &str) -> Result<Key, Fault> {
 }
 
 /// The key of that id, of application A.
-fn own(alloc: Global, id: &str) -> Result<Key, Fault> {
+pub fn own(alloc: Global, id: &str) -> Result<Key, Fault> {
     key(alloc, "A", id)
 }
 
@@ -40,7 +40,7 @@ fn held(alloc: Global, id: &str) -> Result<Held, Fault> {
 }
 
 /// Puts such a lease under that key.
-fn put(alloc: Global, leases: &mut Leases, key: Key, id: &str) -> Result<(), Fault> {
+pub fn put(alloc: Global, leases: &mut Leases, key: Key, id: &str) -> Result<(), Fault> {
     leases.prepare_put(&key)?;
     let held = held(alloc, id)?;
     drop(leases.put_prepared(key, held));
@@ -197,7 +197,7 @@ fn a_held_lease_begins_anew(rt: HostRuntime) -> Result<(), Fail> {
 }
 
 /// The ids of the leases that have expired at a moment, each before a comma.
-fn expired(alloc: Global, leases: &Leases, ms: u64) -> Result<String, Fault> {
+pub fn expired(alloc: Global, leases: &Leases, ms: u64) -> Result<String, Fault> {
     let keys = leases.expired_keys(alloc, at(ms)?, 0)?;
     let mut told = String::new(alloc);
     for key in &keys {
@@ -226,7 +226,7 @@ fn none_has_expired_at_its_deadline(rt: HostRuntime) -> Result<(), Fail> {
 }
 
 /// The ids, statuses and last updates of a listing.
-fn told(alloc: Global, listing: &[Listed]) -> Result<String, AllocError> {
+pub fn told(alloc: Global, listing: &[Listed]) -> Result<String, AllocError> {
     let mut told = String::new(alloc);
     for listed in listing {
         let id = listed.instance.key.id.as_str();

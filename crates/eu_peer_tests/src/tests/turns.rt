@@ -8,7 +8,7 @@ use eu_model::{Command, Query, View};
 use eu_peer::{InProcess, ItemAnswer, Lost, Peer, Turn, replicate_turn};
 use std::alloc::{AllocError, Global};
 
-fn at(ms: u64) -> Moment
+pub fn at(ms: u64) -> Moment
     requires { ms ≤ 2 ^ 62 }
 {
     Moment::new(ms).unwrap()
@@ -49,7 +49,7 @@ pub fn registration(alloc: Global, id: &str) -> Result<Command, Fault> {
 }
 
 /// A peer registers the instance of that id with this stamp.
-fn replicated(alloc: Global, id: &str, dirty: u32) -> Result<Command, Fault> {
+pub fn replicated(alloc: Global, id: &str, dirty: u32) -> Result<Command, Fault> {
     let mut instance = instance(alloc, id)?;
     instance.dirty = u64::from(dirty);
     Ok(Command::Register {
@@ -59,7 +59,7 @@ fn replicated(alloc: Global, id: &str, dirty: u32) -> Result<Command, Fault> {
 }
 
 /// A client renews the instance of that id, and gives no stamp.
-fn renewal(alloc: Global, id: &str) -> Result<Command, Fault> {
+pub fn renewal(alloc: Global, id: &str) -> Result<Command, Fault> {
     Ok(Command::Renew {
         key: key(alloc, id)?,
         dirty: None,
@@ -69,7 +69,7 @@ fn renewal(alloc: Global, id: &str) -> Result<Command, Fault> {
 }
 
 /// A peer cancels i1.
-fn cancel(alloc: Global) -> Result<Command, Fault> {
+pub fn cancel(alloc: Global) -> Result<Command, Fault> {
     Ok(Command::Cancel {
         key: key(alloc, "i1")?,
         replicated: true,
@@ -103,16 +103,16 @@ fn opened(alloc: Global) -> Result<Book, Fault> {
 }
 
 /// A clock that stands at this moment.
-fn clock(alloc: Global, moment: Moment) -> Result<ListClock, Fault> {
+pub fn clock(alloc: Global, moment: Moment) -> Result<ListClock, Fault> {
     let moments = Vec::from_slice(alloc, [moment].as_slice())?;
     Ok(ListClock::new(moments))
 }
 
 /// Two servers, of which the one is the other's peer. The clock of the peer stands at 0.
 #[derive(Drop)]
-struct Pair {
-    here: Book,
-    there: InProcess<Book, ListClock>,
+pub struct Pair {
+    pub here: Book,
+    pub there: InProcess<Book, ListClock>,
 }
 
 /// A server of the same process at which nothing is held.
@@ -128,7 +128,7 @@ fn opened_peer(alloc: Global) -> Result<InProcess<Book, ListClock>, Fault> {
 }
 
 /// Two servers at which nothing is held.
-fn opened_pair(alloc: Global) -> Result<Pair, Fault> {
+pub fn opened_pair(alloc: Global) -> Result<Pair, Fault> {
     let there = opened_peer(alloc)?;
     match opened(alloc) {
         Ok(here) => Ok(Pair { here, there }),
@@ -180,7 +180,7 @@ fn leases(view: &View) -> Option<u64> {
 }
 
 /// How many leases a book holds.
-fn held(alloc: Global, book: &Book) -> Option<u64> {
+pub fn held(alloc: Global, book: &Book) -> Option<u64> {
     let view = book.read(alloc, &Query::Counts, at(0)).ok()?;
     let held = leases(&view);
     drop(view);
@@ -204,7 +204,7 @@ fn shown(view: &View) -> Option<(u64, Status)> {
 }
 
 /// The stamp and the status with which a book holds i1.
-fn seen(alloc: Global, book: &Book) -> Option<(u64, Status)> {
+pub fn seen(alloc: Global, book: &Book) -> Option<(u64, Status)> {
     let view = first(alloc, book)?;
     let seen = shown(&view);
     drop(view);

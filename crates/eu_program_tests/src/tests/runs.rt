@@ -3,9 +3,10 @@ use eu_program::start;
 use std::alloc::{Alloc, Allocator, Global};
 use std::env::FillError;
 use std::fmt::Display;
+use std::fs::{Metadata, OpenOptions};
 use std::io::{BufRead, Error, ErrorKind, Lines, Read, Write};
 use std::net::{Ipv4Addr, Net, SocketAddr, TcpListener, TcpStream};
-use std::rt::Env;
+use std::rt::{Env, Files};
 use std::sync::{Mutex, Wait};
 use std::test::Fail;
 use std::thread::Threads;
@@ -111,6 +112,61 @@ impl<R> Env for Machine<'_, R> {
     }
 }
 
+/// There are no files.
+fn no_file<T>() -> io::Result<T> {
+    Err(Error::from(ErrorKind::Unsupported))
+}
+
+impl<R> Files for Machine<'_, R> {
+    type File = <HostRuntime as Files>::File;
+
+    type Dir = <HostRuntime as Files>::Dir;
+
+    fn open_file(
+        &self,
+        _how: &OpenOptions,
+        _path: &str,
+    ) -> io::Result<<HostRuntime as Files>::File> {
+        no_file()
+    }
+
+    fn open_dir(&self, _path: &str) -> io::Result<<HostRuntime as Files>::Dir> {
+        no_file()
+    }
+
+    fn metadata(&self, _path: &str) -> io::Result<Metadata> {
+        no_file()
+    }
+
+    fn symlink_metadata(&self, _path: &str) -> io::Result<Metadata> {
+        no_file()
+    }
+
+    fn copy(&self, _from: &str, _to: &str) -> io::Result<u64> {
+        no_file()
+    }
+
+    fn rename(&self, _from: &str, _to: &str) -> io::Result<()> {
+        no_file()
+    }
+
+    fn remove_file(&self, _path: &str) -> io::Result<()> {
+        no_file()
+    }
+
+    fn create_dir(&self, _path: &str) -> io::Result<()> {
+        no_file()
+    }
+
+    fn remove_dir(&self, _path: &str) -> io::Result<()> {
+        no_file()
+    }
+
+    fn remove_dir_all<B: Allocator>(&self, _alloc: B, _path: &str) -> io::Result<()> {
+        no_file()
+    }
+}
+
 impl<R> Input for Machine<'_, R> {
     type Reader = &'static [u8];
 
@@ -158,10 +214,10 @@ impl<R: Wait> Eprint for Machine<'_, R> {
 
 /// The exit status of a run, and what it wrote to standard output and to standard error.
 #[derive(Drop)]
-struct Ran {
-    status: u8,
-    out: Vec<u8>,
-    err: Vec<u8>,
+pub struct Ran {
+    pub status: u8,
+    pub out: Vec<u8>,
+    pub err: Vec<u8>,
 }
 
 /// A machine with such words and such an input.
@@ -215,7 +271,7 @@ fn run_broken<R: Threads + Wait + Clock + Net<Listener = TcpListener, Stream = T
 }
 
 /// Runs the program.
-fn run<R: Threads + Wait + Clock + Net<Listener = TcpListener, Stream = TcpStream> + Sync>(
+pub fn run<R: Threads + Wait + Clock + Net<Listener = TcpListener, Stream = TcpStream> + Sync>(
     rt: &R,
     alloc: Global,
     words: &[&str],

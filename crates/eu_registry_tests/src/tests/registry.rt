@@ -8,7 +8,7 @@ use std::alloc::{AllocError, Global};
 
 /// A call of a registry, with the id that it names. Each application is A.
 #[derive(Clone, Copy)]
-enum Call {
+pub enum Call {
     /// A client registers, with that status, stamp and duration.
     Join(&'static str, Status, u64, u32),
     /// A client registers with an overridden status.
@@ -150,7 +150,7 @@ fn cancel(alloc: Global, registry: &mut Registry, app: &str, id: &str) -> Result
     Ok(registry.cancel(&key))
 }
 
-fn answer<C: Chooser>(
+pub fn answer<C: Chooser>(
     alloc: Global,
     registry: &mut Registry,
     call: Call,
@@ -326,7 +326,7 @@ fn go<C: Chooser>(
 }
 
 /// A registry with an eviction interval of a minute and renewals each 30 s.
-fn opened(alloc: Global, settings: (bool, u32, u32)) -> Result<Registry, Fault> {
+pub fn opened(alloc: Global, settings: (bool, u32, u32)) -> Result<Registry, Fault> {
     let (preservation, percent, expected) = settings;
     let config = Config::new(preservation, percent, 30, 60_000)?;
     Ok(Registry::open(alloc, config, expected))

@@ -12,7 +12,7 @@ use std::alloc::{AllocError, Global};
 
 /// What a registry is told.
 #[derive(Clone, Copy)]
-enum Step {
+pub enum Step {
     /// A client registers, with that status, stamp and duration.
     Join(&'static str, Status, u64, u32),
     /// A peer told of i1.
@@ -93,7 +93,7 @@ fn up(alloc: Global) -> Result<Command, Fault>
     })
 }
 
-fn command(alloc: Global, step: Step) -> Result<Command, Fault>
+pub fn command(alloc: Global, step: Step) -> Result<Command, Fault>
     ensures { IfOk result (λ c. is_for_peers c ≡ false) }
 {
     match step {

@@ -92,14 +92,14 @@ fn joined(alloc: Global, parts: &[&[u8]]) -> Result<Vec<u8>, AllocError> {
 }
 
 /// The three requests, the first with a length.
-fn with_length(alloc: Global) -> Result<Vec<u8>, AllocError> {
+pub fn with_length(alloc: Global) -> Result<Vec<u8>, AllocError> {
     let head =
         b"POST /eureka/v2/apps/a HTTP/1.1\r\nHost: x\r\nContent-Length: 150\r\n\r\n".as_slice();
     joined(alloc, &[head, INSTANCE, TWO_MORE])
 }
 
 /// The three requests, the first with one chunk.
-fn with_chunks(alloc: Global) -> Result<Vec<u8>, AllocError> {
+pub fn with_chunks(alloc: Global) -> Result<Vec<u8>, AllocError> {
     let head =
         b"POST /eureka/v2/apps/a HTTP/1.1\r\nHost: x\r\nTransfer-Encoding: chunked\r\n\r\n96\r\n".as_slice();
     let end = b"\r\n0\r\n\r\n".as_slice();
@@ -107,7 +107,7 @@ fn with_chunks(alloc: Global) -> Result<Vec<u8>, AllocError> {
 }
 
 /// Whether a request has that method, target and body.
-fn is_request(request: &Request, method: &str, target: &str, body: &[u8]) -> bool {
+pub fn is_request(request: &Request, method: &str, target: &str, body: &[u8]) -> bool {
     request.method.as_str() == method
         && request.target.as_str() == target
         && request.body.as_slice() == body
@@ -129,7 +129,7 @@ fn is_next<R: Source>(
 }
 
 /// The method, the target and the body of the three requests.
-const THREE: [(&str, &str, &[u8]); 3] = [
+pub const THREE: [(&str, &str, &[u8]); 3] = [
     ("POST", "/eureka/v2/apps/a", INSTANCE),
     ("GET", "/eureka/apps/A/i1", b""),
     ("GET", "/eureka/apps/delta", b""),

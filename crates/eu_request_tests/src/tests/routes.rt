@@ -97,7 +97,7 @@ fn tell(text: &mut String, route: &Route) -> Result<(), AllocError> {
 }
 
 /// What a route asks for, field by field.
-fn words(alloc: Global, route: Route) -> Result<String, AllocError> {
+pub fn words(alloc: Global, route: Route) -> Result<String, AllocError> {
     let mut text = String::new(alloc);
     let told = tell(&mut text, &route);
     drop(route);
@@ -133,7 +133,7 @@ fn fault_of(alloc: Global, method: &str, path: &str, query: &str) -> Option<Faul
 }
 
 /// Methods, pages and queries, with what they ask for.
-const ROWS: [(&str, &str, &str, &str); 16] = [
+pub const ROWS: [(&str, &str, &str, &str); 16] = [
     ("POST", "apps/a", "", "register A"),
     ("POST", "apps/delta", "", "register DELTA"),
     ("PUT", "apps/a/i1", "", "renew A i1 None None"),

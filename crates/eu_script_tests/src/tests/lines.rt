@@ -1,6 +1,6 @@
 ghost use Rattle.std.specs.Prelude.{None, false};
 
-use eu_lines::{Answerer, LONGEST_LINE, LineError, MOST_BYTES, ScriptFault, answer_lines};
+use eu_lines::{Answerer, LONGEST_LINE, Limits, LineError, MOST_BYTES, ScriptFault, answer_lines};
 use eu_stream::{Discarding, ReadFault, Reading, Sink, Source, WriteFault, Writing};
 use std::alloc::{AllocError, Global};
 use std::cell::Cell;
@@ -251,6 +251,7 @@ fn answers_before_the_next_read(rt: HostRuntime) {
     let mut count = 0;
     let result = answer_lines(
         rt.alloc(),
+        Limits::of_scripts(),
         &mut reader,
         &mut writer,
         &mut Lengths,
@@ -268,6 +269,7 @@ fn answers_over_std_readers_and_writers(rt: HostRuntime) {
     let mut count = 0;
     let result = answer_lines(
         rt.alloc(),
+        Limits::of_scripts(),
         &mut Reading::new(&mut reader),
         &mut Writing::new(&mut out),
         &mut Lengths,
@@ -287,7 +289,14 @@ fn answers(
     printed: &[u8],
 ) -> bool {
     let mut count = 0;
-    let result = answer_lines(alloc, &mut reader, &mut writer, &mut Lengths, &mut count);
+    let result = answer_lines(
+        alloc,
+        Limits::of_scripts(),
+        &mut reader,
+        &mut writer,
+        &mut Lengths,
+        &mut count,
+    );
     result == wanted && writer.text.as_slice() == printed
 }
 
@@ -342,7 +351,14 @@ fn a_writer_fails_after_some_bytes(rt: HostRuntime) {
 /// Whether answering the lines of a reader fails at a write or a flush, the writer having failed after it took this.
 fn fails(alloc: Global, mut reader: Parts<'_>, mut writer: Failing, printed: &[u8]) -> bool {
     let mut count = 0;
-    let result = answer_lines(alloc, &mut reader, &mut writer, &mut Lengths, &mut count);
+    let result = answer_lines(
+        alloc,
+        Limits::of_scripts(),
+        &mut reader,
+        &mut writer,
+        &mut Lengths,
+        &mut count,
+    );
     result == Err(ScriptFault::Write) && writer.has_failed && writer.text.as_slice() == printed
 }
 
@@ -429,6 +445,7 @@ fn a_script_has_a_bound(rt: HostRuntime) {
         let mut count = 0;
         let result = answer_lines(
             rt.alloc(),
+            Limits::of_scripts(),
             &mut reader,
             &mut Discarding,
             &mut Lengths,

@@ -9,7 +9,7 @@ use eu_model::{Command, Reply};
 use std::alloc::{AllocError, Global};
 
 /// The request of a batch.
-fn posted(alloc: Global, body: &str) -> Result<String, AllocError> {
+pub fn posted(alloc: Global, body: &str) -> Result<String, AllocError> {
     let mut text = joined(
         alloc,
         &["POST /eureka/peerreplication/batch/ HTTP/1.1\r\nHost: x\r\nContent-Length: "],

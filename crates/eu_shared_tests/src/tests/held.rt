@@ -46,7 +46,7 @@ fn word(reply: &Reply) -> u32
 }
 
 /// Asks the book, where there is a command; 1 where it was accepted.
-fn ask<K: Label>(
+pub fn ask<K: Label>(
     alloc: Global,
     held: &mut Held<K>,
     pass: &mut Pass<K>,
@@ -63,7 +63,7 @@ fn ask<K: Label>(
 }
 
 /// The last update of a lease that a pass finds; 0 where it finds none.
-fn updated<K: Label>(
+pub fn updated<K: Label>(
     alloc: Global,
     held: &Held<K>,
     pass: &mut Pass<K>,
@@ -97,7 +97,7 @@ fn open_with<K: Label>(
 }
 
 /// A book that expects nobody, without peers.
-fn open<K: Label>(alloc: Global, blanks: Blanks) -> Result<Held<K>, Fault>
+pub fn open<K: Label>(alloc: Global, blanks: Blanks) -> Result<Held<K>, Fault>
     requires names { (blanks.steps.name ≡ K.steps) × (blanks.counted.name ≡ K.counted) × (blanks.added.name ≡ K.added) × (blanks.removed.name ≡ K.removed) }
     requires parts { (blanks.steps.parts ≡ K.parts) × (blanks.counted.parts ≡ K.parts) × (blanks.added.parts ≡ K.parts) × (blanks.removed.parts ≡ K.parts) × (K.parts ≡ 1025) }
 {
@@ -122,9 +122,9 @@ fn ask_all<K: Label>(alloc: Global, held: &mut Held<K>, two: &mut Two<K>) -> u32
 
 /// A book with two passes.
 #[derive(Drop)]
-struct Opened<K: Label> {
-    held: Held<K>,
-    two: Two<K>,
+pub struct Opened<K: Label> {
+    pub held: Held<K>,
+    pub two: Two<K>,
 }
 
 fn make_two<K: Label>(alloc: Global, held: &mut Held<K>) -> Result<Two<K>, Fault> {
@@ -177,7 +177,7 @@ fn close_both<K: Label>(alloc: Global, opened: Opened<K>) -> Result<Closed, Faul
 }
 
 /// Whether the logs are those of the passes 0 and 1, with five items and two.
-fn are_logs(closed: &Closed) -> bool {
+pub fn are_logs(closed: &Closed) -> bool {
     match closed.logs.as_slice() {
         [zero, one] => {
             zero.pass == 0 && zero.log.len() == 5 && one.pass == 1 && one.log.len() == 2

@@ -254,6 +254,39 @@ fn refusals_change_nothing(rt: HostRuntime) {
     assert!(rt; tells(rt.alloc(), calls.as_slice(), text) == Ok(true));
 }
 
+/// What would refuse a drain, a landing of one task and a loss, before a task is put, with it waiting, and with it in flight.
+type Refusals = (Option<Fault>, Option<Fault>, Option<Fault>);
+
+fn refusals(outbox: &Outbox, now: Moment) -> Refusals {
+    (
+        outbox.drain_refusal(now),
+        outbox.landed_refusal([200].as_slice()),
+        outbox.lost_refusal(),
+    )
+}
+
+fn all_refusals(
+    alloc: Global,
+    outbox: &mut Outbox,
+) -> Result<(Refusals, Refusals, Refusals), Fault> {
+    let now = at(0)?;
+    let none = refusals(outbox, now);
+    put(alloc, outbox, Action::Heartbeat, "a", now)?;
+    let waits = refusals(outbox, now);
+    drop(outbox.drain(alloc, now, 1)?);
+    Ok((none, waits, refusals(outbox, now)))
+}
+
+#[test]
+fn refusals_are_told_before(rt: HostRuntime) {
+    let mut outbox = Outbox::new(rt.alloc());
+    let told = all_refusals(rt.alloc(), &mut outbox);
+    drop(outbox);
+    let gone = Some(Fault::NoFlight);
+    let none = (Some(Fault::EmptyBatch), gone, gone);
+    assert!(rt; told == Ok((none, (None, gone, gone), (Some(Fault::Busy), None, None))));
+}
+
 #[test]
 fn heartbeats_of_no_lease_are_registrations(rt: HostRuntime) {
     let calls = [

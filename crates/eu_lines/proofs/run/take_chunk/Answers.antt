@@ -10,7 +10,7 @@ returns-in_err-take_line-clause-err g c =
     let inv = c.lines.invariant.so_far in
     rw (p.1, p.2) (λ s x held text st.
     let here = inv.2 s x held text st in
-    stopped_next_in g.D.Answerer.answers g.D.Answerer.refuses c.in_err-take_line.field-0.0 s x held text inv.0 c.lines.rest.now c.in-Some.part.now c.in-Some.after.now c.args.chunk.now c.lines.run c.lines.desk c.lines.context c.take_line.new.context _ _ _
+    stopped_next_in c.args.limits g.D.Answerer.answers g.D.Answerer.refuses c.in_err-take_line.field-0.0 s x held text inv.0 c.lines.rest.now c.in-Some.part.now c.in-Some.after.now c.args.chunk.now c.lines.run c.lines.desk c.lines.context c.take_line.new.context _ _ _
     inv.1 c.in-Some.ensures.whole c.in-Some.ensures.first here (c.in_err-take_line.ensures.err s x held here.lines here.tail here.shown here.keeps here.counts))
 
 pub lines-preserved : goal.lines-preserved
@@ -28,7 +28,7 @@ lines-preserved g c =
         goes_to inv.0 c.lines.rest.now c.in-Some.part.now c.in-Some.after.now c.args.chunk.now inv.1 whole,
         λ s x held text st.
             let here = inv.2 s x held text st in
-            stands_line_in g.D.Answerer.answers g.D.Answerer.refuses s x held text inv.0 c.in-Some.part.now c.lines.run c.take_line.new.run c.lines.desk c.lines.context c.take_line.new.desk c.take_line.new.context _ _ first here
+            stands_line_in c.args.limits g.D.Answerer.answers g.D.Answerer.refuses s x held text inv.0 c.in-Some.part.now c.lines.run c.take_line.new.run c.lines.desk c.lines.context c.take_line.new.desk c.take_line.new.context _ _ first here
             (c.in_ok-take_line.ensures.ok s x held here.lines here.tail here.shown here.keeps) c.in_ok-take_line.ensures.kept c.in_ok-take_line.ensures.number,
       );
     }
@@ -40,8 +40,8 @@ returns-in_err-write_out-clause-err g c =
     let f = c.in_err-write_out.ensures.err in
     rw (p.1, p.2) (λ s x held text st.
     let here = inv.2 s x held text st in
-    stopped_here_in g.D.Answerer.answers g.D.Answerer.refuses Write s x held text inv.0 c.lines.rest.now c.args.chunk.now c.lines.run c.lines.desk c.lines.context c.lines.context _ _ _ inv.1 here
-    (stopped_writing g.D.Answerer.answers g.D.Answerer.refuses s x held here.lines c.lines.run.waiting.items f.0 _ c.lines.desk c.lines.context c.lines.context _ _ here.shown c.in_err-write_out.ensures.failed f.1))
+    stopped_here_in c.args.limits g.D.Answerer.answers g.D.Answerer.refuses Write s x held text inv.0 c.lines.rest.now c.args.chunk.now c.lines.run c.lines.desk c.lines.context c.lines.context _ _ _ inv.1 here
+    (stopped_writing c.args.limits g.D.Answerer.answers g.D.Answerer.refuses s x held here.lines c.lines.run.waiting.items f.0 _ c.lines.desk c.lines.context c.lines.context _ _ here.shown c.in_err-write_out.ensures.failed f.1))
 
 pub returns-in_err-kept-clause-err : goal.returns-in_err-kept-clause-err
 returns-in_err-kept-clause-err g c =
@@ -49,12 +49,12 @@ returns-in_err-kept-clause-err g c =
     let inv = c.lines.invariant.so_far in
     rw (p.1, p.2) (λ s x held text st.
     let here = inv.2 s x held text st in
-    stopped_here_in g.D.Answerer.answers g.D.Answerer.refuses OutOfMemory s x held text inv.0 c.lines.rest.now c.args.chunk.now c.lines.run c.lines.desk c.lines.context c.lines.context _ _ (g.W.Sink.failed c.write_out.new.writer) inv.1 here
-    (stopped_memory g.D.Answerer.answers g.D.Answerer.refuses s x held here.lines c.lines.run.waiting.items (g.W.Sink.failed c.write_out.new.writer) c.lines.desk c.lines.context c.lines.context _ _ here.shown c.in_ok-write_out.ensures.ok))
+    stopped_here_in c.args.limits g.D.Answerer.answers g.D.Answerer.refuses OutOfMemory s x held text inv.0 c.lines.rest.now c.args.chunk.now c.lines.run c.lines.desk c.lines.context c.lines.context _ _ (g.W.Sink.failed c.write_out.new.writer) inv.1 here
+    (stopped_memory c.args.limits g.D.Answerer.answers g.D.Answerer.refuses s x held here.lines c.lines.run.waiting.items (g.W.Sink.failed c.write_out.new.writer) c.lines.desk c.lines.context c.lines.context _ _ here.shown c.in_ok-write_out.ensures.ok))
 
 pub returns-clause-ok : goal.returns-clause-ok
 returns-clause-ok g c = λ s x held text st.
     let inv = c.lines.invariant.so_far in
     let here = inv.2 s x held text st in
-    stands_rest_in g.D.Answerer.answers g.D.Answerer.refuses s x held text inv.0 c.lines.rest.now c.args.chunk.now c.lines.run (record c.lines.run { kept = c.keep-kept.new.kept; waiting = c.write_out.new.waiting }) c.lines.desk c.lines.context _ _
+    stands_rest_in c.args.limits g.D.Answerer.answers g.D.Answerer.refuses s x held text inv.0 c.lines.rest.now c.args.chunk.now c.lines.run (record c.lines.run { kept = c.keep-kept.new.kept; waiting = c.write_out.new.waiting }) c.lines.desk c.lines.context _ _
     inv.1 c.in_default.ensures.none here c.in_ok-kept.ensures.ok refl c.in_ok-write_out.ensures.ok c.in_ok-write_out.ensures.none

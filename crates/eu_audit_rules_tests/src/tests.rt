@@ -1,0 +1,6 @@
+//! The tests, by what they are of.
+mod names;
+mod plain;
+mod queues;
+mod refusals;
+mod rules;

@@ -1,0 +1,3 @@
+pub mod BackLemmas
+pub mod BoundedLemmas
+pub mod CodeLemmas

@@ -1,0 +1,6 @@
+pub mod Answered
+pub mod Bounded
+pub mod Limits
+pub mod Members
+pub mod Reading
+pub mod Trees

@@ -1,2 +1,4 @@
 //! The tests.
 mod journal;
+mod memory;
+mod reading;

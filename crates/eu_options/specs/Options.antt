@@ -66,7 +66,7 @@ abbrev pub program_app : ValueParser → ValueParser → ValueParser → App
 program_app one other third =
     with_subcommand (with_subcommand (with_subcommand (required (new_app (codes "eureka")))
     (with_journal (with_options (new_app (codes "script")) one)).top)
-    (with_options (new_app (codes "audit")) other).top)
+    (with_journal (with_options (new_app (codes "audit")) other)).top)
     (with_journal (with_server_options (with_options (new_app (codes "serve")) third))).top
 
 -- ---- what was given

@@ -150,15 +150,20 @@ fn script<'a>(alloc: Global) -> Result<Command<'a>, AllocError>
     with_journal(alloc, with_settings(alloc, script)?, WRITES_JOURNAL)
 }
 
-/// The command `audit` with its options, which are those of `script` but for the journal's.
+/// The command `audit` with its options, which are those of `script`.
 fn audit<'a>(alloc: Global) -> Result<Command<'a>, AllocError>
-    ensures app { IfOk result (λ c. (switch : _) × IsSwitchParser switch × (app_of c ≡ with_options (new_app (codes "audit")) switch)) }
+    ensures app { IfOk result (λ c. (switch : _) × IsSwitchParser switch × (app_of c ≡ with_journal (with_options (new_app (codes "audit")) switch))) }
     ensures local { IfOk result (λ c. (out-Command c).has_globals ≡ false) }
 {
     let audit = Command::new(alloc, "audit").about(
         "Runs a script from standard input and tells whether what it did is a run of the lease machine",
     );
-    with_settings(alloc, audit)
+    let settings = with_settings(alloc, audit)?;
+    with_journal(
+        alloc,
+        settings,
+        "Judges the journal in this file, and runs no script",
+    )
 }
 
 /// The command `serve` with its options.

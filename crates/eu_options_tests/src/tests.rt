@@ -118,10 +118,12 @@ fn read_journal<'a>(alloc: Global, words: &'a [&'a str]) -> Result<Option<&'a st
 
 #[test]
 fn the_file_of_a_journal_is_read_where_it_is_given(rt: HostRuntime) -> Result<(), Fail> {
-    let some = ["eureka", "script", "--journal", "day one.jsonl"];
-    assert!(rt; read_journal(rt.alloc(), some.as_slice())? == Some("day one.jsonl"));
-    let none = ["eureka", "script"];
-    assert!(rt; read_journal(rt.alloc(), none.as_slice())?.is_none());
+    for name in ["script", "audit"] {
+        let some = ["eureka", name, "--journal", "day one.jsonl"];
+        assert!(rt; read_journal(rt.alloc(), some.as_slice())? == Some("day one.jsonl"));
+        let none = ["eureka", name];
+        assert!(rt; read_journal(rt.alloc(), none.as_slice())?.is_none());
+    }
     let serve = [
         "eureka",
         "serve",

@@ -13,3 +13,14 @@ pub fn create<R: Files + Eprint>(rt: &R, path: &str) -> Option<R::File> {
         }
     }
 }
+
+/// Opens a file to be read. Where that fails, standard error is told why, and there is none.
+pub fn open<R: Files + Eprint>(rt: &R, path: &str) -> Option<R::File> {
+    match fs::open(rt, path) {
+        Ok(file) => Some(file),
+        Err(error) => {
+            let _ = eprintln!(rt; "{path}: {error}");
+            None
+        }
+    }
+}

@@ -3,12 +3,13 @@ ghost use Rattle.std.specs.Prelude.{ℕ, ◌≡◌, ◌≢◌, ◌⊎◌, OnOk, 
 ghost use Rattle.clap.specs.Words.{kind_of};
 ghost use Rattle.std.specs.declared.io.ErrorKind.TheVariants as io_kind;
 
-use crate::files::create;
+use crate::files::{create, open};
 use crate::serving::serve;
 use clap::error::ErrorKind;
 use clap::{ArgMatches, Error};
 use eu_base::{Config, Fault};
 use eu_clock::{Chooser, FirstChooser, RngChooser};
+use eu_journal_audit::{AuditFault, run_journal_audit};
 use eu_options::{command, config_of, journal_of, seed_of, serving_of};
 use eu_server::{ScriptFault, run_audit, run_script, run_script_with_journal};
 use std::net::{Net, TcpListener, TcpStream};
@@ -150,6 +151,45 @@ fn audit<R: Input + Print + Eprint + AllocGlobal, C: Chooser>(
     tell_audit(rt, ended)
 }
 
+/// Gives the exit status of a journal's audit: of its answer, or of the fault by which it ended early, which is told if standard error takes
+/// it.
+fn tell_journal_audit(rt: &impl Eprint, ended: Result<bool, AuditFault>) -> u8
+    ensures right { ended ≡ Ok true → result ≡ 0 }
+    ensures wrong { ended ≡ Ok false → result ≡ 3 }
+    ensures bad_line { (line : ℕ) → ended ≡ Err (AuditFault.BadLine line) → result ≡ 2 }
+    ensures early { ended ≡ Err AuditFault.EndsEarly → result ≡ 2 }
+    ensures read { ended ≡ Err AuditFault.Read → result ≡ 3 }
+    ensures write { ended ≡ Err AuditFault.Write → result ≡ 3 }
+    ensures no_memory { ended ≡ Err AuditFault.OutOfMemory → result ≡ 3 }
+{
+    match ended {
+        Ok(true) => DONE,
+        Ok(false) => FAILED,
+        Err(AuditFault::BadLine(line)) => {
+            let _ = eprintln!(rt; "line {line}: bad line");
+            BAD_INPUT
+        }
+        Err(AuditFault::EndsEarly) => {
+            let _ = eprintln!(rt; "the journal isn't whole");
+            BAD_INPUT
+        }
+        Err(AuditFault::Read) => tell_fault(rt, Fault::Read),
+        Err(AuditFault::Write) => tell_fault(rt, Fault::Write),
+        Err(AuditFault::OutOfMemory) => tell_fault(rt, Fault::OutOfMemory),
+    }
+}
+
+/// Audits the journal in a file, and gives the exit status.
+fn audit_file<R: Files + Print + Eprint + AllocGlobal>(rt: &R, path: &str) -> u8
+    ensures { (result ≡ 0) ⊎ ((result ≡ 2) ⊎ (result ≡ 3)) }
+{
+    let Some(mut journal) = open(rt, path) else {
+        return tell_fault(rt, Fault::Read);
+    };
+    let ended = run_journal_audit(rt.alloc(), &mut journal, &mut io::writer(rt));
+    tell_journal_audit(rt, ended)
+}
+
 /// The words of the command line. An error tells that there is no memory for them, or that one isn't UTF-8.
 fn words_given<R: Env + AllocGlobal>(rt: &R) -> io::Result<Vec<String>> {
     let words = env::args(rt)?;
@@ -187,10 +227,16 @@ fn start_script<R: Files + Input + Print + Eprint + AllocGlobal>(
     }
 }
 
-/// Audits a script as the options say, and gives the exit status.
-fn start_audit<R: Input + Print + Eprint + AllocGlobal>(rt: &R, given: &ArgMatches<'_>) -> u8
+/// Audits the journal of the file that the options name, or else a script, and gives the exit status.
+fn start_audit<R: Files + Input + Print + Eprint + AllocGlobal>(
+    rt: &R,
+    given: &ArgMatches<'_>,
+) -> u8
     ensures { (result ≡ 0) ⊎ ((result ≡ 2) ⊎ (result ≡ 3)) }
 {
+    if let Some(path) = journal_of(given) {
+        return audit_file(rt, path);
+    }
     let Some(config) = config_of(given) else {
         return BAD_INPUT;
     };
@@ -225,7 +271,7 @@ fn start_server<
 }
 
 /// Judges the words, and then does what they say: `eureka script` runs a script from standard input to standard output, `eureka audit`
-/// audits one, `eureka serve` serves HTTP. A script and a server write their journal at the end to the file that the words name, if they
+/// audits one, or the journal of a file that the words name, `eureka serve` serves HTTP. A script and a server write their journal at the end to the file that the words name, if they
 /// do; it is created before anything is read, or a connection taken. Gives the exit status: 0 where that is done, of an audit with the
 /// answer yes, 2 for bad words and for a bad line, 3 for any other fault, and where an audit's answer is no.
 pub fn start<

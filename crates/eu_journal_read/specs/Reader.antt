@@ -1,0 +1,89 @@
+-- What the reader of a journal takes of it, line by line
+use Rattle.std.specs.Io.KnownBytes.{Consumes, IsAtEnd}
+use Rattle.std.specs.Prelude.{◌≡◌, ◌⊎◌, ℕ, ◌-◌, ◌<◌, ◌≤◌, Bool, true, List, [], ◌∷◌, ◌++◌, length, take, slice_index_or, Option, Result, Ok, Err}
+use Rattle.std.specs.List.{AllByRecursion}
+use Rattle.hex.specs.Hex.{encode_lower}
+use Rattle.sha2.specs.Hashers.{Holds256}
+use Rattle.sha2.specs.Sha256.{sha256}
+use Rattle.eu_lines.specs.Lines.{IsJudged, lines_of}
+use Rattle.eu_lines.specs.declared.faults.ScriptFault.{ScriptFault}
+use Rattle.eu_lines.specs.declared.faults.ScriptFault.TheVariants as script
+use Rattle.eu_journal.specs.declared.lines.JournalLine.{JournalLine}
+use Rattle.eu_journal.specs.declared.lines.JournalLine.TheVariants as line
+use Rattle.eu_model.specs.declared.commands.Entry.{Entry}
+use Rattle.eu_model.specs.declared.states.State.{State}
+use Rattle.eu_journal_read.specs.Drafts.{Draft, state_of}
+use Rattle.eu_journal_read.specs.Front.{Front}
+use Rattle.eu_journal_read.specs.Said.{IsReadAs, filled, joined, journal_limits}
+use Rattle.eu_journal_read.specs.Stages.{take_line}
+use Rattle.eu_journal_read.specs.declared.reader.JournalReader.{JournalReader}
+use Rattle.eu_journal_read.specs.declared.stages.Stage.{Stage}
+use Rattle.eu_journal_read.specs.declared.stages.Stage.TheVariants as stage
+
+-- a digest is that of what was told before it
+abbrev pub IsFit : List ℕ → JournalLine → Type 0
+IsFit told (line.Digest text) = text ≡ encode_lower (sha256 told)
+IsFit told _ = Unit {0}
+
+-- A line may follow: after what was told, from one stage to another
+abbrev pub Follows : List ℕ → Stage → List ℕ → Stage → Type 0
+Follows told s text t = (l : JournalLine) × IsReadAs text l × (take_line s l ≡ Ok t) × IsFit told l
+
+-- Lines may follow, one after the other, from one stage to another
+abbrev pub Reads : Stage → List ℕ → List (List ℕ) → Stage → Type 0
+Reads s told [] t = t ≡ s
+Reads s told (text ∷ texts) t = (u : Stage) × Follows told s text u × Reads u (told ++ (text ++ 10 ∷ [])) texts t
+
+-- The line of this number, from 1, is the first that isn't one of a journal: those before it may follow one another, and it isn't empty, but is
+-- too long or may not follow them
+abbrev pub IsFirstBad : List (List ℕ) → ℕ → Type 0
+IsFirstBad lines n =
+    (0 < n) × (n ≤ length lines)
+    × (s : Stage) × Reads stage.Empty [] (filled (take (n - 1) lines)) s
+    × (let line = slice_index_or lines (n - 1) [] in
+    (0 < length line) × ((journal_limits.line < length line) ⊎ ((t : Stage) → Follows (joined (filled (take (n - 1) lines))) s line t → ⊥)))
+
+-- a reader takes a line; it prints nothing
+abbrev pub Takes : JournalReader → Unit {0} → List ℕ → List ℕ → JournalReader → Unit {0} → Type 0
+Takes r x text out r' x' =
+    (out ≡ []) × ((told : List ℕ) → Holds256 r.hasher told → Follows told r.stage text r'.stage × Holds256 r'.hasher (told ++ (text ++ 10 ∷ [])))
+
+-- a reader refuses a line: it may not follow
+abbrev pub Refuses : JournalReader → Unit {0} → List ℕ → Type 0
+Refuses r x text = (told : List ℕ) → Holds256 r.hasher told → (t : Stage) → Follows told r.stage text t → ⊥
+
+-- What came of the lines of a text, by what was read of it and what is left: the stage after all of them, or why they weren't all taken
+unfoldable pub CameTo : Option (List ℕ) → Bool → List ℕ → Result Stage ScriptFault → Type 0
+CameTo left failed read (Ok s) =
+    (length read ≤ journal_limits.text) × IsAtEnd left × Reads stage.Empty [] (filled (lines_of read)) s
+    × AllByRecursion (λ (line : List ℕ). length line ≤ journal_limits.line) (filled (lines_of read))
+CameTo left failed read (Err (script.BadLine n)) = (given : List ℕ) × IsJudged journal_limits.text left read given × IsFirstBad (lines_of given) n
+CameTo left failed read (Err script.Read) = (failed ≡ true) ⊎ (journal_limits.text < length read)
+CameTo left failed read (Err script.Write) = ⊥
+CameTo left failed read (Err script.OutOfMemory) = Unit {0}
+
+-- ---- the end
+
+-- nothing says that the journal is whole
+unfoldable pub IsUnsealed : Stage → Type 0
+IsUnsealed s = (f : Front) (d : Draft) → s ≡ stage.Sealed f d → ⊥
+
+-- the journal is whole, and it is this one
+unfoldable pub EndsIn : Stage → State → List Entry → State → Type 0
+EndsIn s base entries end = (f : Front) × (d : Draft) × (s ≡ stage.Sealed f d) × (base ≡ state_of f.base) × (entries ≡ f.entries) × (end ≡ state_of d)
+
+-- ---- why a journal isn't read, by what was left to be read before and after
+
+-- of the lines that were given, that of this number, from 1, is the first that isn't one of a journal
+abbrev pub TellsLine : Option (List ℕ) → Option (List ℕ) → ℕ → Type 0
+TellsLine old new n = (read : List ℕ) × Consumes old new read × (given : List ℕ) × IsJudged journal_limits.text new read given × IsFirstBad (lines_of given) n
+
+-- all was read, and each line may follow those before it, but none of them is the last one of a journal
+abbrev pub EndsBefore : Option (List ℕ) → Option (List ℕ) → Type 0
+EndsBefore old new =
+    (text : List ℕ) × Consumes old new text × IsAtEnd new
+    × (s : Stage) × Reads stage.Empty [] (filled (lines_of text)) s × IsUnsealed s
+
+-- the reader failed, or gave more than a journal may have
+abbrev pub FailsToRead : Option (List ℕ) → Option (List ℕ) → Bool → Type 0
+FailsToRead old new failed = (failed ≡ true) ⊎ ((read : List ℕ) × Consumes old new read × (journal_limits.text < length read))

@@ -76,6 +76,7 @@ fn finish(stage: Stage) -> Result<Recorded, JournalFault>
     ensures err { IfErr result (λ fault. (fault ≡ JournalFault.OutOfMemory) ⊎ ((fault ≡ JournalFault.EndsEarly) × IsUnsealed stage)) }
 {
     let Stage::Sealed { front, end } = stage else {
+        drop(stage);
         return Err(JournalFault::EndsEarly);
     };
     let journal = Recorded::new(front, end)?;

@@ -57,7 +57,8 @@ fn step(alloc: Global, stage: &mut Stage, line: JournalLine) -> Result<(), LineF
     ensures { Becomes result stage.new (take_line stage.old line) }
 {
     let before = mem::replace(stage, Stage::Empty);
-    *stage = take_line(alloc, before, line)?;
+    let after = take_line(alloc, before, line)?;
+    drop(mem::replace(stage, after));
     Ok(())
 }
 

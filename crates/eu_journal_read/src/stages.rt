@@ -107,7 +107,10 @@ fn close(alloc: Global, stage: Stage) -> Result<Front, LineFault>
     match stage {
         Stage::Base(base) => Ok(Front::new(alloc, base)),
         Stage::Answered { front, newest } => Ok(front.with(newest)?),
-        _ => Err(LineFault::NotALine),
+        other => {
+            drop(other);
+            Err(LineFault::NotALine)
+        }
     }
 }
 
@@ -130,7 +133,10 @@ fn state_read(stage: Stage) -> Result<(Option<Front>, StateDraft), LineFault>
     match stage {
         Stage::Base(base) => Ok((None, base)),
         Stage::End { front, end } => Ok((Some(front), end)),
-        _ => Err(LineFault::NotALine),
+        other => {
+            drop(other);
+            Err(LineFault::NotALine)
+        }
     }
 }
 
@@ -158,6 +164,7 @@ fn take_victim(stage: Stage, key: Key) -> Result<Stage, LineFault>
     ensures { Gives result (take_of_entry stage (JournalLine.Victim key)) }
 {
     let Stage::Answered { front, newest } = stage else {
+        drop(stage);
         return Err(LineFault::NotALine);
     };
     let newest = newest.with_victim(key)?;
@@ -169,6 +176,7 @@ fn take_task(stage: Stage, task: Task) -> Result<Stage, LineFault>
     ensures { Gives result (take_of_entry stage (JournalLine.Sent task)) }
 {
     let Stage::Answered { front, newest } = stage else {
+        drop(stage);
         return Err(LineFault::NotALine);
     };
     let newest = newest.with_task(task)?;
@@ -192,7 +200,10 @@ fn take_answered(alloc: Global, stage: Stage, reply: Reply) -> Result<Stage, Lin
             front,
             newest: EntryDraft::new(alloc, asked, reply),
         }),
-        _ => Err(LineFault::NotALine),
+        other => {
+            drop(other);
+            Err(LineFault::NotALine)
+        }
     }
 }
 
@@ -202,7 +213,10 @@ fn take_seal(stage: Stage) -> Result<Stage, LineFault>
 {
     match stage {
         Stage::End { front, end } => Ok(Stage::Sealed { front, end }),
-        _ => Err(LineFault::NotALine),
+        other => {
+            drop(other);
+            Err(LineFault::NotALine)
+        }
     }
 }
 

@@ -271,8 +271,8 @@ fn start_server<
 }
 
 /// Judges the words, and then does what they say: `eureka script` runs a script from standard input to standard output, `eureka audit`
-/// audits one, or the journal of a file that the words name, `eureka serve` serves HTTP. A script and a server write their journal at the end to the file that the words name, if they
-/// do; it is created before anything is read, or a connection taken. Gives the exit status: 0 where that is done, of an audit with the
+/// audits one, or the journal of a file that the words name, `eureka serve` serves HTTP. A script and a server write their journal at the
+/// end to the file that the words name, if they do; it is created before anything is read, or a connection taken. Gives the exit status: 0 where that is done, of an audit with the
 /// answer yes, 2 for bad words and for a bad line, 3 for any other fault, and where an audit's answer is no.
 pub fn start<
     R: Threads

@@ -1,13 +1,14 @@
 //! Connections as they are accepted, and how they end.
 
-ghost use Rattle.std.specs.Prelude.{◌≡◌};
+ghost use Rattle.std.specs.Prelude.{◌≡◌, true, false, None, Ok, Err, IfErr, IsOk, OnOk};
+ghost use Rattle.std.specs.IoError.{error_kind};
 ghost use Rattle.eu_accept.specs.Passing.{is_passing};
 
 use crate::pace::Pace;
 use eu_gate::{Admission, Periods, Source};
 use std::io;
 use std::io::{ErrorKind, Read};
-use std::net::{Shutdown, TcpListener, TcpStream};
+use std::net::{Shutdown, SocketAddr, TcpListener, TcpStream};
 use std::sync::{Mutex, Wait};
 use std::time::{Clock, Duration, Instant};
 
@@ -137,20 +138,36 @@ fn prepare(stream: &TcpStream, timeouts: Timeouts) -> io::Result<()> {
     stream.set_write_timeout(Some(Duration::from_millis(timeouts.write.max(1))))
 }
 
-/// Waits for the next connection, and gives its two sides. One that can't be prepared has gone, and is passed over.
+/// What comes of what an `accept` gave: the connection, or none where it is made again. A connection that can't be prepared has gone,
+/// and is passed over.
+fn taken(
+    accepted: io::Result<(TcpStream, SocketAddr)>,
+    timeouts: Timeouts,
+) -> io::Result<Option<TcpStream>>
+    ensures came { OnOk accepted (IsOk result) }
+    ensures passed { IfErr accepted (λ e. is_passing (error_kind e) ≡ true → result ≡ Ok None) }
+    ensures failed { IfErr accepted (λ e. is_passing (error_kind e) ≡ false → result ≡ Err e) }
+{
+    match accepted {
+        Ok((stream, _)) => match prepare(&stream, timeouts) {
+            Ok(()) => Ok(Some(stream)),
+            Err(_) => Ok(None),
+        },
+        Err(error) if is_passing(error.kind()) => Ok(None),
+        Err(error) => Err(error),
+    }
+}
+
+/// Waits for the next connection, and gives its two sides.
 fn accept<R: Wait>(
     rt: &R,
     listener: &TcpListener,
     timeouts: Timeouts,
 ) -> io::Result<(TcpStream, TcpStream)> {
     for _ in rt.forever() {
-        match listener.accept() {
-            Ok((stream, _)) if prepare(&stream, timeouts).is_ok() => {
-                let writer = stream.try_clone()?;
-                return Ok((stream, writer));
-            }
-            Err(error) if !is_passing(error.kind()) => return Err(error),
-            _ => {}
+        if let Some(stream) = taken(listener.accept(), timeouts)? {
+            let writer = stream.try_clone()?;
+            return Ok((stream, writer));
         }
     }
     unreachable!()

@@ -1,5 +1,5 @@
 //! A server.
-ghost use Rattle.std.specs.Prelude.{◌≡◌, ◌≤◌, ◌<◌, ◌⊎◌, ℕ, true, take, Ok, Err, IfOk, IfErr, OnOk};
+ghost use Rattle.std.specs.Prelude.{◌≡◌, ◌≤◌, ◌<◌, ◌⊎◌, ℕ, true, max, min, take, Ok, Err, IfOk, IfErr, OnOk};
 ghost use Rattle.std.specs.Io.KnownBytes.{Appends, Keeps};
 ghost use Rattle.eu_book.specs.Account.{IsLawful};
 ghost use Rattle.eu_book.specs.Peers.{state_of};
@@ -68,6 +68,14 @@ impl Plan {
             timeouts: Timeouts::of_server(),
         }
     }
+}
+
+/// How many workers of sessions a server has by a plan of so many: 1 to 16.
+fn workers_of(wanted: u32) -> u32
+    ensures value { result ≡ max 1 (min wanted 16) }
+    ensures few { result ≤ 16 }
+{
+    wanted.clamp(1, MOST_WORKERS)
 }
 
 /// A worker of a server, over a book that `K` names.
@@ -146,6 +154,7 @@ fn make_workers<'a, K: Label, R: Wait + Clock, H: Chooser + Drop>(
     count: u32,
     chooser: H,
 ) -> Result<Vec<ServerWorker<'a, K, R, H>>, Fault>
+    requires few { count ≤ 16 }
     ensures { IfErr result IsStart }
 {
     let mut workers = Vec::with_capacity(alloc, count as usize + TIMERS)?;
@@ -191,6 +200,7 @@ fn run_workers<
     count: u32,
     chooser: H,
 ) -> Result<(Vec<Pass<K>>, u64), Fault>
+    requires few { count ≤ 16 }
     ensures { IfErr result IsStart }
 {
     let routes = Routes::new(alloc)?;
@@ -273,7 +283,7 @@ pub fn serve_book<
     ensures fault { IfErr result IsEnd }
 {
     let shared: Shared<K> = Shared::open(alloc, plan.config, plan.expected, 0, blanks)?;
-    let workers = plan.workers.clamp(1, MOST_WORKERS);
+    let workers = workers_of(plan.workers);
     let admission = Admission::new(plan.sessions, workers);
     let Ok(acceptor) = Acceptor::new(rt, listener, admission, plan.periods, plan.timeouts) else {
         return Err(Fault::Read);

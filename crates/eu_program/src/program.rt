@@ -37,6 +37,21 @@ pub(crate) fn tell_fault(rt: &impl Eprint, fault: Fault) -> u8
     FAILED
 }
 
+/// The fault by whose number a script's end is told, or the number of the line that is bad.
+fn told_by(ended: ScriptFault) -> Result<Fault, u64>
+    ensures bad_line { (line : ℕ) → ended ≡ ScriptFault.BadLine line → result ≡ Err line }
+    ensures read { ended ≡ ScriptFault.Read → result ≡ Ok Fault.Read }
+    ensures write { ended ≡ ScriptFault.Write → result ≡ Ok Fault.Write }
+    ensures no_memory { ended ≡ ScriptFault.OutOfMemory → result ≡ Ok Fault.OutOfMemory }
+{
+    match ended {
+        ScriptFault::BadLine(line) => Err(line),
+        ScriptFault::Read => Ok(Fault::Read),
+        ScriptFault::Write => Ok(Fault::Write),
+        ScriptFault::OutOfMemory => Ok(Fault::OutOfMemory),
+    }
+}
+
 /// Tells why a script ended early, if it did and standard error takes it, and gives the exit status.
 fn tell_end(rt: &impl Eprint, ended: Result<(), ScriptFault>) -> u8
     ensures whole { OnOk ended (result ≡ 0) }
@@ -45,15 +60,15 @@ fn tell_end(rt: &impl Eprint, ended: Result<(), ScriptFault>) -> u8
     ensures write { ended ≡ Err ScriptFault.Write → result ≡ 3 }
     ensures no_memory { ended ≡ Err ScriptFault.OutOfMemory → result ≡ 3 }
 {
-    match ended {
-        Ok(()) => DONE,
-        Err(ScriptFault::BadLine(line)) => {
+    let Err(ended) = ended else {
+        return DONE;
+    };
+    match told_by(ended) {
+        Ok(fault) => tell_fault(rt, fault),
+        Err(line) => {
             let _ = eprintln!(rt; "line {line}: bad line");
             BAD_INPUT
         }
-        Err(ScriptFault::Read) => tell_fault(rt, Fault::Read),
-        Err(ScriptFault::Write) => tell_fault(rt, Fault::Write),
-        Err(ScriptFault::OutOfMemory) => tell_fault(rt, Fault::OutOfMemory),
     }
 }
 

@@ -31,7 +31,7 @@ eu_peer_tests memory::memory_turn 300
 eu_script_tests memory::memory_script 370
 eu_script_tests memory::memory_run_audit 700
 eu_script_tests memory::memory_journal 1900
-eu_journal_tests memory::memory_journal_audit 30
+eu_journal_tests memory::memory_journal_audit 620
 eu_audit_tests memory::a_refused_allocation_is_no_verdict 310
 '
 

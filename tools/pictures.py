@@ -1,5 +1,6 @@
 #!/usr/bin/env python3
 """Draws the pictures of the documents: docs/pictures/NAME.svg. Run it at the top of the repository; it takes no words."""
+import math
 import os
 
 STYLE = """<style>
@@ -12,6 +13,7 @@ text { font-family: Helvetica, Arial, sans-serif; font-size: 14px; fill: #1b1b1b
 .line { stroke: #5d6673; stroke-width: 1.5; fill: none; }
 .mark { stroke: #1f5fae; stroke-width: 2; fill: none; }
 .arrow { fill: #5d6673; }
+.dashed { stroke-dasharray: 5 4; }
 .plain { fill: #1b1b1b; }
 @media (prefers-color-scheme: dark) { .plain { fill: #e8e8e8; } .line { stroke: #a9b1bd; } .arrow { fill: #a9b1bd; } .mark { stroke: #7fb2ef; } }
 </style>"""
@@ -35,14 +37,22 @@ def box(x, y, width, kind, title, notes, height=64):
     return parts + [text(middle, first + 18 * (at + 1), note, "small") for at, note in enumerate(notes)]
 
 
-def arrow(x, y, to_x, to_y):
-    """An arrow to the right, to the left or down."""
-    if to_y > y:
-        point = f"{to_x - 5},{to_y - 8} {to_x + 5},{to_y - 8} {to_x},{to_y}"
-    else:
-        back = 8 if to_x < x else -8
-        point = f"{to_x + back},{to_y - 5} {to_x + back},{to_y + 5} {to_x},{to_y}"
-    return [f'<path d="M{x} {y} L{to_x} {to_y}" class="line"/>', f'<polygon points="{point}" class="arrow"/>']
+def arrow(x, y, to_x, to_y, kind="line"):
+    """An arrow in any direction."""
+    length = math.hypot(to_x - x, to_y - y)
+    along_x, along_y = (to_x - x) / length, (to_y - y) / length
+    back_x, back_y = to_x - 8 * along_x, to_y - 8 * along_y
+    corners = [(back_x - 5 * along_y, back_y + 5 * along_x), (back_x + 5 * along_y, back_y - 5 * along_x), (to_x, to_y)]
+    point = " ".join(f"{a:g},{b:g}" for a, b in corners)
+    return [f'<path d="M{x:g} {y:g} L{back_x:g} {back_y:g}" class="{kind}"/>', f'<polygon points="{point}" class="arrow"/>']
+
+
+def legend(x, y, *kinds):
+    """What these colours say."""
+    parts = []
+    for at, kind in enumerate(kinds):
+        parts += [f'<rect x="{x + at * 90}" y="{y}" width="16" height="16" rx="3" class="{kind}"/>', text(x + 22 + at * 90, y + 13, kind, "plain", "start")]
+    return parts
 
 
 def request():
@@ -63,17 +73,15 @@ def request():
             parts += arrow(x - gap, y + 32, x, y + 32)
     last = 10 + 4 * (width + gap)
     parts += box(10 + 3 * (width + gap), 130, width, "tested", "timers", ["evict, roll, update"])
-    parts += [f'<path d="M{10 + 3 * (width + gap) + width / 2} 130 L{10 + 3 * (width + gap) + width / 2} 102" class="line"/>']
-    parts += [f'<polygon points="{10 + 3 * (width + gap) + width / 2 - 5},102 {10 + 3 * (width + gap) + width / 2 + 5},102 {10 + 3 * (width + gap) + width / 2},94" class="arrow"/>']
+    lock = 10 + 3 * (width + gap) + width / 2
+    parts += arrow(lock, 130, lock, 94)
     parts += arrow(last + width / 2, 94, last + width / 2, 230)
     parts += box(last, 230, width, "proved", "journal", ["commands, replies"])
     parts += arrow(last, 262, last - gap - width + 0, 262)
     parts += box(last - gap - 2 * width, 230, width, "proved", "auditor", ["yes or no"])
     parts += box(10, 230, 2 * width + gap, "proved", "the rule book: the lease machine", ["what all of these are proved against"])
     parts += arrow(last - gap - 2 * width, 262, 10 + 2 * width + gap, 262)
-    for at, (kind, words) in enumerate([("proved", "proved"), ("tested", "tested"), ("trusted", "trusted")]):
-        parts += [f'<rect x="{10 + at * 90}" y="150" width="16" height="16" rx="3" class="{kind}"/>', text(32 + at * 90, 163, words, "plain", "start")]
-    return svg(860, 310, parts)
+    return svg(860, 310, parts + legend(10, 150, "proved", "tested", "trusted"))
 
 
 def lease():
@@ -113,7 +121,93 @@ def override():
     return svg(780, y + 84, parts)
 
 
-PICTURES = {"request": request, "lease": lease, "override": override}
+def answers_of(name):
+    """The lines of an example script with what each printed."""
+    with open(f"examples/{name}.script", encoding="utf-8") as script, open(f"examples/{name}.out", encoding="utf-8") as out:
+        return list(zip([line.split() for line in script if line.strip()], [line.split() for line in out]))
+
+
+def passes_of(name):
+    """The passes of an example: the moment, the last minute's heartbeats, the threshold, and how many were evicted."""
+    passes, seen = [], {}
+    for said, printed in answers_of(name):
+        if said[0] == "counts":
+            seen = dict(zip(printed[::2], printed[1::2]))
+        if said[0] == "evict":
+            passes.append((int(said[1]) // 1000, int(seen["last"]), int(seen["threshold"]), seen["permitted"], int(printed[1])))
+    return passes
+
+
+def preservation():
+    """Self-preservation in two example runs: each pass with the last minute's heartbeats and the threshold."""
+    parts, ground, scale, x = [], 230, 9, 90
+    for name, title in [("preservation", "one of four is silent"), ("shrinking", "ten shops shrink to six")]:
+        parts += [text(x + 150, 24, title, "bold plain"), text(x + 150, 42, f"examples/{name}.script", "small plain")]
+        for moment, last, threshold, permitted, evicted in passes_of(name):
+            top, line = ground - last * scale, ground - threshold * scale
+            kind = "proved" if permitted == "yes" else "tested"
+            parts += [f'<rect x="{x + 30}" y="{top}" width="70" height="{last * scale}" class="{kind}"/>', text(x + 65, ground - 8, f"{last}", "bold")]
+            parts += [f'<path d="M{x + 14} {line} L{x + 116} {line}" class="mark dashed"/>', text(x + 120, line + 5, f"{threshold}", "plain", "start")]
+            parts += [text(x + 65, ground + 20, f"{moment} s", "small plain"), text(x + 65, ground + 40, f"{evicted} evicted" if evicted else "nobody goes")]
+            x += 170
+        x += 60
+    parts += [f'<path d="M30 {ground} L830 {ground}" class="line"/>']
+    parts += [f'<rect x="60" y="292" width="16" height="16" rx="3" class="proved"/>', text(82, 305, "more heartbeats than the threshold: a pass may evict", "plain", "start")]
+    parts += [f'<rect x="470" y="292" width="16" height="16" rx="3" class="tested"/>', text(492, 305, "not more: no pass may", "plain", "start")]
+    parts += ['<path d="M690 300 L720 300" class="mark dashed"/>', text(728, 305, "the threshold", "plain", "start")]
+    return svg(860, 322, parts)
+
+
+def threads():
+    """A server's threads, and the locks that they take."""
+    parts = [text(120, 24, "threads", "bold plain"), text(420, 24, "locks", "bold plain"), text(720, 24, "what lies behind them", "bold plain")]
+    parts += box(20, 40, 200, "tested", "session workers", ["1 to 16, a connection each"])
+    parts += box(20, 200, 200, "tested", "timers", ["evictor, bucket, threshold"])
+    rows = [
+        (40, "admission", ["its holder waits in accept"], "connections still wanted"),
+        (120, "the book", ["held for one ask"], "the book and its ledgers"),
+        (200, "schedules", ["timers wait here for their turn"], "when each timer is due"),
+    ]
+    for y, title, notes, behind in rows:
+        parts += box(310, y, 220, "tested", title, notes)
+        parts += box(620, y, 200, "proved", behind, [])
+        parts += arrow(530, y + 32, 620, y + 32)
+    parts += arrow(220, 72, 310, 72) + arrow(220, 84, 310, 140) + arrow(220, 232, 310, 232) + arrow(220, 220, 310, 164)
+    parts += [text(120, 152, "each has a pass of its own,", "small plain"), text(120, 168, "and reads sockets without a lock", "small plain")]
+    return svg(840, 310, parts + legend(20, 284, "proved", "tested"))
+
+
+def tower():
+    """The tower of statements, from the rule book up to the bytes, with the contract on each arrow."""
+    left, middle, right = 20, 300, 580
+    width, rows = 200, {"bytes": 20, "upper": 140, "lower": 260, "book": 380, "rules": 500}
+    parts = []
+    parts += box(left, rows["rules"], right + width - left, "proved", "the rule book: the lease machine and its laws", ["eu_model: Eureka's rules, and what holds of every run"])
+    parts += box(middle, rows["book"], width, "proved", "registry", ["eu_core"])
+    parts += box(middle, rows["lower"], width, "proved", "book", ["eu_book: registry, journal"])
+    parts += box(left, rows["lower"], width, "proved", "auditor", ["eu_audit: yes or no"])
+    parts += box(right, rows["lower"], width, "proved", "shared book", ["eu_shared: behind the lock"])
+    parts += box(right, rows["upper"], width, "proved", "session", ["eu_session"])
+    parts += box(left, rows["bytes"], width, "proved", "bytes of a journal", ["eu_journal_read"])
+    parts += box(middle, rows["bytes"], width, "proved", "bytes of a script", ["eu_server"])
+    parts += box(right, rows["bytes"], width, "proved", "bytes of a connection", ["eu_framing, eu_http"])
+    steps = [
+        (left, "rules", "lower", "audit", "line"),
+        (left, "lower", "bytes", "read_journal", "line"),
+        (middle, "rules", "book", "Registry::step", "line"),
+        (middle, "book", "lower", "Book::apply", "line"),
+        (middle, "lower", "bytes", "answer_script", "line"),
+        (right, "lower", "upper", "the lock: tested", "line dashed"),
+        (right, "upper", "bytes", "serve_session", "line"),
+    ]
+    for x, below, above, words, kind in steps:
+        at, low, high = x + width / 2, rows[below], rows[above] + 64
+        parts += arrow(at, low, at, high, kind) + [text(at + 12, (low + high) / 2 + 5, words, "plain", "start")]
+    parts += arrow(middle + width, rows["lower"] + 32, right, rows["lower"] + 32) + [text((middle + width + right) / 2, rows["lower"] + 24, "Held::ask", "small plain")]
+    return svg(800, 590, parts)
+
+
+PICTURES = {"request": request, "lease": lease, "override": override, "preservation": preservation, "threads": threads, "tower": tower}
 
 if __name__ == "__main__":
     os.makedirs("docs/pictures", exist_ok=True)

@@ -14,6 +14,7 @@ text { font-family: Helvetica, Arial, sans-serif; font-size: 14px; fill: #1b1b1b
 .mark { stroke: #1f5fae; stroke-width: 2; fill: none; }
 .arrow { fill: #5d6673; }
 .dashed { stroke-dasharray: 5 4; }
+.level { stroke: #2f74d0; stroke-width: 2.5; }
 .plain { fill: #1b1b1b; }
 @media (prefers-color-scheme: dark) { .plain { fill: #e8e8e8; } .line { stroke: #a9b1bd; } .arrow { fill: #a9b1bd; } .mark { stroke: #7fb2ef; } }
 </style>"""
@@ -147,14 +148,14 @@ def preservation():
             top, line = ground - last * scale, ground - threshold * scale
             kind = "proved" if permitted == "yes" else "tested"
             parts += [f'<rect x="{x + 30}" y="{top}" width="70" height="{last * scale}" class="{kind}"/>', text(x + 65, ground - 8, f"{last}", "bold")]
-            parts += [f'<path d="M{x + 14} {line} L{x + 116} {line}" class="mark dashed"/>', text(x + 120, line + 5, f"{threshold}", "plain", "start")]
+            parts += [f'<path d="M{x + 14} {line} L{x + 116} {line}" class="level dashed"/>', text(x + 120, line + 5, f"{threshold}", "plain", "start")]
             parts += [text(x + 65, ground + 20, f"{moment} s", "small plain"), text(x + 65, ground + 40, f"{evicted} evicted" if evicted else "nobody goes")]
             x += 170
         x += 60
     parts += [f'<path d="M30 {ground} L830 {ground}" class="line"/>']
     parts += [f'<rect x="60" y="292" width="16" height="16" rx="3" class="proved"/>', text(82, 305, "more heartbeats than the threshold: a pass may evict", "plain", "start")]
     parts += [f'<rect x="470" y="292" width="16" height="16" rx="3" class="tested"/>', text(492, 305, "not more: no pass may", "plain", "start")]
-    parts += ['<path d="M690 300 L720 300" class="mark dashed"/>', text(728, 305, "the threshold", "plain", "start")]
+    parts += ['<path d="M690 300 L720 300" class="level dashed"/>', text(728, 305, "the threshold", "plain", "start")]
     return svg(860, 322, parts)
 
 

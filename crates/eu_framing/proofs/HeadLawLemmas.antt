@@ -19,7 +19,7 @@ front_in_window n text front rest e fits =
     ap (take n) e ∙ take_front n front rest ∙ ap (λ (t : List ℕ). t ++ take (n - length front) rest) (take_all n front fits)
 
 -- a front of the window is a front of the text
-front_of_window : (n : ℕ) (text front rest : List ℕ) → take n text ≡ front ++ rest → text ≡ front ++ (rest ++ drop n text)
+pub front_of_window : (n : ℕ) (text front rest : List ℕ) → take n text ≡ front ++ rest → text ≡ front ++ (rest ++ drop n text)
 front_of_window n text front rest e =
     sym (take-append-drop n text) ∙ ap (λ (t : List ℕ). t ++ drop n text) e ∙ append_assoc front rest (drop n text)
 

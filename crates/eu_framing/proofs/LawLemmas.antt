@@ -6,7 +6,7 @@ use Rattle.eu_base.specs.declared.faults.Fault.{Fault}
 use Rattle.eu_framing.specs.declared.fields.Framing.{Framing}
 use Rattle.eu_framing.specs.declared.fields.Framing.TheVariants.{NoBody, Sized, Chunked}
 use Rattle.eu_framing.specs.Message.{framed, HasHead, ReadsBody, BreaksBody, BreaksMessage, IsFault}
-use Rattle.eu_framing.specs.Law.{OneMessage, WholeIsFaultless, EndIsAlone, OneFault}
+use Rattle.eu_framing.specs.Law.{OneMessage, WholeIsFaultless, EndIsAlone, CutHasNone, OneFault}
 use Rattle.eu_framing.proofs.HeadLawLemmas.{head_is_whole, end_has_no_head, end_has_no_head_fault}
 use Rattle.eu_framing.proofs.ChunkLawLemmas.{same_front, one_chunked, chunked_is_whole, one_chunked_fault}
 
@@ -65,6 +65,10 @@ end_is_alone bytes end = (λ m rest reads. end_has_no_head bytes m.head reads.0 
     no_fault : (fault : Fault) → ¬ (IsFault bytes fault)
     no_fault fault (inl bad) = end_has_no_head_fault bytes fault end bad
     no_fault fault (inr (h, after, head, bad)) = end_has_no_head bytes h after end head
+
+pub cut_has_none : CutHasNone
+cut_has_none bytes (inl ends) m rest reads = (end_is_alone bytes ends).0 m rest reads
+cut_has_none bytes (inr (fault, bad)) m rest reads = whole_is_faultless bytes m rest fault reads bad
 
 one_break : (bytes : List ℕ) (f g : Fault) → BreaksMessage bytes f → BreaksMessage bytes g → f ≡ g
 one_break bytes f g (h, after, head, inl bad) (k, after', head', inl bad') =

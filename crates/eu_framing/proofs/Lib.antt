@@ -10,3 +10,4 @@ pub mod HeadLawLemmas
 pub mod TrailerLawLemmas
 pub mod ChunkLawLemmas
 pub mod LawLemmas
+pub mod ScanLemmas

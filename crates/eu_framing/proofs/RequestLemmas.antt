@@ -13,9 +13,9 @@ use Rattle.httparse.proofs.GrammarLemmas.{ReadsRequest-append}
 use Rattle.eu_base.specs.declared.faults.Fault.{Fault}
 use Rattle.eu_framing.specs.declared.request.Head.{Head}
 use Rattle.eu_framing.specs.declared.request.Request.{Request}
-use Rattle.eu_framing.specs.Stream.{pending, OfBytes, IsOutside}
+use Rattle.eu_framing.specs.Stream.{pending, OfBytes}
 use Rattle.eu_framing.specs.Message.{max_head, max_fields, HasHead, IsFault, ReadsBody, BreaksBody}
-use Rattle.eu_framing.specs.Next.{FindsNext}
+use Rattle.eu_framing.specs.Next.{FindsNext, Interrupts}
 use Rattle.eu_framing.specs.Reading.{Blames}
 use Rattle.eu_framing.specs.Steps.{HasHeadAt}
 use Rattle.eu_framing.specs.HeadSteps.{GivesHead, FindsHead}
@@ -49,8 +49,8 @@ next_found b spans r head many x gives len =
     let within = x.0.section.len_fits in
     (x.1.0, λ more. rw len (head_at b more spans r x.1.0 many within x.1.1), gives x.1.0 x.1.1, omega (arith, len, within, length-take max_head b), omega (arith, len, within, length-take max_head b))
 
-pub next_broken : (failed : Bool) (left : Option (List ℕ)) (b : List ℕ) (spans : List HeaderSpan) (r : RequestSpans) (fault : Fault) → length spans ≡ max_fields → HasHeadAt b spans r → GivesHead (take max_head b) spans r (Err fault)
-    → (((more : List ℕ) → IsFault (b ++ more) fault) → Blames failed left b fault IsFault) → Blames failed left b fault IsFault
+pub next_broken : {left' : Option (List ℕ)} {b' : List ℕ} (failed : Bool) (left : Option (List ℕ)) (b : List ℕ) (spans : List HeaderSpan) (r : RequestSpans) (fault : Fault) → length spans ≡ max_fields → HasHeadAt b spans r → GivesHead (take max_head b) spans r (Err fault)
+    → (((more : List ℕ) → IsFault (b ++ more) fault) → Blames failed left b left' b' fault IsFault) → Blames failed left b left' b' fault IsFault
 next_broken failed left b spans r fault many x (inl memory) now = inl (inl memory)
 next_broken failed left b spans r fault many x (inr bad) now =
     now (λ more. inr (x.1.0, drop r.len b ++ more, head_at b more spans r x.1.0 many x.0.section.len_fits x.1.1, inl (bad x.1.0 x.1.1)))
@@ -88,6 +88,8 @@ next_whole b b' grown more rest head request e x makes reads =
     )
 
 -- a fault for the caller
-pub told : (failed : Bool) (left : Option (List ℕ)) (b : List ℕ) (fault : Fault) → Blames failed left b fault IsFault → IsOutside failed fault ⊎ OfBytes (pending b left) (λ bytes. IsFault bytes fault)
-told failed left b fault (inl outside) = inl outside
-told failed left b fault (inr comes) = inr (of_bytes left b (λ (bytes : List ℕ). IsFault bytes fault) comes)
+pub told : (failed : Bool) (left : Option (List ℕ)) (b : List ℕ) (left' : Option (List ℕ)) (b' : List ℕ) (fault : Fault) → Blames failed left b left' b' fault IsFault
+    → Interrupts failed (pending b left) (pending b' left') b' fault ⊎ OfBytes (pending b left) (λ bytes. IsFault bytes fault)
+told failed left b left' b' fault (inl (inl memory)) = inl (inl memory)
+told failed left b left' b' fault (inl (inr (is, fails, halts))) = inl (inr (is, fails, halts.kept, halts.cut))
+told failed left b left' b' fault (inr comes) = inr (of_bytes left b (λ (bytes : List ℕ). IsFault bytes fault) comes)

@@ -1,7 +1,7 @@
 -- The definition of the next request gives one answer, but where a head has two faults.
 use Rattle.std.specs.Prelude.{◌≡◌, ℕ, ◌⊎◌, List}
 use Rattle.eu_base.specs.declared.faults.Fault.{Fault}
-use Rattle.eu_framing.specs.Message.{Message, IsEnd, IsHeadFault, ReadsMessage, IsFault}
+use Rattle.eu_framing.specs.Message.{Message, IsEnd, IsHeadFault, ReadsMessage, IsFault, IsCut}
 
 -- bytes begin with one request at most, and its rest is one
 abbrev pub OneMessage : Type 0
@@ -18,6 +18,10 @@ abbrev pub EndIsAlone : Type 0
 EndIsAlone =
     (bytes : List ℕ) → IsEnd bytes
     → ((m : Message) (rest : List ℕ) → ¬ (ReadsMessage bytes m rest)) × ((fault : Fault) → ¬ (IsFault bytes fault))
+
+-- bytes that are cut begin with no request
+abbrev pub CutHasNone : Type 0
+CutHasNone = (bytes : List ℕ) → IsCut bytes → (m : Message) (rest : List ℕ) → ¬ (ReadsMessage bytes m rest)
 
 -- bytes have one fault at most, but that a head may be too long and also broken or cut
 abbrev pub OneFault : Type 0

@@ -10,3 +10,4 @@ pub mod ChunkSteps
 pub mod Said
 pub mod Law
 pub mod Target
+pub mod Scanning

@@ -105,3 +105,7 @@ BreaksMessage bytes fault =
 -- the bytes begin with no request, by this fault
 abbrev pub IsFault : List ℕ → Fault → Type 0
 IsFault bytes fault = IsHeadFault bytes fault ⊎ BreaksMessage bytes fault
+
+-- the bytes begin with no whole request: they end before one, or have a fault
+abbrev pub IsCut : List ℕ → Type 0
+IsCut bytes = IsEnd bytes ⊎ ((fault : Fault) × IsFault bytes fault)

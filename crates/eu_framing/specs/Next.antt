@@ -1,8 +1,11 @@
 -- What a reader of requests answers: the next request of a list of bytes, or the end.
-use Rattle.std.specs.Prelude.{◌≡◌, List, ℕ, Option, Some, None, string_bytes}
+use Rattle.std.specs.Prelude.{◌≡◌, ◌⊎◌, List, ℕ, Bool, true, Option, Some, None, string_bytes}
+use Rattle.std.specs.Io.KnownBytes.{Keeps}
+use Rattle.eu_base.specs.declared.faults.Fault.{Fault}
+use Rattle.eu_base.specs.declared.faults.Fault.TheVariants as faults
 use Rattle.eu_framing.specs.declared.request.Request.{Request}
 use Rattle.eu_framing.specs.Fields.{closes, is_replicated}
-use Rattle.eu_framing.specs.Message.{Message, headers_of, ReadsMessage, IsEnd}
+use Rattle.eu_framing.specs.Message.{Message, headers_of, ReadsMessage, IsEnd, IsCut}
 
 -- the request is that message, as far as it matters here
 pub record IsRequest (request : Request) (m : Message) : Type 0 where
@@ -17,3 +20,7 @@ pub record IsRequest (request : Request) (m : Message) : Type 0 where
 abbrev pub FindsNext : Option Request → List ℕ → List ℕ → Type 0
 FindsNext None bytes rest = IsEnd bytes × (rest ≡ bytes)
 FindsNext (Some request) bytes rest = (m : Message) × IsRequest request m × ReadsMessage bytes m rest
+
+-- the fault comes from outside: no memory was left; or the reader failed, no byte was lost, and those in the buffer begin with no whole request
+abbrev pub Interrupts : Bool → Option (List ℕ) → Option (List ℕ) → List ℕ → Fault → Type 0
+Interrupts failed old new buffer fault = (fault ≡ faults.OutOfMemory) ⊎ ((fault ≡ faults.Read) × (failed ≡ true) × Keeps old new × IsCut buffer)

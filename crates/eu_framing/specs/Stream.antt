@@ -1,8 +1,6 @@
 -- The bytes of a connection that are still to come.
-use Rattle.std.specs.Prelude.{◌≡◌, ◌⊎◌, ℕ, Bool, true, List, Option, Some, None}
+use Rattle.std.specs.Prelude.{ℕ, List, Option, Some, None}
 use Rattle.std.specs.Io.KnownBytes.{prepend_known}
-use Rattle.eu_base.specs.declared.faults.Fault.{Fault}
-use Rattle.eu_base.specs.declared.faults.Fault.TheVariants as faults
 
 -- the bytes read and not yet used, and then those that the reader has left, where those are known
 abbrev pub pending : List ℕ → Option (List ℕ) → Option (List ℕ)
@@ -18,7 +16,3 @@ abbrev pub Between : Option (List ℕ) → Option (List ℕ) → (List ℕ → L
 Between None new P = (bytes : List ℕ) × (rest : List ℕ) × P bytes rest
 Between (Some old) None P = ⊥
 Between (Some old) (Some new) P = P old new
-
--- the fault comes from outside: no memory was left, or the reader failed
-abbrev pub IsOutside : Bool → Fault → Type 0
-IsOutside failed fault = (fault ≡ faults.OutOfMemory) ⊎ ((fault ≡ faults.Read) × (failed ≡ true))

@@ -1,5 +1,5 @@
 //! The body of a request.
-ghost use Rattle.std.specs.Prelude.{◌≡◌, ◌≤◌, ◌++◌, List, ℕ, IfOk, IfErr, OnOk, drop, vec_len};
+ghost use Rattle.std.specs.Prelude.{◌≡◌, ◌≢◌, ◌≤◌, ◌++◌, List, ℕ, IfOk, IfErr, OnOk, drop, vec_len};
 ghost use Rattle.eu_framing.specs.Fields.{IsWithin};
 ghost use Rattle.eu_framing.specs.Message.{ReadsSized, BreaksSized, ReadsBody, BreaksBody, max_head};
 ghost use Rattle.eu_framing.specs.Reading.{Grows, Blames};
@@ -27,7 +27,8 @@ fn read_sized<R: Source>(
     ensures grows { OnOk result (Grows (R.remaining reader.old) (R.failed reader.old) buffer.old.items (R.remaining reader.new) (R.failed reader.new) buffer.new.items) }
     ensures body { IfOk result (λ r. (more : List ℕ) → ReadsSized len (drop start (buffer.new.items ++ more)) r.0.items (drop r.1 buffer.new.items ++ more)) }
     ensures inside { IfOk result (λ r. r.1 ≤ vec_len buffer.new) }
-    ensures fault { IfErr result (λ fault. Blames (R.failed reader.new) (R.remaining reader.old) buffer.old.items fault (λ bytes f. BreaksSized len (drop start bytes) f)) }
+    ensures fault { IfErr result (λ fault. Blames (R.failed reader.new) (R.remaining reader.old) buffer.old.items (R.remaining reader.new) buffer.new.items fault (λ bytes f. BreaksSized len (drop start bytes) f)) }
+    ensures told { IfErr result (λ fault. fault ≢ Fault.Read → R.failed reader.new ≡ R.failed reader.old) }
     ensures same_stream { R.stream reader.new ≡ R.stream reader.old }
 {
     let end = start + len;
@@ -53,7 +54,8 @@ pub fn read_body<R: Source>(
     ensures grows { OnOk result (Grows (R.remaining reader.old) (R.failed reader.old) buffer.old.items (R.remaining reader.new) (R.failed reader.new) buffer.new.items) }
     ensures body { IfOk result (λ r. (more : List ℕ) → ReadsBody framing (drop start (buffer.new.items ++ more)) r.0.items (drop r.1 buffer.new.items ++ more)) }
     ensures inside { IfOk result (λ r. r.1 ≤ vec_len buffer.new) }
-    ensures fault { IfErr result (λ fault. Blames (R.failed reader.new) (R.remaining reader.old) buffer.old.items fault (λ bytes f. BreaksBody framing (drop start bytes) f)) }
+    ensures fault { IfErr result (λ fault. Blames (R.failed reader.new) (R.remaining reader.old) buffer.old.items (R.remaining reader.new) buffer.new.items fault (λ bytes f. BreaksBody framing (drop start bytes) f)) }
+    ensures told { IfErr result (λ fault. fault ≢ Fault.Read → R.failed reader.new ≡ R.failed reader.old) }
     ensures same_stream { R.stream reader.new ≡ R.stream reader.old }
 {
     match framing {

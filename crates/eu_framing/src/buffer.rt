@@ -1,8 +1,7 @@
 //! The buffer between a reader and what is made of its bytes.
-ghost use Rattle.std.specs.Prelude.{◌≡◌, ◌≤◌, ◌<◌, ◌+◌, ℕ, List, Ok, true, false, length, drop, take, IfOk, IfErr, OnOk, vec_len};
+ghost use Rattle.std.specs.Prelude.{◌≡◌, ◌≢◌, ◌≤◌, ◌<◌, ◌+◌, ℕ, List, Ok, true, false, length, drop, take, IfOk, IfErr, OnOk, vec_len};
 ghost use Rattle.std.specs.Io.KnownBytes.{IsAtEnd};
-ghost use Rattle.eu_framing.specs.Stream.{IsOutside};
-ghost use Rattle.eu_framing.specs.Reading.{Grows};
+ghost use Rattle.eu_framing.specs.Reading.{Grows, Fails};
 
 use eu_base::Fault;
 use eu_stream::Source;
@@ -17,7 +16,8 @@ pub fn fill<R: Source>(reader: &mut R, buffer: &mut Vec<u8>) -> Result<usize, Fa
     ensures grows { OnOk result (Grows (R.remaining reader.old) (R.failed reader.old) buffer.old.items (R.remaining reader.new) (R.failed reader.new) buffer.new.items) }
     ensures count { IfOk result (λ n. vec_len buffer.new ≡ vec_len buffer.old + n) }
     ensures end { IfOk result (λ n. n ≡ 0 → IsAtEnd (R.remaining reader.new)) }
-    ensures fault { IfErr result (IsOutside (R.failed reader.new)) }
+    ensures fault { IfErr result (λ fault. Fails (R.failed reader.new) (R.remaining reader.old) buffer.old.items (R.remaining reader.new) buffer.new.items fault (λ bytes. bytes ≡ buffer.old.items)) }
+    ensures told { IfErr result (λ fault. fault ≢ Fault.Read → R.failed reader.new ≡ R.failed reader.old) }
     ensures same_stream { R.stream reader.new ≡ R.stream reader.old }
 {
     let mut piece = [0u8; PIECE];
@@ -42,7 +42,8 @@ pub fn fill_to<R: Source>(
     ensures whole { result ≡ Ok true → wanted ≤ vec_len buffer.new }
     ensures cut { result ≡ Ok false → vec_len buffer.new < wanted }
     ensures end { result ≡ Ok false → IsAtEnd (R.remaining reader.new) }
-    ensures fault { IfErr result (IsOutside (R.failed reader.new)) }
+    ensures fault { IfErr result (λ fault. Fails (R.failed reader.new) (R.remaining reader.old) buffer.old.items (R.remaining reader.new) buffer.new.items fault (λ bytes. length bytes < wanted)) }
+    ensures told { IfErr result (λ fault. fault ≢ Fault.Read → R.failed reader.new ≡ R.failed reader.old) }
     ensures same_stream { R.stream reader.new ≡ R.stream reader.old }
 {
     'reads: while buffer.len() < wanted {

@@ -1,11 +1,12 @@
 //! A chunked body.
-ghost use Rattle.std.specs.Prelude.{◌≡◌, ◌≤◌, ◌<◌, ◌+◌, ◌++◌, [], List, ℕ, IfOk, IfErr, IfSome, OnOk, drop, length, take, vec_len, bytes_eq};
+ghost use Rattle.std.specs.Prelude.{◌≡◌, ◌≢◌, ◌≤◌, ◌<◌, ◌+◌, ◌-◌, ◌++◌, [], List, ℕ, IfOk, IfErr, IfSome, OnOk, drop, length, take, vec_len, bytes_eq};
 ghost use Rattle.std.specs.Option.{MatchOption};
 ghost use Rattle.httparse.specs.Ascii.{crlf_bytes};
 ghost use Rattle.httparse.specs.Grammar.{HasNoChunkLine, MayBecomeChunkLine};
 ghost use Rattle.eu_framing.specs.Chunks.{IsLineFault, IsDataFault, BreaksChunks, ReadsChunked, BreaksChunked};
 ghost use Rattle.eu_framing.specs.Message.{max_head};
 ghost use Rattle.eu_framing.specs.Reading.{Grows, Blames};
+ghost use Rattle.eu_framing.specs.Scanning.{LineEndsAfter};
 ghost use Rattle.eu_framing.specs.Steps.{FindsLine};
 ghost use Rattle.eu_framing.specs.ChunkSteps.{TakesStep, TakesChunks};
 
@@ -52,6 +53,7 @@ fn try_line(
     requires within { start ≤ length buffer.now }
     requires seen { seen ≤ length buffer.now }
     ensures line { IfOk result (λ found. IfSome found (FindsLine room (drop start buffer.now))) }
+    ensures none { start ≤ seen → LineEndsAfter (seen - start) (drop start buffer.now) → IfOk result (λ found. MatchOption found (HasNoChunkLine (take room (drop start buffer.now))) (λ _. Unit {0})) }
     ensures fault { IfErr result (λ fault. (more : List ℕ) → IsLineFault room (drop start (buffer.now ++ more)) fault) }
 {
     if buffer[seen..].contains(&b'\n') {
@@ -102,7 +104,8 @@ fn find_line<R: Source>(
     ensures line { IfOk result (FindsLine room (drop start buffer.new.items)) }
     ensures inside { IfOk result (λ found. start + found.0 ≤ vec_len buffer.new) }
     ensures fits { IfOk result (λ found. found.0 ≤ room) }
-    ensures fault { IfErr result (λ fault. Blames (R.failed reader.new) (R.remaining reader.old) buffer.old.items fault (λ bytes f. IsLineFault room (drop start bytes) f)) }
+    ensures fault { IfErr result (λ fault. Blames (R.failed reader.new) (R.remaining reader.old) buffer.old.items (R.remaining reader.new) buffer.new.items fault (λ bytes f. IsLineFault room (drop start bytes) f)) }
+    ensures told { IfErr result (λ fault. fault ≢ Fault.Read → R.failed reader.new ≡ R.failed reader.old) }
     ensures same_stream { R.stream reader.new ≡ R.stream reader.old }
 {
     let mut seen = start;
@@ -145,7 +148,8 @@ fn take_data<R: Source>(
     ensures data_ { OnOk result ((chunk : List ℕ) × (length chunk ≡ size) × (body.new.items ≡ body.old.items ++ chunk) × (drop start buffer.new.items ≡ chunk ++ (crlf_bytes ++ drop (start + size + 2) buffer.new.items))) }
     ensures inside { OnOk result (start + size + 2 ≤ vec_len buffer.new) }
     ensures fits { OnOk result (size + 2 ≤ room) }
-    ensures fault { IfErr result (λ fault. Blames (R.failed reader.new) (R.remaining reader.old) buffer.old.items fault (λ bytes f. IsDataFault room size (drop start bytes) f)) }
+    ensures fault { IfErr result (λ fault. Blames (R.failed reader.new) (R.remaining reader.old) buffer.old.items (R.remaining reader.new) buffer.new.items fault (λ bytes f. IsDataFault room size (drop start bytes) f)) }
+    ensures told { IfErr result (λ fault. fault ≢ Fault.Read → R.failed reader.new ≡ R.failed reader.old) }
     ensures same_stream { R.stream reader.new ≡ R.stream reader.old }
 {
     if !fill_to(reader, buffer, start + room.min(size + 2))? {
@@ -177,7 +181,8 @@ fn take_chunk<R: Source>(
     requires held { vec_len body.old ≤ 1048576 }
     ensures grows { OnOk result (Grows (R.remaining reader.old) (R.failed reader.old) buffer.old.items (R.remaining reader.new) (R.failed reader.new) buffer.new.items) }
     ensures step { IfOk result (TakesStep start room buffer.new.items body.old.items body.new.items) }
-    ensures fault { IfErr result (λ fault. Blames (R.failed reader.new) (R.remaining reader.old) buffer.old.items fault (λ bytes f. BreaksChunks room (length body.old.items) (drop start bytes) f)) }
+    ensures fault { IfErr result (λ fault. Blames (R.failed reader.new) (R.remaining reader.old) buffer.old.items (R.remaining reader.new) buffer.new.items fault (λ bytes f. BreaksChunks room (length body.old.items) (drop start bytes) f)) }
+    ensures told { IfErr result (λ fault. fault ≢ Fault.Read → R.failed reader.new ≡ R.failed reader.old) }
     ensures same_stream { R.stream reader.new ≡ R.stream reader.old }
 {
     let (len, size) = find_line(reader, buffer, start, room)?;
@@ -206,7 +211,8 @@ fn take_chunks<R: Source>(
     requires empty { body.old.items ≡ [] }
     ensures grows { OnOk result (Grows (R.remaining reader.old) (R.failed reader.old) buffer.old.items (R.remaining reader.new) (R.failed reader.new) buffer.new.items) }
     ensures chunks { IfOk result (λ r. TakesChunks start r.0 r.1 buffer.new.items body.new.items) }
-    ensures fault { IfErr result (λ fault. Blames (R.failed reader.new) (R.remaining reader.old) buffer.old.items fault (λ bytes f. BreaksChunked (drop start bytes) f)) }
+    ensures fault { IfErr result (λ fault. Blames (R.failed reader.new) (R.remaining reader.old) buffer.old.items (R.remaining reader.new) buffer.new.items fault (λ bytes f. BreaksChunked (drop start bytes) f)) }
+    ensures told { IfErr result (λ fault. fault ≢ Fault.Read → R.failed reader.new ≡ R.failed reader.old) }
     ensures same_stream { R.stream reader.new ≡ R.stream reader.old }
 {
     let mut at = start;
@@ -232,7 +238,8 @@ pub fn read_chunked<R: Source>(
     ensures grows { OnOk result (Grows (R.remaining reader.old) (R.failed reader.old) buffer.old.items (R.remaining reader.new) (R.failed reader.new) buffer.new.items) }
     ensures body { IfOk result (λ r. (more : List ℕ) → ReadsChunked (drop start (buffer.new.items ++ more)) r.0.items (drop r.1 buffer.new.items ++ more)) }
     ensures inside { IfOk result (λ r. r.1 ≤ vec_len buffer.new) }
-    ensures fault { IfErr result (λ fault. Blames (R.failed reader.new) (R.remaining reader.old) buffer.old.items fault (λ bytes f. BreaksChunked (drop start bytes) f)) }
+    ensures fault { IfErr result (λ fault. Blames (R.failed reader.new) (R.remaining reader.old) buffer.old.items (R.remaining reader.new) buffer.new.items fault (λ bytes f. BreaksChunked (drop start bytes) f)) }
+    ensures told { IfErr result (λ fault. fault ≢ Fault.Read → R.failed reader.new ≡ R.failed reader.old) }
     ensures same_stream { R.stream reader.new ≡ R.stream reader.old }
 {
     let mut body = Vec::new(alloc);

@@ -1,10 +1,11 @@
 //! The head of a request.
-ghost use Rattle.std.specs.Prelude.{◌≡◌, ◌⊎◌, ◌≤◌, ◌<◌, ◌++◌, false, List, ℕ, length, take, IfOk, IfErr, IfSome, OnOk, vec_len};
+ghost use Rattle.std.specs.Prelude.{◌≡◌, ◌≢◌, ◌⊎◌, ◌≤◌, ◌<◌, ◌++◌, false, List, ℕ, length, take, IfOk, IfErr, IfSome, OnOk, vec_len};
 ghost use Rattle.std.specs.Option.{MatchOption};
 ghost use Rattle.std.specs.Io.KnownBytes.{IsAtEnd};
 ghost use Rattle.httparse.specs.Grammar.{HasNoRequest};
 ghost use Rattle.eu_framing.specs.Message.{max_head, max_fields, IsEnd, IsHeadFault};
 ghost use Rattle.eu_framing.specs.Reading.{Grows, Blames};
+ghost use Rattle.eu_framing.specs.Scanning.{IsAt, HeadEndsAfter};
 ghost use Rattle.eu_framing.specs.Steps.{HasHeadAt, blank_lines};
 
 use crate::MAX_HEAD;
@@ -57,6 +58,8 @@ fn try_head(
 ) -> Result<Option<RequestSpans>, Fault>
     requires { length spans.old ≡ max_fields }
     ensures head { IfOk result (λ found. IfSome found (HasHeadAt buffer.now spans.new)) }
+    ensures none { IsAt false buffer.now scan.old → HeadEndsAfter scan.old.seen buffer.now → IfOk result (λ found. MatchOption found (HasNoRequest (take max_head buffer.now)) (λ _. Unit {0})) }
+    ensures at { IsAt false buffer.now scan.old → IsAt false buffer.now scan.new }
     ensures fault { IfErr result (λ fault. (more : List ℕ) → IsHeadFault (buffer.now ++ more) fault) }
 {
     if scan.finds_empty_line(buffer) {
@@ -108,7 +111,8 @@ pub fn find_head<R: Source>(
     ensures grows { OnOk result (Grows (R.remaining reader.old) (R.failed reader.old) buffer.old.items (R.remaining reader.new) (R.failed reader.new) buffer.new.items) }
     ensures head { IfOk result (λ found. IfSome found (HasHeadAt buffer.new.items spans.new)) }
     ensures end { IfOk result (λ found. MatchOption found (IsEnd buffer.new.items × IsAtEnd (R.remaining reader.new)) (λ _. Unit {0})) }
-    ensures fault { IfErr result (λ fault. Blames (R.failed reader.new) (R.remaining reader.old) buffer.old.items fault IsHeadFault) }
+    ensures fault { IfErr result (λ fault. Blames (R.failed reader.new) (R.remaining reader.old) buffer.old.items (R.remaining reader.new) buffer.new.items fault IsHeadFault) }
+    ensures told { IfErr result (λ fault. fault ≢ Fault.Read → R.failed reader.new ≡ R.failed reader.old) }
     ensures same_stream { R.stream reader.new ≡ R.stream reader.old }
 {
     let mut scan = Scan::of_head();

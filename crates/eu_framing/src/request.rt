@@ -1,16 +1,16 @@
 //! The next request of a stream.
-ghost use Rattle.std.specs.Prelude.{◌≡◌, ◌⊎◌, ◌≤◌, ◌++◌, List, ℕ, IsUtf8, IfOk, IfErr, IfSome, OnOk, drop, string_bytes, take, vec_len};
+ghost use Rattle.std.specs.Prelude.{◌≡◌, ◌≢◌, ◌⊎◌, ◌≤◌, ◌++◌, List, ℕ, IsUtf8, IfOk, IfErr, IfSome, OnOk, drop, string_bytes, take, vec_len};
 ghost use Rattle.std.specs.Option.{MatchOption};
 ghost use Rattle.std.specs.Io.KnownBytes.{IsAtEnd};
 ghost use Rattle.httparse.specs.Spans.{IsRequestWithin, IsRequestOf};
 ghost use Rattle.eu_framing.specs.Fields.{IsWithin};
 ghost use Rattle.eu_framing.specs.Message.{IsFault, max_head};
-ghost use Rattle.eu_framing.specs.Next.{FindsNext};
+ghost use Rattle.eu_framing.specs.Next.{FindsNext, Interrupts};
 ghost use Rattle.eu_framing.specs.Reading.{Grows, Blames};
 ghost use Rattle.eu_framing.specs.Steps.{HasHeadAt};
 ghost use Rattle.eu_framing.specs.HeadSteps.{GivesHead, FindsHead};
 ghost use Rattle.eu_framing.specs.Target.{path_of, query_of};
-ghost use Rattle.eu_framing.specs.Stream.{pending, Between, OfBytes, IsOutside};
+ghost use Rattle.eu_framing.specs.Stream.{pending, Between, OfBytes};
 
 use crate::body::read_body;
 use crate::buffer::{drop_front, window};
@@ -118,7 +118,8 @@ fn next_head<R: Source>(
     ensures found { IfOk result (λ found. FindsHead found buffer.new.items) }
     ensures end { IfOk result (λ found. MatchOption found (IsAtEnd (R.remaining reader.new)) (λ _. Unit {0})) }
     ensures within { IfOk result (λ found. IfSome found (λ head. IsWithin head.framing)) }
-    ensures fault { IfErr result (λ fault. Blames (R.failed reader.new) (R.remaining reader.old) buffer.old.items fault IsFault) }
+    ensures fault { IfErr result (λ fault. Blames (R.failed reader.new) (R.remaining reader.old) buffer.old.items (R.remaining reader.new) buffer.new.items fault IsFault) }
+    ensures told { IfErr result (λ fault. fault ≢ Fault.Read → R.failed reader.new ≡ R.failed reader.old) }
     ensures same_stream { R.stream reader.new ≡ R.stream reader.old }
 {
     let mut spans = [EMPTY_HEADER_SPAN; MAX_FIELDS];
@@ -148,15 +149,17 @@ fn next_head<R: Source>(
 ///   `MAX_TRAILER` bytes or has more than `MAX_FIELDS` fields, or the bytes end inside a chunked body.
 /// - `OutOfMemory`: there was no memory. `Read`: a read failed.
 ///
-/// After a fault the reader and the buffer are left open.
+/// Of `Read` no byte is lost: the buffer has what came before the failed read and isn't used, and that begins with no whole request.
+/// After any other fault the reader and the buffer are left open.
 pub fn read_request<R: Source>(
     alloc: Global,
     reader: &mut R,
     buffer: &mut Vec<u8>,
 ) -> Result<Option<Request>, Fault>
     ensures found { IfOk result (λ next. Between (pending buffer.old.items (R.remaining reader.old)) (pending buffer.new.items (R.remaining reader.new)) (FindsNext next)) }
-    ensures fault { IfErr result (λ fault. IsOutside (R.failed reader.new) fault ⊎ OfBytes (pending buffer.old.items (R.remaining reader.old)) (λ bytes. IsFault bytes fault)) }
+    ensures fault { IfErr result (λ fault. Interrupts (R.failed reader.new) (pending buffer.old.items (R.remaining reader.old)) (pending buffer.new.items (R.remaining reader.new)) buffer.new.items fault ⊎ OfBytes (pending buffer.old.items (R.remaining reader.old)) (λ bytes. IsFault bytes fault)) }
     ensures sound { OnOk result (R.failed reader.new ≡ R.failed reader.old) }
+    ensures told { IfErr result (λ fault. fault ≢ Fault.Read → R.failed reader.new ≡ R.failed reader.old) }
     ensures same_stream { R.stream reader.new ≡ R.stream reader.old }
 {
     match next_head(alloc, reader, buffer)? {

@@ -1,10 +1,11 @@
 //! How far a text was looked through for the line that ends it.
-ghost use Rattle.std.specs.Prelude.{◌≡◌, ◌<◌, ◌≤◌, length, max, true, false};
+ghost use Rattle.std.specs.Prelude.{◌≡◌, ◌<◌, ◌≤◌, Bool, drop, length, max, true, false};
+ghost use Rattle.eu_framing.specs.Scanning.{IsAt, begun_after, has_end, is_end, line_after};
 
 /// Looks through a text, as it grows, for the empty line that ends a head or a trailer. No byte is looked at twice.
 ///
-/// It only tells when it is worth while to parse. What is read rests on its answers in nothing but how often that is done, and that no byte
-/// behind a request is waited for.
+/// It only tells when it is worth while to parse. What is read rests on its answers in nothing but how often that is done, that no byte
+/// behind a request is waited for, and that a failed read leaves no whole request.
 #[derive(Clone, Copy)]
 pub struct Scan {
     /// So many bytes were looked at.
@@ -43,6 +44,8 @@ impl Scan {
     pub fn finds_empty_line(&mut self, text: &[u8]) -> bool
         ensures found { result ≡ true → (self.old.seen < self.new.seen) × (self.new.seen ≤ length text.now) }
         ensures all { result ≡ false → self.new.seen ≡ max self.old.seen (length text.now) }
+        ensures at { (begun : Bool) → IsAt begun text.now self.old → IsAt begun text.now self.new }
+        ensures ends { result ≡ has_end self.old.in_line self.old.begun (drop self.old.seen text.now) }
     {
         'bytes: while self.seen < text.len() {
             let byte = text[self.seen];
@@ -56,7 +59,10 @@ impl Scan {
 
     /// Takes one byte, and tells whether it ends an empty line that ends the text.
     fn ends_at(&mut self, byte: u8) -> bool
-        ensures { self.new.seen ≡ self.old.seen }
+        ensures seen { self.new.seen ≡ self.old.seen }
+        ensures line { self.new.in_line ≡ line_after self.old.in_line byte }
+        ensures begun { self.new.begun ≡ begun_after self.old.begun byte }
+        ensures ends { result ≡ is_end self.old.in_line self.old.begun byte }
     {
         match byte {
             b'\n' => {

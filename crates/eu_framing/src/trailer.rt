@@ -1,10 +1,11 @@
 //! The trailer of a chunked body.
-ghost use Rattle.std.specs.Prelude.{◌≡◌, ◌≤◌, ◌<◌, ◌+◌, ◌++◌, List, ℕ, IfOk, IfErr, IfSome, OnOk, drop, length, take, vec_len};
+ghost use Rattle.std.specs.Prelude.{◌≡◌, ◌≢◌, ◌≤◌, ◌<◌, ◌+◌, ◌++◌, List, ℕ, true, IfOk, IfErr, IfSome, OnOk, drop, length, take, vec_len};
 ghost use Rattle.std.specs.Option.{MatchOption};
 ghost use Rattle.httparse.specs.Grammar.{HasNoSection, MayBecomeSection};
 ghost use Rattle.eu_framing.specs.Chunks.{IsTrailerFault, trailer_room};
 ghost use Rattle.eu_framing.specs.Message.{max_fields};
 ghost use Rattle.eu_framing.specs.Reading.{Grows, Blames};
+ghost use Rattle.eu_framing.specs.Scanning.{IsAt, TrailerEndsAfter};
 ghost use Rattle.eu_framing.specs.ChunkSteps.{FindsTrailer, lines_in, long_trailer_fault};
 
 use crate::buffer::{fill, window};
@@ -48,6 +49,9 @@ fn try_trailer(
     requires within { start ≤ length buffer.now }
     requires spans { length spans.old ≡ max_fields }
     ensures trailer { IfOk result (λ found. IfSome found (FindsTrailer room (drop start buffer.now))) }
+    ensures none { IsAt true (drop start buffer.now) scan.old → TrailerEndsAfter scan.old.seen (drop start buffer.now)
+        → IfOk result (λ found. MatchOption found (HasNoSection (take (trailer_room room) (drop start buffer.now))) (λ _. Unit {0})) }
+    ensures at { IsAt true (drop start buffer.now) scan.old → IsAt true (drop start buffer.now) scan.new }
     ensures fault { IfErr result (λ fault. (more : List ℕ) → IsTrailerFault room (drop start (buffer.now ++ more)) fault) }
 {
     if scan.finds_empty_line(&buffer[start..]) {
@@ -127,7 +131,8 @@ pub fn find_trailer<R: Source>(
     ensures grows { OnOk result (Grows (R.remaining reader.old) (R.failed reader.old) buffer.old.items (R.remaining reader.new) (R.failed reader.new) buffer.new.items) }
     ensures trailer { IfOk result (FindsTrailer room (drop start buffer.new.items)) }
     ensures inside { IfOk result (λ len. start + len ≤ vec_len buffer.new) }
-    ensures fault { IfErr result (λ fault. Blames (R.failed reader.new) (R.remaining reader.old) buffer.old.items fault (λ bytes f. IsTrailerFault room (drop start bytes) f)) }
+    ensures fault { IfErr result (λ fault. Blames (R.failed reader.new) (R.remaining reader.old) buffer.old.items (R.remaining reader.new) buffer.new.items fault (λ bytes f. IsTrailerFault room (drop start bytes) f)) }
+    ensures told { IfErr result (λ fault. fault ≢ Fault.Read → R.failed reader.new ≡ R.failed reader.old) }
     ensures same_stream { R.stream reader.new ≡ R.stream reader.old }
 {
     let mut spans = [EMPTY_HEADER_SPAN; MAX_FIELDS];

@@ -1,6 +1,6 @@
 //! A journal as a text.
 ghost use Rattle.std.specs.Io.KnownBytes.{Appends, Keeps};
-ghost use Rattle.std.specs.Prelude.{◌≡◌, ◌<◌, ◌++◌, ℕ, length, take, true, IfOk, OnOk, string_bytes};
+ghost use Rattle.std.specs.Prelude.{◌≡◌, ◌≢◌, ◌<◌, ◌++◌, ℕ, length, take, true, IfErr, IfOk, OnOk, string_bytes};
 ghost use Rattle.std.specs.List.{AllByRecursion};
 ghost use Rattle.eu_journal_text.specs.Text.{IsReadBack, entries_lines, journal_lines, journal_text, lines_text, seal_line, sealed, state_lines};
 
@@ -93,6 +93,7 @@ pub fn write_journal<W: Sink>(
     ensures front { result ≡ Err WriteError.Write
         → (k : ℕ) × (k < length (journal_text base.now entries.now end.now)) × Appends (W.contents writer.old) (W.contents writer.new) (take k (journal_text base.now entries.now end.now)) }
     ensures failed { result ≡ Err WriteError.Write → W.failed writer.new ≡ true }
+    ensures told { IfErr result (λ fault. fault ≢ WriteError.Write → W.failed writer.new ≡ W.failed writer.old) }
     ensures same_stream { W.stream writer.new ≡ W.stream writer.old }
 {
     let text = journal_text(alloc, base, entries, end)?;

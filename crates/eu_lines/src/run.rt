@@ -1,5 +1,5 @@
 //! A script under way: one line after the other.
-ghost use Rattle.std.specs.Prelude.{◌≡◌, ◌≤◌, ◌<◌, ◌^◌, ◌+◌, ◌++◌, ℕ, List, [], length, take, true, OnOk, OnErr, IfErr, Err};
+ghost use Rattle.std.specs.Prelude.{◌≡◌, ◌≢◌, ◌≤◌, ◌<◌, ◌^◌, ◌+◌, ◌++◌, ℕ, List, [], length, take, true, OnOk, OnErr, IfErr, Err};
 ghost use Rattle.std.specs.Io.KnownBytes.{Appends};
 ghost use Rattle.eu_lines.specs.Lines.{HasNoEnd, IsKept};
 ghost use Rattle.eu_lines.specs.Script.{Prints, IsBad};
@@ -161,6 +161,7 @@ pub fn take_line<W: Sink, X, D: Answerer<X>>(
     ensures number { OnOk result (run.new.number ≡ run.old.number + 1) }
     ensures err { IfErr result (StopsAdding limits D.answers D.refuses run.old desk.old context.old (W.contents writer.old) part.now context.new (W.contents writer.new) (W.failed writer.new)) }
     ensures sound { OnOk result (W.failed writer.new ≡ W.failed writer.old) }
+    ensures told { IfErr result (λ fault. fault ≢ ScriptFault.Write → W.failed writer.new ≡ W.failed writer.old) }
     ensures same_stream { W.stream writer.new ≡ W.stream writer.old }
 {
     if let Err(error) = answer_part(alloc, limits, run, desk, context, part) {
@@ -190,6 +191,7 @@ pub fn take_chunk<W: Sink, X, D: Answerer<X>>(
     ensures number { OnOk result (run.new.number ≤ run.old.number + length chunk.now) }
     ensures err { IfErr result (StopsTaking limits D.answers D.refuses run.old desk.old context.old (W.contents writer.old) chunk.now context.new (W.contents writer.new) (W.failed writer.new)) }
     ensures sound { OnOk result (W.failed writer.new ≡ W.failed writer.old) }
+    ensures told { IfErr result (λ fault. fault ≢ ScriptFault.Write → W.failed writer.new ≡ W.failed writer.old) }
     ensures same_stream { W.stream writer.new ≡ W.stream writer.old }
 {
     let mut rest = chunk;
@@ -217,6 +219,7 @@ pub fn take_end<W: Sink, X, D: Answerer<X>>(
     ensures written { OnOk result (run.new.waiting.items ≡ []) }
     ensures err { IfErr result (StopsAdding limits D.answers D.refuses run.old desk.old context.old (W.contents writer.old) [] context.new (W.contents writer.new) (W.failed writer.new)) }
     ensures sound { OnOk result (W.failed writer.new ≡ W.failed writer.old) }
+    ensures told { IfErr result (λ fault. fault ≢ ScriptFault.Write → W.failed writer.new ≡ W.failed writer.old) }
     ensures same_stream { W.stream writer.new ≡ W.stream writer.old }
 {
     take_line(alloc, limits, run, desk, context, writer, &[])?;

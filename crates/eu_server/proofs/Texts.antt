@@ -1,5 +1,5 @@
 -- What a script leaves of its journal, of the run whose account a desk keeps
-use Rattle.std.proofs.Common.{◌≡◌, ℕ, Bool, List, [], take, Option, Some, None, Result, Ok, Err, refl, ap, ◌∙◌, inl, inr}
+use Rattle.std.proofs.Common.{◌≡◌, ℕ, Bool, List, [], take, Option, Some, None, Result, Ok, Err, IfErr, refl, ap, ◌∙◌, inl, inr}
 use Rattle.std.proofs.KnownBytes.{Appends-kept, Appends-nil}
 use Rattle.std.specs.Io.KnownBytes.{Keeps}
 use Rattle.eu_base.specs.declared.settings.Config.{Config}
@@ -16,6 +16,11 @@ use Rattle.eu_server.specs.Desk.{HoldsRun, Leaves, Writes, text_of}
 use Rattle.eu_server.specs.Journal.{IsTextOf, JournalRuns}
 use Rattle.eu_server.specs.Script.{Ran}
 use Rattle.eu_server.proofs.Scripts.{without_memory}
+
+-- what holds in each case holds also beside a fault
+pub beside : {A E P : Type 0} (result : Result A E) (Q : E → Type 0) → P → IfErr result (λ fault. Q fault → P)
+beside (Ok x) Q p = tt
+beside (Err fault) Q p = λ _. p
 
 -- nothing was written
 pub nothing : (old new : Option (List ℕ)) (text : List ℕ) (failed : Bool) → Keeps old new → Wrote old new (Writes text failed (Err OutOfMemory))

@@ -1,5 +1,5 @@
 //! Audits of scripts: whether what a script did is a run of the lease machine.
-ghost use Rattle.std.specs.Prelude.{ℕ, Bool, List, ◌≡◌, OnOk, OnErr, true, take};
+ghost use Rattle.std.specs.Prelude.{ℕ, Bool, List, ◌≡◌, ◌≢◌, IfErr, OnOk, OnErr, true, take};
 ghost use Rattle.std.specs.Io.KnownBytes.{Appends, Consumes};
 ghost use Rattle.eu_lines.specs.Script.{Wrote};
 ghost use Rattle.eu_server.specs.Audit.{AuditRuns, audit_text};
@@ -35,6 +35,7 @@ pub fn tell_verdict<W: Sink>(
 ) -> Result<(), ScriptFault>
     ensures told { Wrote (W.contents writer.old) (W.contents writer.new) (Writes (audit_text verdict.is_run verdict.entries) (W.failed writer.new) result) }
     ensures sound { OnOk result (W.failed writer.new ≡ W.failed writer.old) }
+    ensures told_writer { IfErr result (λ fault. fault ≢ ScriptFault.Write → W.failed writer.new ≡ W.failed writer.old) }
     ensures same_stream { W.stream writer.new ≡ W.stream writer.old }
 {
     let mut line = String::new(alloc);
@@ -66,6 +67,8 @@ pub fn answer_audit<R: Source, W: Sink, C: Chooser>(
         (AuditRuns config C.asks chooser.old chooser.new (R.remaining reader.new) (R.failed reader.new) read (W.failed writer.new) result) }
     ensures sound_reader { OnOk result (R.failed reader.new ≡ R.failed reader.old) }
     ensures sound_writer { OnOk result (W.failed writer.new ≡ W.failed writer.old) }
+    ensures told_reader { IfErr result (λ fault. fault ≢ ScriptFault.Read → R.failed reader.new ≡ R.failed reader.old) }
+    ensures told_writer { IfErr result (λ fault. fault ≢ ScriptFault.Write → W.failed writer.new ≡ W.failed writer.old) }
     ensures same_reader { R.stream reader.new ≡ R.stream reader.old }
     ensures same_writer { W.stream writer.new ≡ W.stream writer.old }
 {

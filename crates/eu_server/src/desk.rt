@@ -79,6 +79,7 @@ impl Desk {
     pub fn write_journal<J: Sink>(&self, alloc: Global, journal: &mut J) -> Result<(), ScriptFault>
         ensures wrote { Wrote (J.contents journal.old) (J.contents journal.new) (Writes (text_of self.now.book) (J.failed journal.new) result) }
         ensures sound { OnOk result (J.failed journal.new ≡ J.failed journal.old) }
+        ensures told { IfErr result (λ fault. fault ≢ ScriptFault.Write → J.failed journal.new ≡ J.failed journal.old) }
         ensures same_stream { J.stream journal.new ≡ J.stream journal.old }
     {
         let Some(book) = self.book.as_ref() else {

@@ -1,5 +1,5 @@
 //! Scripts whose journal is written.
-ghost use Rattle.std.specs.Prelude.{ℕ, Bool, List, ◌≡◌, OnOk};
+ghost use Rattle.std.specs.Prelude.{ℕ, Bool, List, ◌≡◌, ◌≢◌, IfErr, OnOk};
 ghost use Rattle.std.specs.Io.KnownBytes.{Consumes};
 ghost use Rattle.eu_lines.specs.Script.{Wrote};
 ghost use Rattle.eu_server.specs.Desk.{Writes, text_of};
@@ -18,6 +18,7 @@ use std::io::{Read, Write};
 fn leave_journal<J: Sink>(alloc: Global, desk: &Desk, journal: &mut J) -> Result<(), ScriptFault>
     ensures wrote { Wrote (J.contents journal.old) (J.contents journal.new) (Writes (text_of desk.now.book) (J.failed journal.new) result) }
     ensures sound { OnOk result (J.failed journal.new ≡ J.failed journal.old) }
+    ensures told { IfErr result (λ fault. fault ≢ ScriptFault.Write → J.failed journal.new ≡ J.failed journal.old) }
     ensures same_stream { J.stream journal.new ≡ J.stream journal.old }
 {
     desk.write_journal(alloc, journal)?;
@@ -50,6 +51,9 @@ pub fn answer_script_with_journal<R: Source, W: Sink, J: Sink, C: Chooser>(
     ensures sound_reader { OnOk result (R.failed reader.new ≡ R.failed reader.old) }
     ensures sound_writer { OnOk result (W.failed writer.new ≡ W.failed writer.old) }
     ensures sound_journal { OnOk result (J.failed journal.new ≡ J.failed journal.old) }
+    ensures told_reader { IfErr result (λ fault. fault ≢ ScriptFault.Read → R.failed reader.new ≡ R.failed reader.old) }
+    ensures told_writer { IfErr result (λ fault. fault ≢ ScriptFault.Write → W.failed writer.new ≡ W.failed writer.old) }
+    ensures told_journal { IfErr result (λ fault. fault ≢ ScriptFault.Write → J.failed journal.new ≡ J.failed journal.old) }
     ensures same_reader { R.stream reader.new ≡ R.stream reader.old }
     ensures same_writer { W.stream writer.new ≡ W.stream writer.old }
     ensures same_journal { J.stream journal.new ≡ J.stream journal.old }

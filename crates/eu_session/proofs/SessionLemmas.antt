@@ -3,19 +3,20 @@ use Rattle.std.proofs.Common.{◌≡◌, ◌⊎◌, ⊎_elim, inl, inr, ℕ, ◌
 use Rattle.std.proofs.KnownBytes.{Appends-nil, Appends-trans, Keeps-refl, prepend_known-nil}
 use Rattle.std.proofs.lemmas.Bool.{false≢true, cases_lt}
 use Rattle.std.proofs.lemmas.List.Concat.{flat_map-append}
-use Rattle.std.specs.Io.KnownBytes.{Appends}
+use Rattle.std.specs.Io.KnownBytes.{Appends, Keeps}
 use Rattle.eu_base.specs.declared.faults.Fault.{Fault}
 use Rattle.eu_base.specs.declared.faults.Fault.TheVariants as faults
 use Rattle.eu_framing.specs.declared.request.Request.{Request}
-use Rattle.eu_framing.specs.Next.{FindsNext}
-use Rattle.eu_framing.specs.Stream.{pending, Between, IsOutside}
+use Rattle.eu_framing.specs.Message.{IsCut}
+use Rattle.eu_framing.specs.Next.{FindsNext, Interrupts}
+use Rattle.eu_framing.specs.Stream.{pending, Between}
 use Rattle.eu_http.specs.declared.exchange.Answer.{Answer}
 use Rattle.eu_http.specs.declared.exchange.Ask.{Ask}
 use Rattle.eu_http.specs.Response.{response}
 use Rattle.eu_session.specs.declared.faults.SessionFault.{SessionFault}
 use Rattle.eu_session.specs.declared.faults.SessionFault.TheVariants.{Read, Write, OutOfMemory}
 use Rattle.eu_session.specs.Turn.{Turn, text_of, refusal, is_last, State, Breaks, Step}
-use Rattle.eu_session.specs.Session.{IsOpen, GoesOn, Ends, Session}
+use Rattle.eu_session.specs.Session.{IsOpen, GoesOn, Unread, Ends, Session}
 use Rattle.eu_session.specs.Steps.{IsInside, Comes, AnswersTo, RefusesBy}
 use Rattle.eu_session.proofs.ChainLemmas.{chain_push, all_push}
 use Rattle.eu_session.proofs.FaultLemmas.{fault_differs, by_number}
@@ -28,22 +29,33 @@ before_last : (n : ℕ) → eqb n 99 ≡ false → n < 100 → n + 1 < 100
 before_last n e few = ⊎_elim (λ (h : n < 99). omega arith) (λ (h : 99 ≤ n). let is : n ≡ 99 = omega arith in absurd (false≢true (sym (rw is at e)))) (cases_lt n 99)
 
 -- the fault that was met in place of a request
-abbrev Met : Bool → Option (List ℕ) → Fault → Type 0
-Met failed left fault = IsOutside failed fault ⊎ Breaks left fault
+abbrev Met : Bool → Option (List ℕ) → Option (List ℕ) → List ℕ → Fault → Type 0
+Met failed left left' ahead fault = Interrupts failed left left' ahead fault ⊎ Breaks left fault
 
-inside_breaks : (failed : Bool) (left : Option (List ℕ)) (fault : Fault) → Met failed left fault → IsInside fault → Breaks left fault
-inside_breaks failed left fault (inl (inl memory)) inside = absurd (inside.0 memory)
-inside_breaks failed left fault (inl (inr read)) inside = absurd (inside.1 read.0)
-inside_breaks failed left fault (inr breaks) inside = breaks
+inside_breaks : (failed : Bool) (left left' : Option (List ℕ)) (ahead : List ℕ) (fault : Fault) → Met failed left left' ahead fault → IsInside fault → Breaks left fault
+inside_breaks failed left left' ahead fault (inl (inl memory)) inside = absurd (inside.0 memory)
+inside_breaks failed left left' ahead fault (inl (inr read)) inside = absurd (inside.1 read.0)
+inside_breaks failed left left' ahead fault (inr breaks) inside = breaks
 
 no_bytes : (left : Option (List ℕ)) (fault : Fault) → Breaks left fault → ¬ (fault ≡ faults.Read)
 no_bytes None fault (bytes, x) = fault_differs bytes fault x
 no_bytes (Some bytes) fault x = fault_differs bytes fault x
 
-read_failed : (failed : Bool) (left : Option (List ℕ)) (fault : Fault) → Met failed left fault → fault ≡ faults.Read → failed ≡ true
-read_failed failed left fault (inl (inl memory)) e = absurd (by_number fault faults.OutOfMemory memory refl e)
-read_failed failed left fault (inl (inr read)) e = read.1
-read_failed failed left fault (inr breaks) e = absurd (no_bytes left fault breaks e)
+read_failed : (failed : Bool) (left left' : Option (List ℕ)) (ahead : List ℕ) (fault : Fault) → Met failed left left' ahead fault → fault ≡ faults.Read → failed ≡ true
+read_failed failed left left' ahead fault (inl (inl memory)) e = absurd (by_number fault faults.OutOfMemory memory refl e)
+read_failed failed left left' ahead fault (inl (inr read)) e = read.1
+read_failed failed left left' ahead fault (inr breaks) e = absurd (no_bytes left fault breaks e)
+
+read_cut : (failed : Bool) (left left' : Option (List ℕ)) (ahead : List ℕ) (fault : Fault) → Met failed left left' ahead fault → fault ≡ faults.Read → Keeps left left' × IsCut ahead
+read_cut failed left left' ahead fault (inl (inl memory)) e = absurd (by_number fault faults.OutOfMemory memory refl e)
+read_cut failed left left' ahead fault (inl (inr read)) e = (read.2, read.3)
+read_cut failed left left' ahead fault (inr breaks) e = absurd (no_bytes left fault breaks e)
+
+refused_unread : (failed : Bool) (left left' : Option (List ℕ)) (ahead : List ℕ) (fault : Fault) (held held' : Option (List ℕ)) (failed_writer : Bool) (e : SessionFault)
+    → Met failed left left' ahead fault → RefusesBy fault held held' failed_writer (Err e) → Unread left left' ahead (Err e)
+refused_unread failed left left' ahead fault held held' failed_writer Read met x = read_cut failed left left' ahead fault met x.0
+refused_unread failed left left' ahead fault held held' failed_writer Write met x = tt
+refused_unread failed left left' ahead fault held held' failed_writer OutOfMemory met x = tt
 
 texts_more : (ts : List Turn) (t : Turn) → flat_map text_of ts ++ text_of t ≡ flat_map text_of (ts ++ t ∷ [])
 texts_more ts t = sym (flat_map-append text_of ts (t ∷ []) ∙ ap (λ (x : List ℕ). flat_map text_of ts ++ x) (append-nil (text_of t)))
@@ -93,6 +105,7 @@ module _ {D C : Type 0} (asked : D → Ask → ℕ → Result Answer Fault → D
     held = held;
     goes_on = g;
     ahead = buffer;
+    unread = tt;
     ends = inl (refl, record { ends = ends; untouched = record { desk_is = refl; clock_is = refl }; written = Keeps-refl held });
   }
 
@@ -107,6 +120,7 @@ module _ {D C : Type 0} (asked : D → Ask → ℕ → Result Answer Fault → D
         held = held;
         goes_on = g;
         ahead = buffer;
+        unread = tt;
         ends = inr (
           refl,
           inl (record {
@@ -120,7 +134,7 @@ module _ {D C : Type 0} (asked : D → Ask → ℕ → Result Answer Fault → D
       }
 
   pub session_refused : (old : State D C) (l rest : Option (List ℕ)) (buffer : List ℕ) (fault : Fault) (desk : D) (clock : C) (before held held' : Option (List ℕ)) (n : ℕ) (failed_reader failed_writer : Bool)
-      → GoesOn asked tells n old (record { left = l; desk = desk; clock = clock }) before held → Met failed_reader l fault → IsInside fault × Appends held held' (refusal fault)
+      → GoesOn asked tells n old (record { left = l; desk = desk; clock = clock }) before held → Met failed_reader l (pending buffer rest) buffer fault → IsInside fault × Appends held held' (refusal fault)
       → Session asked tells old (record { left = rest; desk = desk; clock = clock }) before held' failed_reader failed_writer (Ok (n + 1))
   session_refused old l rest buffer fault desk clock before held held' n failed_reader failed_writer g met x = record {
     n = n;
@@ -128,16 +142,23 @@ module _ {D C : Type 0} (asked : D → Ask → ℕ → Result Answer Fault → D
     held = held;
     goes_on = g;
     ahead = buffer;
+    unread = tt;
     ends = inr (
       refl,
       inr (record {
         fault = fault;
-        breaks = inside_breaks failed_reader l fault met x.0;
+        breaks = inside_breaks failed_reader l (pending buffer rest) buffer fault met x.0;
         untouched = record { desk_is = refl; clock_is = refl };
         written = x.1;
       }),
     );
   }
+
+  answered_unread : (l l' : Option (List ℕ)) (ahead : List ℕ) (request : Request) (close : Bool) (desk desk' : D) (clock clock' : C) (held held' : Option (List ℕ)) (failed_writer : Bool) (e : SessionFault)
+      → AnswersTo asked tells request close desk clock held desk' clock' held' failed_writer (Err e) → Unread l l' ahead (Err e)
+  answered_unread l l' ahead request close desk desk' clock clock' held held' failed_writer Read x = absurd x
+  answered_unread l l' ahead request close desk desk' clock clock' held held' failed_writer Write x = tt
+  answered_unread l l' ahead request close desk desk' clock clock' held held' failed_writer OutOfMemory x = tt
 
   ends_answering : (l l' : Option (List ℕ)) (request : Request) (close : Bool) (desk desk' : D) (clock clock' : C) (held held' : Option (List ℕ)) (n : ℕ) (failed_reader failed_writer : Bool) (e : SessionFault)
       → Between l l' (FindsNext (Some request)) → AnswersTo asked tells request close desk clock held desk' clock' held' failed_writer (Err e) → close ≡ is_last n request
@@ -168,27 +189,28 @@ module _ {D C : Type 0} (asked : D → Ask → ℕ → Result Answer Fault → D
     held = held;
     goes_on = g;
     ahead = buffer;
+    unread = answered_unread l (pending buffer rest) buffer request close desk desk' clock clock' held held' failed_writer e x;
     ends = ends_answering l (pending buffer rest) request close desk desk' clock clock' held held' n failed_reader failed_writer e reads x is;
   }
 
-  ends_refusing : (l l' : Option (List ℕ)) (fault : Fault) (desk : D) (clock : C) (held held' : Option (List ℕ)) (n : ℕ) (failed_reader failed_writer : Bool) (e : SessionFault)
-      → Met failed_reader l fault → RefusesBy fault held held' failed_writer (Err e)
+  ends_refusing : (l l' : Option (List ℕ)) (ahead : List ℕ) (fault : Fault) (desk : D) (clock : C) (held held' : Option (List ℕ)) (n : ℕ) (failed_reader failed_writer : Bool) (e : SessionFault)
+      → Met failed_reader l l' ahead fault → RefusesBy fault held held' failed_writer (Err e)
       → Ends asked tells n (record { left = l; desk = desk; clock = clock }) (record { left = l'; desk = desk; clock = clock }) held held' failed_reader failed_writer (Err e)
-  ends_refusing l l' fault desk clock held held' n failed_reader failed_writer Read met x = (read_failed failed_reader l fault met x.0, record { desk_is = refl; clock_is = refl }, x.1)
-  ends_refusing l l' fault desk clock held held' n failed_reader failed_writer Write met x = (
+  ends_refusing l l' ahead fault desk clock held held' n failed_reader failed_writer Read met x = (read_failed failed_reader l l' ahead fault met x.0, record { desk_is = refl; clock_is = refl }, x.1)
+  ends_refusing l l' ahead fault desk clock held held' n failed_reader failed_writer Write met x = (
     x.1,
     inr (record {
       fault = fault;
-      breaks = inside_breaks failed_reader l fault met x.0;
+      breaks = inside_breaks failed_reader l l' ahead fault met x.0;
       untouched = record { desk_is = refl; clock_is = refl };
       len = x.2;
       written = x.3;
     }),
   )
-  ends_refusing l l' fault desk clock held held' n failed_reader failed_writer OutOfMemory met x = (x, inl (record { desk_is = refl; clock_is = refl }))
+  ends_refusing l l' ahead fault desk clock held held' n failed_reader failed_writer OutOfMemory met x = (x, inl (record { desk_is = refl; clock_is = refl }))
 
   pub session_unrefused : (old : State D C) (l rest : Option (List ℕ)) (buffer : List ℕ) (fault : Fault) (desk : D) (clock : C) (before held held' : Option (List ℕ)) (n : ℕ) (failed_reader failed_writer : Bool) (e : SessionFault)
-      → GoesOn asked tells n old (record { left = l; desk = desk; clock = clock }) before held → Met failed_reader l fault → RefusesBy fault held held' failed_writer (Err e)
+      → GoesOn asked tells n old (record { left = l; desk = desk; clock = clock }) before held → Met failed_reader l (pending buffer rest) buffer fault → RefusesBy fault held held' failed_writer (Err e)
       → Session asked tells old (record { left = rest; desk = desk; clock = clock }) before held' failed_reader failed_writer (Err e)
   session_unrefused old l rest buffer fault desk clock before held held' n failed_reader failed_writer e g met x = record {
     n = n;
@@ -196,5 +218,6 @@ module _ {D C : Type 0} (asked : D → Ask → ℕ → Result Answer Fault → D
     held = held;
     goes_on = g;
     ahead = buffer;
-    ends = ends_refusing l (pending buffer rest) fault desk clock held held' n failed_reader failed_writer e met x;
+    unread = refused_unread failed_reader l (pending buffer rest) buffer fault held held' failed_writer e met x;
+    ends = ends_refusing l (pending buffer rest) buffer fault desk clock held held' n failed_reader failed_writer e met x;
   }

@@ -1,8 +1,9 @@
 -- What a session does to its desk, its clock and its writer, by its result
-use Rattle.std.specs.Prelude.{◌≡◌, ◌⊎◌, ℕ, ◌+◌, ◌<◌, Bool, true, false, List, length, flat_map, take, Option, None, Result, Ok, Err}
+use Rattle.std.specs.Prelude.{◌≡◌, ◌⊎◌, ℕ, ◌+◌, ◌<◌, Bool, true, false, List, length, flat_map, take, Option, None, Result, Ok, Err, ⊤}
 use Rattle.std.specs.List.{AllByRecursion}
 use Rattle.std.specs.Io.KnownBytes.{Appends, Keeps}
 use Rattle.eu_base.specs.declared.faults.Fault.{Fault}
+use Rattle.eu_framing.specs.Message.{IsCut}
 use Rattle.eu_framing.specs.Next.{FindsNext}
 use Rattle.eu_framing.specs.Stream.{pending, Between}
 use Rattle.eu_http.specs.declared.exchange.Answer.{Answer}
@@ -16,6 +17,13 @@ use Rattle.eu_session.specs.Turn.{Turn, text_of, refusal, is_last, State, Untouc
 pub record IsOpen (t : Turn) : Type 0 where
   pub request : t.request.closes ≡ false
   pub response : t.close ≡ false
+
+-- Where a read failed no byte was lost, and those that were read ahead begin with no whole request: each that came whole before was answered.
+abbrev pub Unread : Option (List ℕ) → Option (List ℕ) → List ℕ → Result ℕ SessionFault → Type 0
+Unread old new ahead (Ok m) = ⊤
+Unread old new ahead (Err Read) = Keeps old new × IsCut ahead
+Unread old new ahead (Err Write) = ⊤
+Unread old new ahead (Err OutOfMemory) = ⊤
 
 -- `asked` and `tells` are what a desk answers and what a clock tells. `before` and `after` are what the writer holds.
 module _ {D C : Type 0} (asked : D → Ask → ℕ → Result Answer Fault → D → Type 0) (tells : C → ℕ → C → Type 0) where
@@ -88,4 +96,5 @@ module _ {D C : Type 0} (asked : D → Ask → ℕ → Result Answer Fault → D
     pub held : Option (List ℕ)
     pub goes_on : GoesOn n old last before held
     pub ahead : List ℕ
+    pub unread : Unread last.left (pending ahead new.left) ahead result
     pub ends : Ends n last (record { left = pending ahead new.left; desk = new.desk; clock = new.clock }) held after failed_reader failed_writer result

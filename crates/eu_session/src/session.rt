@@ -1,5 +1,5 @@
 //! A session: one request after the other.
-ghost use Rattle.std.specs.Prelude.{◌≡◌, OnOk};
+ghost use Rattle.std.specs.Prelude.{◌≡◌, ◌≢◌, IfErr, OnOk};
 ghost use Rattle.eu_session.specs.Session.{Session};
 ghost use Rattle.eu_session.specs.Turn as spec;
 
@@ -36,7 +36,8 @@ fn is_last(request: &Request, n: u32) -> bool
 ///
 /// In the first three cases the last response says `Connection: close`. Faults end it early:
 ///
-/// - `Read`: a read failed. The responses to the requests before are written, and nothing else, and nothing else was asked.
+/// - `Read`: a read failed. The responses to the requests that had come whole before it are written, to each of them, and nothing else,
+///   and nothing else was asked.
 /// - `Write`: a write or a flush failed. The responses before that one are written, and some front of it. What the last request asks
 ///   was asked, once.
 /// - `OutOfMemory`: the session itself found no memory. The responses to the requests before are written, and nothing else.
@@ -55,7 +56,10 @@ pub fn serve_session<D: Desk, C: Clock, R: Source, W: Sink>(
         (record { left = R.remaining reader.old; desk = desk.old; clock = clock.old })
         (record { left = R.remaining reader.new; desk = desk.new; clock = clock.new })
         (W.contents writer.old) (W.contents writer.new) (R.failed reader.new) (W.failed writer.new) result }
+    ensures sound_reader { OnOk result (R.failed reader.new ≡ R.failed reader.old) }
     ensures sound_writer { OnOk result (W.failed writer.new ≡ W.failed writer.old) }
+    ensures told_reader { IfErr result (λ fault. fault ≢ SessionFault.Read → R.failed reader.new ≡ R.failed reader.old) }
+    ensures told_writer { IfErr result (λ fault. fault ≢ SessionFault.Write → W.failed writer.new ≡ W.failed writer.old) }
     ensures same_reader { R.stream reader.new ≡ R.stream reader.old }
     ensures same_writer { W.stream writer.new ≡ W.stream writer.old }
 {

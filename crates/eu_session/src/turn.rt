@@ -1,5 +1,5 @@
 //! One request after it is read: what comes of it, and its response.
-ghost use Rattle.std.specs.Prelude.{◌≡◌, ℕ, take, true, IfOk, OnOk, OnErr};
+ghost use Rattle.std.specs.Prelude.{◌≡◌, ◌≢◌, ℕ, take, true, IfErr, IfOk, OnOk, OnErr};
 ghost use Rattle.std.specs.Io.KnownBytes.{Appends};
 ghost use Rattle.eu_session.specs.Chain.{Pairs};
 ghost use Rattle.eu_session.specs.Steps.{AnswersTo, RefusesBy};
@@ -74,6 +74,7 @@ pub fn answer_request<D: Desk, C: Clock, W: Sink>(
 ) -> Result<(), SessionFault>
     ensures answers { AnswersTo D.asked C.tells request.now close desk.old clock.old (W.contents writer.old) desk.new clock.new (W.contents writer.new) (W.failed writer.new) result }
     ensures sound { OnOk result (W.failed writer.new ≡ W.failed writer.old) }
+    ensures told { IfErr result (λ fault. fault ≢ SessionFault.Write → W.failed writer.new ≡ W.failed writer.old) }
     ensures same_stream { W.stream writer.new ≡ W.stream writer.old }
 {
     let moment = clock.now();
@@ -86,6 +87,8 @@ pub fn answer_request<D: Desk, C: Clock, W: Sink>(
 pub fn refuse<W: Sink>(alloc: Global, writer: &mut W, fault: Fault) -> Result<(), SessionFault>
     ensures refuses { RefusesBy fault (W.contents writer.old) (W.contents writer.new) (W.failed writer.new) result }
     ensures sound { OnOk result (W.failed writer.new ≡ W.failed writer.old) }
+    ensures told { IfErr result (λ fault. fault ≢ SessionFault.Write → W.failed writer.new ≡ W.failed writer.old) }
+    ensures reading { IfErr result (λ told. told ≢ SessionFault.Read → fault ≢ Fault.Read) }
     ensures same_stream { W.stream writer.new ≡ W.stream writer.old }
 {
     match fault {

@@ -5,6 +5,11 @@ use Rattle.eu_framing.proofs.TrailerLemmas.{chunked_broken, chunked_whole}
 use Rattle.eu_framing.proofs.ReadingLemmas.{grows_more, blames_later, blames_so}
 use Rattle.eu_framing.proofs.chunks.read_chunked.Goals as goal
 
+pub returns-in_err-at-clause-told : goal.returns-in_err-at-clause-told
+returns-in_err-at-clause-told g c =
+    let p = err_from_is_err_and c.from_residual.result c.from_residual.ensures.1 in
+    rw (p.1, p.2) c.in_err-at.ensures.told
+
 pub returns-in_err-trailer-clause-fault : goal.returns-in_err-trailer-clause-fault
 returns-in_err-trailer-clause-fault g c =
     let p = err_from_is_err_and c.from_residual-in_err-trailer.result c.from_residual-in_err-trailer.ensures.1 in
@@ -14,7 +19,7 @@ returns-in_err-trailer-clause-fault g c =
     let fault = c.in_err-trailer.field-0.0 in
     rw (p.1, p.2) (blames_later (λ (bytes : List ℕ) f. BreaksChunked (drop c.args.start bytes) f) c.in_ok-at.ensures.grows
     (blames_so _ _ b fault (λ (bytes : List ℕ) f. IsTrailerFault (max_raw - (at + len - c.args.start)) (drop (at + len) bytes) f) (λ (bytes : List ℕ) f. BreaksChunked (drop c.args.start bytes) f)
-    (λ coming bad. chunked_broken c.args.start at len b _ coming fault c.in_ok-at.ensures.chunks bad) c.in_err-trailer.ensures.fault))
+    (λ coming f bad. chunked_broken c.args.start at len b _ coming f c.in_ok-at.ensures.chunks bad) c.in_err-trailer.ensures.fault))
 
 pub returns-clause-grows : goal.returns-clause-grows
 returns-clause-grows g c = grows_more c.in_ok-at.ensures.grows c.in_ok-trailer.ensures.grows

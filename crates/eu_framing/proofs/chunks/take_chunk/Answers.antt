@@ -1,10 +1,16 @@
-use Rattle.std.proofs.Common.{◌<◌, ◌≤◌, ◌+◌, ◌-◌, List, ℕ, arith, drop, length}
+use Rattle.std.proofs.Common.{◌<◌, ◌≤◌, ◌+◌, ◌-◌, inl, List, ℕ, arith, drop, length}
 use Rattle.std.proofs.lemmas.Result.{err_from_is_err_and}
 use Rattle.eu_framing.specs.Fields.{max_body}
-use Rattle.eu_framing.specs.Chunks.{IsDataFault, BreaksChunks}
+use Rattle.eu_framing.specs.Chunks.{IsLineFault, IsDataFault, BreaksChunks}
 use Rattle.eu_framing.proofs.ChunkLemmas.{chunk_large, chunk_broken, chunk_taken}
 use Rattle.eu_framing.proofs.ReadingLemmas.{grows_length, blames_now, blames_later, blames_so}
 use Rattle.eu_framing.proofs.chunks.take_chunk.Goals as goal
+
+pub returns-in_err-len-clause-fault : goal.returns-in_err-len-clause-fault
+returns-in_err-len-clause-fault g c =
+    let p = err_from_is_err_and c.from_residual.result c.from_residual.ensures.1 in
+    rw (p.1, p.2) (blames_so _ _ c.args.buffer.now.items c.in_err-len.field-0.0 (λ (bytes : List ℕ) f. IsLineFault c.args.room (drop c.args.start bytes) f) (λ (bytes : List ℕ) f. BreaksChunks c.args.room (length c.args.body.now.items) (drop c.args.start bytes) f)
+    (λ coming f bad. inl bad) c.in_err-len.ensures.fault)
 
 pub returns-then-size-len-clause-fault : goal.returns-then-size-len-clause-fault
 returns-then-size-len-clause-fault g c =
@@ -28,7 +34,7 @@ returns-in_err-take_data-clause-fault g c =
     let some : 0 < size = omega arith in
     rw (p.1, p.2) (blames_later (λ (bytes : List ℕ) f. BreaksChunks c.args.room held (drop c.args.start bytes) f) c.in_ok-len.ensures.grows
     (blames_so _ _ b fault (λ (bytes : List ℕ) f. IsDataFault (c.args.room - len) size (drop (c.args.start + len) bytes) f) (λ (bytes : List ℕ) f. BreaksChunks c.args.room held (drop c.args.start bytes) f)
-    (λ coming bad. chunk_broken c.args.room held c.args.start b coming (len, size) fault within c.in_ok-len.ensures.line some few bad) c.in_err-take_data.ensures.fault))
+    (λ coming f bad. chunk_broken c.args.room held c.args.start b coming (len, size) f within c.in_ok-len.ensures.line some few bad) c.in_err-take_data.ensures.fault))
 
 pub returns-clause-step : goal.returns-clause-step
 returns-clause-step g c =

@@ -15,7 +15,7 @@ returns-in_err-len-clause-fault g c =
     let room = max_raw - (c.chunks.at - c.args.start) in
     rw (p.1, p.2) (blames_later (λ (bytes : List ℕ) f. BreaksChunked (drop c.args.start bytes) f) c.chunks.invariant.grows
     (blames_so _ _ b fault (λ (bytes : List ℕ) f. BreaksChunks room held (drop c.chunks.at bytes) f) (λ (bytes : List ℕ) f. BreaksChunked (drop c.args.start bytes) f)
-    (λ coming bad. took_broken c.args.start c.chunks.at b coming c.chunks.body.items took.0 fault took.1 bad) c.in_err-len.ensures.fault))
+    (λ coming f bad. took_broken c.args.start c.chunks.at b coming c.chunks.body.items took.0 f took.1 bad) c.in_err-len.ensures.fault))
 
 pub chunks-preserved : goal.chunks-preserved
 chunks-preserved g c =

@@ -1,9 +1,11 @@
 use Rattle.eu_base.specs.declared.faults.Fault.{Fault}
 use Rattle.std.proofs.Common.{Result, Bool, ◌≡◌, ◌<◌, ◌≤◌, ◌+◌, ◌-◌, min, List, ℕ, Ok, false, ap, sym, arith, drop, take, length}
-use Rattle.std.proofs.lemmas.List.{length-take-le, length-drop}
+use Rattle.std.proofs.lemmas.List.{length-take-le, length-drop, length-append}
+use Rattle.std.proofs.lemmas.Result.{err_from_is_err_and}
+use Rattle.eu_base.specs.declared.faults.Fault.TheVariants as faults
 use Rattle.eu_framing.specs.Chunks.{IsDataFault}
 use Rattle.eu_framing.proofs.ChunkLemmas.{data_short, data_long, data_open, data_stands}
-use Rattle.eu_framing.proofs.ReadingLemmas.{grows_length, blames_now, blames_end}
+use Rattle.eu_framing.proofs.ReadingLemmas.{grows_length, blames_short, blames_now, blames_end}
 use Rattle.eu_framing.proofs.chunks.take_data.Goals as goal
 
 pub returns-then-not-branch-clause-fault : goal.returns-then-not-branch-clause-fault
@@ -39,3 +41,9 @@ returns-clause-data_ g c =
       rw (cut, c.deref-2.ensures.value) at c.in_ok-extend_from_slice.ensures.items,
       data_stands c.args.size c.args.start b long (sym (rw c.deref.ensures.value at c.if-not-has_line_end.ensures)),
     )
+
+pub returns-in_err-fill_to-clause-fault : goal.returns-in_err-fill_to-clause-fault
+returns-in_err-fill_to-clause-fault g c =
+    let p = err_from_is_err_and c.from_residual.result c.from_residual.ensures.1 in
+    rw (p.1, p.2) (blames_short _ (λ (bytes : List ℕ) f. IsDataFault c.args.room c.args.size (drop c.args.start bytes) f) faults.BadChunk
+    (λ bytes more e short. data_short c.args.room c.args.size c.args.start bytes (omega (arith, ap length e, length-append c.args.buffer.now.items more, c.requires.within, c.args.buffer.now.ok)) (omega (arith, short, c.min.ensures))) c.in_err-fill_to.ensures.fault)

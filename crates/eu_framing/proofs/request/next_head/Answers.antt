@@ -1,8 +1,14 @@
+use Rattle.std.proofs.Common.{inl}
 use Rattle.std.proofs.lemmas.Result.{err_from_is_err_and}
-use Rattle.eu_framing.specs.Message.{IsFault}
-use Rattle.eu_framing.proofs.ReadingLemmas.{grows_none, blames_now, blames_later}
+use Rattle.eu_framing.specs.Message.{IsHeadFault, IsFault}
+use Rattle.eu_framing.proofs.ReadingLemmas.{grows_none, blames_now, blames_later, blames_so}
 use Rattle.eu_framing.proofs.RequestLemmas.{next_found, next_broken}
 use Rattle.eu_framing.proofs.request.next_head.Goals as goal
+
+pub returns-in_err-find_head-clause-fault : goal.returns-in_err-find_head-clause-fault
+returns-in_err-find_head-clause-fault g c =
+    let p = err_from_is_err_and c.from_residual.result c.from_residual.ensures.1 in
+    rw (p.1, p.2) (blames_so _ _ c.args.buffer.now.items c.in_err-find_head.field-0.0 IsHeadFault IsFault (λ coming f bad. inl bad) c.in_err-find_head.ensures.fault)
 
 pub returns-in_err-copy_head-in-Some-clause-fault : goal.returns-in_err-copy_head-in-Some-clause-fault
 returns-in_err-copy_head-in-Some-clause-fault g c =

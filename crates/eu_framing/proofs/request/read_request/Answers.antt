@@ -10,7 +10,7 @@ use Rattle.eu_framing.proofs.request.read_request.Goals as goal
 pub returns-in_err-next_head-clause-fault : goal.returns-in_err-next_head-clause-fault
 returns-in_err-next_head-clause-fault g c =
     let p = err_from_is_err_and c.from_residual.result c.from_residual.ensures.1 in
-    rw (p.1, p.2) (told _ _ _ c.in_err-next_head.field-0.0 c.in_err-next_head.ensures.fault)
+    rw (p.1, p.2) (told _ _ _ _ _ c.in_err-next_head.field-0.0 c.in_err-next_head.ensures.fault)
 
 pub returns-in_err-body-in-Some-clause-fault : goal.returns-in_err-body-in-Some-clause-fault
 returns-in_err-body-in-Some-clause-fault g c =
@@ -20,8 +20,8 @@ returns-in_err-body-in-Some-clause-fault g c =
     let fault = c.in_err-body-in-Some.field-0.0 in
     let b = c.next_head.new.buffer.items in
     let failed = g.R.Source.failed c.read_body.new.reader in
-    rw (p.1, p.2) (told failed _ _ fault (blames_later {failed = failed} IsFault c.in_ok-next_head.ensures.grows
-    (blames_so _ failed b fault (λ (bytes : List ℕ) f. BreaksBody head.framing (drop head.len bytes) f) IsFault (λ coming bad. body_broken b coming head fault found bad) c.in_err-body-in-Some.ensures.fault)))
+    rw (p.1, p.2) (told failed _ _ _ _ fault (blames_later {failed = failed} IsFault c.in_ok-next_head.ensures.grows
+    (blames_so _ failed b fault (λ (bytes : List ℕ) f. BreaksBody head.framing (drop head.len bytes) f) IsFault (λ coming f bad. body_broken b coming head f found bad) c.in_err-body-in-Some.ensures.fault)))
 
 pub returns-in_ok-body-in-Some-clause-found : goal.returns-in_ok-body-in-Some-clause-found
 returns-in_ok-body-in-Some-clause-found g c =

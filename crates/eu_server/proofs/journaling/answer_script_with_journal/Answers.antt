@@ -1,8 +1,9 @@
-use Rattle.std.proofs.Common.{[]}
+use Rattle.std.proofs.Common.{◌≢◌, []}
 use Rattle.std.proofs.KnownBytes.{Appends-nil}
 use Rattle.std.proofs.lemmas.Result.{err_from_is_err_and}
 use Rattle.eu_book.proofs.PeerLemmas.{always}
-use Rattle.eu_server.proofs.Texts.{stopped, left_text}
+use Rattle.eu_lines.specs.declared.faults.ScriptFault.TheVariants.{Read, Write}
+use Rattle.eu_server.proofs.Texts.{beside, stopped, left_text}
 use Rattle.eu_server.proofs.journaling.answer_script_with_journal.Goals as goal
 
 pub returns-in_err-desk-clause-runs : goal.returns-in_err-desk-clause-runs
@@ -22,3 +23,9 @@ returns-clause-sound_reader g c = always c.leave_journal.result c.in_ok-desk.ens
 
 pub returns-clause-sound_writer : goal.returns-clause-sound_writer
 returns-clause-sound_writer g c = always c.leave_journal.result c.in_ok-desk.ensures.sound_writer
+
+pub returns-clause-told_reader : goal.returns-clause-told_reader
+returns-clause-told_reader g c = beside c.leave_journal.result (λ fault. fault ≢ Read) c.in_ok-desk.ensures.sound_reader
+
+pub returns-clause-told_writer : goal.returns-clause-told_writer
+returns-clause-told_writer g c = beside c.leave_journal.result (λ fault. fault ≢ Write) c.in_ok-desk.ensures.sound_writer

@@ -9,6 +9,7 @@ invariant-loop-n g l = record {
       (record { left = g.R.Source.remaining l.fn.reader; desk = l.fn.desk; clock = l.fn.clock })
       (record { left = pending l.buffer.items (g.R.Source.remaining l.reader); desk = l.desk; clock = l.clock })
       (g.W.Sink.contents l.fn.writer) (g.W.Sink.contents l.writer);
+  sound_reader : g.R.Source.failed l.reader ≡ g.R.Source.failed l.fn.reader;
   sound : g.W.Sink.failed l.writer ≡ g.W.Sink.failed l.fn.writer;
   same_reader : g.R.Source.stream l.reader ≡ g.R.Source.stream l.fn.reader;
   same_writer : g.W.Sink.stream l.writer ≡ g.W.Sink.stream l.fn.writer;

@@ -1,29 +1,28 @@
--- The faults of an audit are those of the journal that isn't read
-use Rattle.std.proofs.Common.{◌≡◌, ◌⊎◌, ℕ, Bool, true, ap, inl, inr}
-use Rattle.eu_journal_audit.specs.Audit.{IsNoReason}
-use Rattle.eu_journal_audit.specs.Faults.{fault_of}
+-- The faults of an audit are those of the journal that isn't read, and of the line that isn't written
+use Rattle.std.proofs.Common.{◌≡◌, ◌⊎◌, ℕ, Bool, true, List, [], Option, Result, Ok, Err, ap, inl, inr, refl}
+use Rattle.eu_journal_audit.specs.Audit.{AuditsJournal, IsNoReason, IsTold, IsVerdictOf, Judged}
+use Rattle.eu_journal_audit.specs.Faults.{fault_of, script_fault_of}
 use Rattle.eu_journal_audit.specs.declared.faults.AuditFault.{AuditFault}
 use Rattle.eu_journal_audit.specs.declared.faults.AuditFault.TheVariants as fault
+use Rattle.eu_journal_read.specs.Reader.{EndsBefore, FailsToRead, TellsLine}
 use Rattle.eu_journal_read.specs.declared.faults.JournalFault.{JournalFault}
 use Rattle.eu_journal_read.specs.declared.faults.JournalFault.TheVariants as journal
+use Rattle.eu_journal_read.specs.declared.journal.Recorded.{Recorded}
+use Rattle.eu_lines.specs.declared.faults.ScriptFault.{ScriptFault}
+use Rattle.eu_lines.specs.declared.faults.ScriptFault.TheVariants as script
+use Rattle.eu_server.specs.Audit.{audit_text}
+use Rattle.eu_server.specs.Desk.{Writes}
+use Rattle.eu_server.specs.declared.desk.Verdict.{Verdict}
 
-pub line_told : (j : JournalFault) (n : ℕ) → fault_of j ≡ fault.BadLine n → j ≡ journal.BadLine n
-line_told (journal.BadLine m) n e = cc
-line_told journal.EndsEarly n e = cc
-line_told journal.Read n e = cc
-line_told journal.OutOfMemory n e = cc
+abbrev pub unread : JournalFault → Result Recorded JournalFault
+unread j = Err j
 
-pub end_told : (j : JournalFault) → fault_of j ≡ fault.EndsEarly → j ≡ journal.EndsEarly
-end_told (journal.BadLine m) e = cc
-end_told journal.EndsEarly e = cc
-end_told journal.Read e = cc
-end_told journal.OutOfMemory e = cc
+-- a fault that doesn't tell of the reader is no failed read; the same of the writer
+pub other_read : (j : JournalFault) → (fault_of j ≡ fault.Read → ⊥) → j ≡ journal.Read → ⊥
+other_read j other is = other (ap fault_of is)
 
-pub read_told : (j : JournalFault) → fault_of j ≡ fault.Read → j ≡ journal.Read
-read_told (journal.BadLine m) e = cc
-read_told journal.EndsEarly e = cc
-read_told journal.Read e = cc
-read_told journal.OutOfMemory e = cc
+pub other_write : (f : ScriptFault) → (script_fault_of f ≡ fault.Write → ⊥) → f ≡ script.Write → ⊥
+other_write f other is = other (ap script_fault_of is)
 
 pub carried : (j : JournalFault) (F : Type 0) → (j ≡ journal.OutOfMemory) ⊎ ((j ≡ journal.Read) × F) → (fault_of j ≡ fault.OutOfMemory) ⊎ ((fault_of j ≡ fault.Read) × F)
 carried j F (inl e) = inl (ap fault_of e)
@@ -33,3 +32,41 @@ carried j F (inr (e, f)) = inr (ap fault_of e, f)
 pub no_reason : (f : AuditFault) (failed_reader failed_writer : Bool) → (f ≡ fault.OutOfMemory) ⊎ ((f ≡ fault.Read) × (failed_reader ≡ true)) → IsNoReason f failed_reader failed_writer
 no_reason f failed_reader failed_writer (inl memory) = inl memory
 no_reason f failed_reader failed_writer (inr read) = inr (inl read)
+
+-- nor does one of the line's writing
+pub line_reason : (text out : List ℕ) (f : ScriptFault) (failed_reader failed_writer : Bool) → Writes text failed_writer (Err f) out → IsNoReason (script_fault_of f) failed_reader failed_writer
+line_reason text out (script.BadLine n) failed_reader failed_writer is = absurd is
+line_reason text out script.Read failed_reader failed_writer is = absurd is
+line_reason text out script.Write failed_reader failed_writer is = inr (inr (refl, is.0))
+line_reason text out script.OutOfMemory failed_reader failed_writer is = inl refl
+
+module _ (old new : Option (List ℕ)) (failed_reader : Bool) where
+  -- a journal that isn't read
+  pub not_read : (j : JournalFault)
+      → ((n : ℕ) → unread j ≡ Err (journal.BadLine n) → TellsLine old new n) → (unread j ≡ Err journal.EndsEarly → EndsBefore old new) → (unread j ≡ Err journal.Read → FailsToRead old new failed_reader)
+      → Judged old new failed_reader (Err (fault_of j))
+  not_read (journal.BadLine n) line early read = line n refl
+  not_read journal.EndsEarly line early read = early refl
+  not_read journal.Read line early read = read refl
+  not_read journal.OutOfMemory line early read = tt
+
+  module _ (failed_writer : Bool) where
+    -- nothing is told of what wasn't judged
+    pub untold : (f : AuditFault) → Judged old new failed_reader (Err f) → AuditsJournal old new failed_reader failed_writer (Err f) []
+    untold (fault.BadLine n) is = (refl, is)
+    untold fault.EndsEarly is = (refl, is)
+    untold fault.Read is = (refl, is)
+    untold fault.Write is = absurd is
+    untold fault.OutOfMemory is = refl
+
+    module _ (v : Verdict) (judged : Judged old new failed_reader (Ok v)) where
+      -- the line is the answer of the audit
+      pub told : (line : List ℕ) → Writes (audit_text v.is_run v.entries) failed_writer (Ok tt) line → AuditsJournal old new failed_reader failed_writer (Ok v.is_run) line
+      told line is = (judged.0, judged.1, judged.2, v.entries, judged.3, is)
+
+      -- a front of the line is written, or nothing
+      pub told_short : (f : ScriptFault) (out : List ℕ) → Writes (audit_text v.is_run v.entries) failed_writer (Err f) out → AuditsJournal old new failed_reader failed_writer (Err (script_fault_of f)) out
+      told_short (script.BadLine n) out is = absurd is
+      told_short script.Read out is = absurd is
+      told_short script.Write out is = (is.0, v.is_run, _, told _ refl, is.1, is.2)
+      told_short script.OutOfMemory out is = is

@@ -1,17 +1,15 @@
 //! Audits of journals: whether the entries that a text has are a run of the lease machine.
-ghost use Rattle.std.specs.Prelude.{ℕ, List, ◌≡◌, ◌⊎◌, true, Some, Err, OnOk, IfErr, IfOk};
-ghost use Rattle.std.specs.Io.KnownBytes.{Appends, Consumes, IsAtEnd, Keeps};
-ghost use Rattle.eu_journal_audit.specs.Audit.{IsNoReason, IsVerdictOf};
-ghost use Rattle.eu_journal_read.specs.Reader.{EndsBefore, FailsToRead, TellsLine};
+ghost use Rattle.std.specs.Prelude.{ℕ, Bool, List, ◌≡◌, ◌≢◌, ◌⊎◌, true, Some, OnOk, IfErr};
+ghost use Rattle.eu_journal_audit.specs.Audit.{AuditsJournal, Judged, RefusesNone};
 ghost use Rattle.eu_journal_read.specs.Said.{SaysJournal};
+ghost use Rattle.eu_lines.specs.Script.{Wrote};
 ghost use Rattle.eu_model.specs.declared.commands.Entry.{Entry};
 ghost use Rattle.eu_model.specs.declared.states.State.{State};
-ghost use Rattle.eu_server.specs.Audit.{audit_text};
 
 use crate::faults::AuditFault;
 use eu_audit::audit;
 use eu_journal_read::read_journal;
-use eu_server::{ScriptFault, Verdict, tell_verdict};
+use eu_server::{Verdict, tell_verdict};
 use eu_stream::{Reading, Sink, Source, Writing};
 use std::alloc::Global;
 use std::io::{Read, Write};
@@ -19,13 +17,11 @@ use std::io::{Read, Write};
 /// Reads a journal, and has an auditor judge it. The faults are those of `read_journal`; `OutOfMemory` also where there is no memory for
 /// the audit.
 fn judge_journal<R: Source>(alloc: Global, reader: &mut R) -> Result<Verdict, AuditFault>
-    ensures judged { IfOk result (λ v. (text : List ℕ) × Consumes (R.remaining reader.old) (R.remaining reader.new) text × IsAtEnd (R.remaining reader.new) × IsVerdictOf text v.is_run v.entries) }
+    ensures judged { Judged (R.remaining reader.old) (R.remaining reader.new) (R.failed reader.new) result }
     ensures refused { IfErr result (λ fault. (text : List ℕ) (base : State) (entries : List Entry) (end : State) → R.remaining reader.old ≡ Some text → SaysJournal text base entries end
         → (fault ≡ AuditFault.OutOfMemory) ⊎ ((fault ≡ AuditFault.Read) × (R.failed reader.new ≡ true))) }
-    ensures bad_line { (n : ℕ) → result ≡ Err (AuditFault.BadLine n) → TellsLine (R.remaining reader.old) (R.remaining reader.new) n }
-    ensures early { result ≡ Err AuditFault.EndsEarly → EndsBefore (R.remaining reader.old) (R.remaining reader.new) }
-    ensures read { result ≡ Err AuditFault.Read → FailsToRead (R.remaining reader.old) (R.remaining reader.new) (R.failed reader.new) }
     ensures sound { OnOk result (R.failed reader.new ≡ R.failed reader.old) }
+    ensures told { IfErr result (λ fault. fault ≢ AuditFault.Read → R.failed reader.new ≡ R.failed reader.old) }
     ensures same_stream { R.stream reader.new ≡ R.stream reader.old }
 {
     let journal = read_journal(alloc, reader)?;
@@ -48,40 +44,34 @@ pub fn answer_journal_audit<R: Source, W: Sink>(
     reader: &mut R,
     writer: &mut W,
 ) -> Result<bool, AuditFault>
-    ensures audited { IfOk result (λ answer. (text : List ℕ) × (n : ℕ) × Consumes (R.remaining reader.old) (R.remaining reader.new) text × IsAtEnd (R.remaining reader.new)
-        × IsVerdictOf text answer n × Appends (W.contents writer.old) (W.contents writer.new) (audit_text answer n)) }
-    ensures refused { IfErr result (λ fault. (text : List ℕ) (base : State) (entries : List Entry) (end : State) → R.remaining reader.old ≡ Some text → SaysJournal text base entries end
-        → IsNoReason fault (R.failed reader.new) (W.failed writer.new)) }
-    ensures bad_line { (n : ℕ) → result ≡ Err (AuditFault.BadLine n) → TellsLine (R.remaining reader.old) (R.remaining reader.new) n }
-    ensures early { result ≡ Err AuditFault.EndsEarly → EndsBefore (R.remaining reader.old) (R.remaining reader.new) }
-    ensures read { result ≡ Err AuditFault.Read → FailsToRead (R.remaining reader.old) (R.remaining reader.new) (R.failed reader.new) }
-    ensures untold { IfErr result (λ fault. (fault ≡ AuditFault.Write) ⊎ Keeps (W.contents writer.old) (W.contents writer.new)) }
+    ensures audited { Wrote (W.contents writer.old) (W.contents writer.new)
+        (AuditsJournal (R.remaining reader.old) (R.remaining reader.new) (R.failed reader.new) (W.failed writer.new) result) }
+    ensures refused { RefusesNone (R.remaining reader.old) (R.failed reader.new) (W.failed writer.new) result }
     ensures sound_reader { OnOk result (R.failed reader.new ≡ R.failed reader.old) }
     ensures sound_writer { OnOk result (W.failed writer.new ≡ W.failed writer.old) }
+    ensures told_reader { IfErr result (λ fault. fault ≢ AuditFault.Read → R.failed reader.new ≡ R.failed reader.old) }
+    ensures told_writer { IfErr result (λ fault. fault ≢ AuditFault.Write → W.failed writer.new ≡ W.failed writer.old) }
     ensures same_reader { R.stream reader.new ≡ R.stream reader.old }
     ensures same_writer { W.stream writer.new ≡ W.stream writer.old }
 {
     let verdict = judge_journal(alloc, reader)?;
-    match tell_verdict(alloc, writer, verdict) {
-        Ok(()) => Ok(verdict.is_run),
-        Err(ScriptFault::Write) => Err(AuditFault::Write),
-        Err(ScriptFault::OutOfMemory) => Err(AuditFault::OutOfMemory),
-        Err(ScriptFault::Read) => Err(AuditFault::Read),
-        Err(ScriptFault::BadLine(line)) => Err(AuditFault::BadLine(line)),
-    }
+    tell_verdict(alloc, writer, verdict)?;
+    Ok(verdict.is_run)
 }
 
 /// Audits a journal as `answer_journal_audit` does, over any reader and writer of std.
 ///
-/// A read, a write or a flush that a signal interrupts is tried up to 16 times.
+/// A read, a write or a flush that a signal interrupts is tried up to 16 times. The contracts of std's traits don't tell
+/// when a read or a write fails, so this one leaves open whether one did: `answer_journal_audit` tells it exactly.
 pub fn run_journal_audit<R: Read, W: Write>(
     alloc: Global,
     reader: &mut R,
     writer: &mut W,
 ) -> Result<bool, AuditFault>
-    ensures audited { IfOk result (λ answer. (text : List ℕ) × (n : ℕ) × Consumes (R.remaining reader.old) (R.remaining reader.new) text × IsAtEnd (R.remaining reader.new)
-        × IsVerdictOf text answer n × Appends (W.contents writer.old) (W.contents writer.new) (audit_text answer n)) }
-    ensures untold { IfErr result (λ fault. (fault ≡ AuditFault.Write) ⊎ Keeps (W.contents writer.old) (W.contents writer.new)) }
+    ensures { (failed_reader : Bool) × (failed_writer : Bool)
+        × Wrote (W.contents writer.old) (W.contents writer.new)
+        (AuditsJournal (R.remaining reader.old) (R.remaining reader.new) failed_reader failed_writer result)
+        × RefusesNone (R.remaining reader.old) failed_reader failed_writer result }
 {
     let mut reading = Reading::new(reader);
     let mut writing = Writing::new(writer);

@@ -1,5 +1,6 @@
 //! Why a journal isn't audited.
 use eu_journal_read::JournalFault;
+use eu_server::ScriptFault;
 use std::alloc::AllocError;
 use thiserror::Error;
 
@@ -35,6 +36,22 @@ impl From<JournalFault> for AuditFault {
             JournalFault::EndsEarly => AuditFault::EndsEarly,
             JournalFault::Read => AuditFault::Read,
             JournalFault::OutOfMemory => AuditFault::OutOfMemory,
+        }
+    }
+}
+
+impl From<ScriptFault> for AuditFault {
+    ghost use Rattle.std.specs.Prelude.{◌≡◌};
+    ghost use Rattle.eu_journal_audit.specs.Faults.{script_fault_of};
+
+    ghost from_gives = { λ error fault. fault ≡ script_fault_of error };
+
+    fn from(error: ScriptFault) -> AuditFault {
+        match error {
+            ScriptFault::BadLine(line) => AuditFault::BadLine(line),
+            ScriptFault::Read => AuditFault::Read,
+            ScriptFault::Write => AuditFault::Write,
+            ScriptFault::OutOfMemory => AuditFault::OutOfMemory,
         }
     }
 }

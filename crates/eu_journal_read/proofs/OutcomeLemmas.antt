@@ -13,7 +13,7 @@ use Rattle.eu_lines.specs.declared.limits.Limits.{Limits}
 use Rattle.eu_model.specs.declared.commands.Entry.{Entry}
 use Rattle.eu_model.specs.declared.states.State.{State}
 use Rattle.eu_journal_read.specs.Faults.{fault_of}
-use Rattle.eu_journal_read.specs.Reader.{CameTo, EndsBefore, EndsIn, FailsToRead, Follows, IsFirstBad, IsUnsealed, Reads, Refuses, Takes, TellsLine}
+use Rattle.eu_journal_read.specs.Reader.{Begins, CameTo, EndsBefore, EndsIn, FailsToRead, Follows, IsFirstBad, IsUnsealed, Reads, Refuses, Takes, TellsLine}
 use Rattle.eu_journal_read.specs.Said.{SaysJournal, filled, joined, journal_limits}
 use Rattle.eu_journal_read.specs.declared.faults.JournalFault.{JournalFault}
 use Rattle.eu_journal_read.specs.declared.faults.JournalFault.TheVariants as fault
@@ -88,26 +88,28 @@ bad_so r x told (b ∷ bs) holds (inl long) = (omega arith, inl long)
 bad_so r x told (b ∷ bs) holds (inr refuses) = (omega arith, inr (refuses told holds))
 
 module _ (r : JournalReader) (x : Unit {0}) (empty : r.stage ≡ stage.Empty) (holds : Holds256 r.hasher []) where
-  reads_from : (lines : List (List ℕ)) (out : List ℕ) (r' : JournalReader) (x' : Unit {0}) → Printed journal_limits Takes r x lines out r' x' → Reads stage.Empty [] (filled lines) r'.stage
-  reads_from lines out r' x' printed = subst (λ (s : Stage). Reads s [] (filled lines) r'.stage) empty (printed_reads r x lines out r' x' [] printed holds).0
+  begins : (lines : List (List ℕ)) (out : List ℕ) (r' : JournalReader) (x' : Unit {0}) → Printed journal_limits Takes r x lines out r' x' → Begins lines r'.stage
+  begins lines out r' x' printed =
+      let all = printed_reads r x lines out r' x' [] printed holds in
+      (subst (λ (s : Stage). Reads s [] (filled lines) r'.stage) empty all.0, all.2)
 
   first_bad : (lines : List (List ℕ)) (x' : Unit {0}) (failed : Bool) (n : ℕ) (out : List ℕ) → StopsIn journal_limits Takes Refuses r x lines x' failed (BadLine n) out → IsFirstBad lines n
   first_bad lines x' failed n out stops =
       let before = take (n - 1) lines in
-      (stops.0, stops.1, stops.2.stage, reads_from before out stops.2 x' stops.3, bad_so stops.2 x' (joined (filled before)) (get_or lines (n - 1) []) (printed_reads r x before out stops.2 x' [] stops.3 holds).1 stops.4)
+      (stops.0, stops.1, stops.2.stage, begins before out stops.2 x' stops.3, bad_so stops.2 x' (joined (filled before)) (get_or lines (n - 1) []) (printed_reads r x before out stops.2 x' [] stops.3 holds).1 stops.4)
 
   pub came : (limits : Limits) → limits ≡ journal_limits → (r' : JournalReader) (x' : Unit {0}) (left : Option (List ℕ)) (failed_reader failed : Bool) (read out : List ℕ)
       → Outcome limits Takes Refuses r x r' x' left failed_reader failed read (Ok tt) out → CameTo left failed_reader read (Ok r'.stage)
   unfolding CameTo
   came limits same r' x' left failed_reader failed read out given =
       let outcome : Outcome journal_limits Takes Refuses r x r' x' left failed_reader failed read (Ok tt) out = subst (λ l. Outcome l Takes Refuses r x r' x' left failed_reader failed read (Ok tt) out) same given in
-      (outcome.0, outcome.1, reads_from (lines_of read) out r' x' outcome.2, (printed_reads r x (lines_of read) out r' x' [] outcome.2 holds).2)
+      (outcome.0, outcome.1, begins (lines_of read) out r' x' outcome.2)
 
   stopped : (r' : JournalReader) (x' : Unit {0}) (left : Option (List ℕ)) (failed_reader failed : Bool) (read : List ℕ) (f : ScriptFault) (out : List ℕ) → failed ≡ false
       → Outcome journal_limits Takes Refuses r x r' x' left failed_reader failed read (Err f) out → CameTo left failed_reader read (Err f)
   unfolding CameTo
   stopped r' x' left failed_reader failed read (BadLine n) out sound outcome = (outcome.0, outcome.1, first_bad (lines_of outcome.0) x' failed n out outcome.2)
-  stopped r' x' left failed_reader failed read Read out sound outcome = outcome.0
+  stopped r' x' left failed_reader failed read Read out sound outcome = (outcome.0, (outcome.1, outcome.2, outcome.3, outcome.4, r'.stage, begins (lines_of outcome.3) out r' x' outcome.5))
   stopped r' x' left failed_reader failed read Write out sound outcome = let wrote : failed ≡ true = outcome.2.0 in cc
   stopped r' x' left failed_reader failed read OutOfMemory out sound outcome = tt
 
@@ -125,6 +127,10 @@ refused f = Err f
 pub told_of : (r : Result Recorded JournalFault) (f g h : JournalFault) → r ≡ Err f → f ≡ h → r ≡ Err g → h ≡ g
 told_of r f g h one from other = let same : refused f ≡ refused g = sym one ∙ other in cc
 
+-- a fault that doesn't tell of the reader is no failed read
+pub other_fault : (f : ScriptFault) → (fault_of f ≡ fault.Read → ⊥) → f ≡ Read → ⊥
+other_fault f other is = other (ap fault_of is)
+
 pub goes_on : (f : ScriptFault) → fault_of f ≡ fault.EndsEarly → ⊥
 goes_on (BadLine n) is = cc
 goes_on Read is = cc
@@ -141,22 +147,21 @@ line_told old left failed read OutOfMemory n eats came is = cc
 pub read_told : (old left : Option (List ℕ)) (failed : Bool) (read : List ℕ) (f : ScriptFault) → Consumes old left read → CameTo left failed read (Err f) → fault_of f ≡ fault.Read → FailsToRead old left failed
 unfolding CameTo
 read_told old left failed read (BadLine m) eats came is = cc
-read_told old left failed read Read eats (inl fails) is = inl fails
-read_told old left failed read Read eats (inr long) is = inr (read, eats, long)
+read_told old left failed read Read eats came is = (read, eats, came.0, came.1)
 read_told old left failed read Write eats came is = absurd came
 read_told old left failed read OutOfMemory eats came is = cc
 
 pub end_told : (old left : Option (List ℕ)) (failed : Bool) (read : List ℕ) (s : Stage) → Consumes old left read → CameTo left failed read (Ok s) → IsUnsealed s → EndsBefore old left
 unfolding CameTo
-end_told old left failed read s eats came unsealed = (read, eats, came.1, s, came.2, unsealed)
+end_told old left failed read s eats came unsealed = (read, eats, came.1, came.0, s, came.2, unsealed)
 
 -- a whole text that was read to the digest says the journal
 pub says_journal : (left : Option (List ℕ)) (failed : Bool) (text : List ℕ) (s : Stage) (base : State) (entries : List Entry) (end : State) → CameTo left failed text (Ok s) → EndsIn s base entries end
     → IsAtEnd left × SaysJournal text base entries end
 unfolding CameTo EndsIn
 says_journal left failed text s base entries end came (f, d, is, same_base, same_entries, same_end) =
-    let says = reads_journal (filled (lines_of text)) f d (rw is at came.2) in
-    (came.1, rw (same_base, same_entries, same_end) (record { lines = says.0; last = says.1; whole = says.2; said = says.3; seal = says.4; short = came.0; short_lines = rw (← says.2) (came.3) }))
+    let says = reads_journal (filled (lines_of text)) f d (rw is at came.2.0) in
+    (came.1, rw (same_base, same_entries, same_end) (record { lines = says.0; last = says.1; whole = says.2; said = says.3; seal = says.4; short = came.0; short_lines = rw (← says.2) (came.2.1) }))
 
 -- ---- a text that says a journal is read to its end
 
@@ -221,7 +226,7 @@ module _ (text : List ℕ) (base : State) (entries : List Entry) (end : State) (
       none_empty (get_or (lines_of given) (n - 1) []) (rw (nothing) (past_last [] (n - 1) (omega arith))) bad.4.0
   none_given given rest n is (inr front) bad =
       let are : lines_of given ≡ lines_of front.0 ++ [] ∷ [] = ap lines_of front.1 ∙ lines_of-front front.0 [] in
-      none_in_front front.0 rest (n - 1) bad.2 (is ∙ rw (front.1) (append_assoc front.0 (10 ∷ []) rest)) (rw are at bad.3) (rw are at bad.4)
+      none_in_front front.0 rest (n - 1) bad.2 (is ∙ rw (front.1) (append_assoc front.0 (10 ∷ []) rest)) (rw are at bad.3.0) (rw are at bad.4)
 
   known : (left : Option (List ℕ)) (read : List ℕ) → Consumes (Some text) left read → (rest : List ℕ) × (text ≡ read ++ rest) × (IsAtEnd left → rest ≡ [])
   known None read eats = absurd eats
@@ -234,7 +239,7 @@ module _ (text : List ℕ) (base : State) (entries : List Entry) (end : State) (
   no_bad_line left read given n eats (inr judged) bad =
       let rest = known left read eats in
       let same : text ≡ given = rest.1 ∙ ap (λ (bytes : List ℕ). read ++ bytes) (rest.2 judged.2) ∙ append-nil read ∙ sym judged.0 in
-      none_at (lines_of given) [] (n - 1) bad.2 (ap lines_of same ∙ sym (append-nil (lines_of given))) (omega (arith, bad.0, bad.1)) bad.3 bad.4
+      none_at (lines_of given) [] (n - 1) bad.2 (ap lines_of same ∙ sym (append-nil (lines_of given))) (omega (arith, bad.0, bad.1)) bad.3.0 bad.4
 
   reader_failed : (left : Option (List ℕ)) (read : List ℕ) (failed : Bool) → Consumes (Some text) left read → (failed ≡ true) ⊎ (journal_limits.text < length read) → failed ≡ true
   reader_failed left read failed eats (inl so) = so
@@ -248,7 +253,7 @@ module _ (text : List ℕ) (base : State) (entries : List Entry) (end : State) (
       → (fault_of f ≡ fault.OutOfMemory) ⊎ ((fault_of f ≡ fault.Read) × (failed ≡ true))
   unfolding CameTo
   no_fault left failed read (BadLine n) eats came = absurd (no_bad_line left read came.0 n eats came.1 came.2)
-  no_fault left failed read Read eats came = inr (refl, reader_failed left read failed eats came)
+  no_fault left failed read Read eats came = inr (refl, reader_failed left read failed eats came.0)
   no_fault left failed read Write eats came = absurd came
   no_fault left failed read OutOfMemory eats came = inl refl
 
@@ -259,4 +264,4 @@ module _ (text : List ℕ) (base : State) (entries : List Entry) (end : State) (
       let rest = known left read eats in
       let same : text ≡ read = rest.1 ∙ ap (λ (bytes : List ℕ). read ++ bytes) (rest.2 came.1) ∙ append-nil read in
       let all = journal_reads text base entries end says in
-      unsealed all.0 all.1 (reads_once stage.Empty s (stage.Sealed all.0 all.1) [] (filled (lines_of text)) (rw (← same) at came.2) all.2)
+      unsealed all.0 all.1 (reads_once stage.Empty s (stage.Sealed all.0 all.1) [] (filled (lines_of text)) (rw (← same) at came.2.0) all.2)

@@ -5,7 +5,7 @@ use Rattle.std.specs.List.{AllByRecursion}
 use Rattle.hex.specs.Hex.{encode_lower}
 use Rattle.sha2.specs.Hashers.{Holds256}
 use Rattle.sha2.specs.Sha256.{sha256}
-use Rattle.eu_lines.specs.Lines.{IsJudged, lines_of}
+use Rattle.eu_lines.specs.Lines.{AreWholeLines, IsJudged, IsWithinBound, lines_of}
 use Rattle.eu_lines.specs.declared.faults.ScriptFault.{ScriptFault}
 use Rattle.eu_lines.specs.declared.faults.ScriptFault.TheVariants as script
 use Rattle.eu_journal.specs.declared.lines.JournalLine.{JournalLine}
@@ -34,12 +34,16 @@ abbrev pub Reads : Stage → List ℕ → List (List ℕ) → Stage → Type 0
 Reads s told [] t = t ≡ s
 Reads s told (text ∷ texts) t = (u : Stage) × Follows told s text u × Reads u (told ++ (text ++ 10 ∷ [])) texts t
 
--- The line of this number, from 1, is the first that isn't one of a journal: those before it may follow one another, and it isn't empty, but is
--- too long or may not follow them
+-- Lines may begin a journal, up to a stage: those that aren't empty may follow one another, and none of them is too long
+abbrev pub Begins : List (List ℕ) → Stage → Type 0
+Begins lines s = Reads stage.Empty [] (filled lines) s × AllByRecursion (λ (line : List ℕ). length line ≤ journal_limits.line) (filled lines)
+
+-- The line of this number, from 1, is the first that isn't one of a journal: those before it may begin one, and it isn't empty, but is too long
+-- or may not follow them
 abbrev pub IsFirstBad : List (List ℕ) → ℕ → Type 0
 IsFirstBad lines n =
     (0 < n) × (n ≤ length lines)
-    × (s : Stage) × Reads stage.Empty [] (filled (take (n - 1) lines)) s
+    × (s : Stage) × Begins (take (n - 1) lines) s
     × (let line = slice_index_or lines (n - 1) [] in
     (0 < length line) × ((journal_limits.line < length line) ⊎ ((t : Stage) → Follows (joined (filled (take (n - 1) lines))) s line t → ⊥)))
 
@@ -52,13 +56,16 @@ Takes r x text out r' x' =
 abbrev pub Refuses : JournalReader → Unit {0} → List ℕ → Type 0
 Refuses r x text = (told : List ℕ) → Holds256 r.hasher told → (t : Stage) → Follows told r.stage text t → ⊥
 
+-- none of the whole lines that were read, of as many bytes as a journal may have, is bad
+abbrev pub HasNoBad : List ℕ → Type 0
+HasNoBad read = (text : List ℕ) × IsWithinBound journal_limits.text read text × (given : List ℕ) × AreWholeLines text given × (s : Stage) × Begins (lines_of given) s
+
 -- What came of the lines of a text, by what was read of it and what is left: the stage after all of them, or why they weren't all taken
 unfoldable pub CameTo : Option (List ℕ) → Bool → List ℕ → Result Stage ScriptFault → Type 0
 CameTo left failed read (Ok s) =
-    (length read ≤ journal_limits.text) × IsAtEnd left × Reads stage.Empty [] (filled (lines_of read)) s
-    × AllByRecursion (λ (line : List ℕ). length line ≤ journal_limits.line) (filled (lines_of read))
+    (length read ≤ journal_limits.text) × IsAtEnd left × Begins (lines_of read) s
 CameTo left failed read (Err (script.BadLine n)) = (given : List ℕ) × IsJudged journal_limits.text left read given × IsFirstBad (lines_of given) n
-CameTo left failed read (Err script.Read) = (failed ≡ true) ⊎ (journal_limits.text < length read)
+CameTo left failed read (Err script.Read) = ((failed ≡ true) ⊎ (journal_limits.text < length read)) × HasNoBad read
 CameTo left failed read (Err script.Write) = ⊥
 CameTo left failed read (Err script.OutOfMemory) = Unit {0}
 
@@ -78,12 +85,12 @@ EndsIn s base entries end = (f : Front) × (d : Draft) × (s ≡ stage.Sealed f 
 abbrev pub TellsLine : Option (List ℕ) → Option (List ℕ) → ℕ → Type 0
 TellsLine old new n = (read : List ℕ) × Consumes old new read × (given : List ℕ) × IsJudged journal_limits.text new read given × IsFirstBad (lines_of given) n
 
--- all was read, and each line may follow those before it, but none of them is the last one of a journal
+-- all was read, it is no more than a journal may be, and its lines may begin one, but none of them is the last one of a journal
 abbrev pub EndsBefore : Option (List ℕ) → Option (List ℕ) → Type 0
 EndsBefore old new =
-    (text : List ℕ) × Consumes old new text × IsAtEnd new
-    × (s : Stage) × Reads stage.Empty [] (filled (lines_of text)) s × IsUnsealed s
+    (text : List ℕ) × Consumes old new text × IsAtEnd new × (length text ≤ journal_limits.text)
+    × (s : Stage) × Begins (lines_of text) s × IsUnsealed s
 
--- the reader failed, or gave more than a journal may have
+-- the reader failed, or gave more than a journal may have; no line of what it gave is bad
 abbrev pub FailsToRead : Option (List ℕ) → Option (List ℕ) → Bool → Type 0
-FailsToRead old new failed = (failed ≡ true) ⊎ ((read : List ℕ) × Consumes old new read × (journal_limits.text < length read))
+FailsToRead old new failed = (read : List ℕ) × Consumes old new read × ((failed ≡ true) ⊎ (journal_limits.text < length read)) × HasNoBad read

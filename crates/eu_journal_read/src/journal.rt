@@ -1,6 +1,6 @@
 //! A whole journal from its text.
 ghost use Rattle.std.specs.Io.KnownBytes.{Consumes, IsAtEnd};
-ghost use Rattle.std.specs.Prelude.{◌≡◌, ◌⊎◌, ℕ, List, Some, Err, IfErr, IfOk, OnOk, true};
+ghost use Rattle.std.specs.Prelude.{◌≡◌, ◌≢◌, ◌⊎◌, ℕ, List, Some, Err, IfErr, IfOk, OnOk, true};
 ghost use Rattle.eu_model.specs.declared.commands.Entry.{Entry};
 ghost use Rattle.eu_model.specs.declared.states.State.{State};
 ghost use Rattle.eu_journal_read.specs.Drafts.{state_of};
@@ -56,6 +56,7 @@ fn limits() -> Limits
 fn last_stage<R: Source>(alloc: Global, reader: &mut R) -> Result<Stage, ScriptFault>
     ensures came { (read : List ℕ) × Consumes (R.remaining reader.old) (R.remaining reader.new) read × CameTo (R.remaining reader.new) (R.failed reader.new) read result }
     ensures sound { OnOk result (R.failed reader.new ≡ R.failed reader.old) }
+    ensures told { IfErr result (λ fault. fault ≢ ScriptFault.Read → R.failed reader.new ≡ R.failed reader.old) }
     ensures same_stream { R.stream reader.new ≡ R.stream reader.old }
 {
     let mut lines = JournalReader::new();
@@ -100,6 +101,7 @@ pub fn read_journal<R: Source>(alloc: Global, reader: &mut R) -> Result<Recorded
     ensures early { result ≡ Err JournalFault.EndsEarly → EndsBefore (R.remaining reader.old) (R.remaining reader.new) }
     ensures read { result ≡ Err JournalFault.Read → FailsToRead (R.remaining reader.old) (R.remaining reader.new) (R.failed reader.new) }
     ensures sound { OnOk result (R.failed reader.new ≡ R.failed reader.old) }
+    ensures told { IfErr result (λ fault. fault ≢ JournalFault.Read → R.failed reader.new ≡ R.failed reader.old) }
     ensures same_stream { R.stream reader.new ≡ R.stream reader.old }
 {
     let stage = last_stage(alloc, reader)?;

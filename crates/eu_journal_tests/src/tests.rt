@@ -1,4 +1,5 @@
 //! The tests.
+mod changed;
 mod journal;
 mod memory;
 mod reading;

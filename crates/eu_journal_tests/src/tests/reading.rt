@@ -13,14 +13,14 @@ pub static LINES: [&str; 14] = [
     "{\"line\":\"answered\",\"reply\":{\"fresh\":true,\"name\":\"Registered\"},\"rest\":null}",
     "{\"command\":{\"dirty\":null,\"key\":{\"app\":\"A\",\"id\":\"i1\"},\"name\":\"Renew\",\"overridden\":null,\"replicated\":true},\"line\":\"asked\",\"moment\":30000,\"number\":1,\"pass\":0,\"rest\":null}",
     "{\"line\":\"answered\",\"reply\":{\"name\":\"Done\"},\"rest\":null}",
-    "{\"command\":{\"name\":\"Drain\",\"peer\":0},\"line\":\"asked\",\"moment\":30000,\"number\":2,\"pass\":0,\"rest\":null}",
+    "{\"command\":{\"name\":\"Drain\",\"peer\":0},\"line\":\"asked\",\"moment\":25000,\"number\":2,\"pass\":0,\"rest\":null}",
     "{\"line\":\"answered\",\"reply\":{\"name\":\"Batch\"},\"rest\":null}",
     "{\"line\":\"sent\",\"rest\":{\"hostName\":\"h\",\"port\":8080},\"task\":{\"action\":\"Register\",\"instance\":{\"dirty\":7,\"interval\":30,\"key\":{\"app\":\"A\",\"id\":\"i1\"},\"overridden\":\"UNKNOWN\",\"secs\":90,\"status\":\"UP\"},\"key\":{\"app\":\"A\",\"id\":\"i1\"},\"queued\":0,\"status\":null}}",
     "{\"config\":{\"evict_ms\":60000,\"interval\":30,\"percent\":85,\"preservation\":true},\"expected\":2,\"journal\":1,\"last\":0,\"line\":\"head\",\"previous\":null,\"since\":1}",
     "{\"instance\":{\"dirty\":7,\"interval\":30,\"key\":{\"app\":\"A\",\"id\":\"i1\"},\"overridden\":\"UNKNOWN\",\"secs\":90,\"status\":\"UP\"},\"line\":\"lease\",\"rest\":{\"hostName\":\"h\",\"port\":8080},\"times\":{\"registered\":0,\"up\":0,\"updated\":120000}}",
     "{\"line\":\"peer\"}",
     "{\"line\":\"flight\",\"rest\":{\"hostName\":\"h\",\"port\":8080},\"task\":{\"action\":\"Register\",\"instance\":{\"dirty\":7,\"interval\":30,\"key\":{\"app\":\"A\",\"id\":\"i1\"},\"overridden\":\"UNKNOWN\",\"secs\":90,\"status\":\"UP\"},\"key\":{\"app\":\"A\",\"id\":\"i1\"},\"queued\":0,\"status\":null}}",
-    "{\"line\":\"digest\",\"sha256\":\"b00e74b591d39c8611933d78f0e3748d030f380167e7066e89a3a35d83c8d0a5\"}",
+    "{\"line\":\"digest\",\"sha256\":\"c972a2b4269190bd8d2b1c351603c48151ef846646f89b67d52c115e95d3310b\"}",
 ];
 
 /// These lines, each with its end.
@@ -66,7 +66,7 @@ fn is_told(alloc: Global, text: &str, place: usize) -> Result<bool, AllocError> 
 }
 
 /// Whether a value begins at this place of a line, or the text within its quotes.
-fn begins_value(text: &[u8], place: usize) -> bool {
+pub fn begins_value(text: &[u8], place: usize) -> bool {
     match &text[..place.min(text.len())] {
         [.., b':'] | [.., b':', b'"'] => true,
         _ => false,
@@ -125,4 +125,24 @@ fn a_line_that_is_left_out_is_told(rt: HostRuntime) {
     assert!(rt; fault_without(alloc, 0) == Some(JournalFault::BadLine(1)));
     assert!(rt; fault_without(alloc, 2) == Some(JournalFault::BadLine(3)));
     assert!(rt; fault_without(alloc, 8) == Some(JournalFault::BadLine(13)));
+}
+
+/// Why the lines are refused where the first byte of the line of this number, from 0, is one that no text of UTF-8 has.
+fn fault_of_no_text(alloc: Global, changed: usize) -> Option<JournalFault> {
+    let mut bytes = Vec::new(alloc);
+    for (number, line) in LINES.iter().enumerate() {
+        let first = if number == changed { 0xff } else { b'{' };
+        bytes.push(first).ok()?;
+        bytes.extend_from_slice(line.as_bytes().get(1..)?).ok()?;
+        bytes.push(b'\n').ok()?;
+    }
+    read(alloc, bytes.as_slice()).err()
+}
+
+#[test]
+fn a_line_that_is_no_text_is_told(rt: HostRuntime) {
+    let alloc = rt.alloc();
+    assert!(rt; fault_of_no_text(alloc, 0) == Some(JournalFault::BadLine(1)));
+    assert!(rt; fault_of_no_text(alloc, 6) == Some(JournalFault::BadLine(7)));
+    assert!(rt; fault_of_no_text(alloc, 13) == Some(JournalFault::BadLine(14)));
 }

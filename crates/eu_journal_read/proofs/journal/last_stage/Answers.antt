@@ -9,6 +9,11 @@ returns-in_err-answer_lines-clause-came g c =
     let a = c.in_err-answer_lines.ensures.answered in
     rw (p.1, p.2) (a.0, a.1, came_short c.new-lines.result tt c.new-lines.ensures.stage c.new-lines.ensures.told c.limits.result c.limits.ensures c.answer_lines.new.desk c.answer_lines.new.context (g.R.Source.remaining c.answer_lines.new.reader) (g.R.Source.failed c.answer_lines.new.reader) false a.0 c.in_err-answer_lines.field-0.0 a.2.0 refl a.2.2)
 
+pub returns-in_err-answer_lines-clause-told : goal.returns-in_err-answer_lines-clause-told
+returns-in_err-answer_lines-clause-told g c =
+    let p = err_from_is_err_and c.from_residual.result c.from_residual.ensures.1 in
+    rw (p.1, p.2) (c.in_err-answer_lines.ensures.told_reader)
+
 pub returns-clause-came : goal.returns-clause-came
 returns-clause-came g c =
     let a = c.in_ok-answer_lines.ensures.answered in

@@ -2,7 +2,7 @@ use Rattle.std.proofs.lemmas.Result.{err_from_is_err_and}
 use Rattle.eu_journal_read.specs.Faults.{fault_of}
 use Rattle.eu_journal_read.specs.declared.faults.JournalFault.TheVariants as fault
 use Rattle.eu_journal_read.proofs.EndLemmas.{ends_before, no_line, no_read, no_refusal, whole}
-use Rattle.eu_journal_read.proofs.OutcomeLemmas.{goes_on, line_told, no_fault, read_told, told_of}
+use Rattle.eu_journal_read.proofs.OutcomeLemmas.{goes_on, line_told, no_fault, other_fault, read_told, told_of}
 use Rattle.eu_journal_read.proofs.journal.read_journal.Goals as goal
 
 pub returns-in_err-stage-clause-refused : goal.returns-in_err-stage-clause-refused
@@ -27,6 +27,11 @@ returns-in_err-stage-clause-read g c =
     let p = err_from_is_err_and c.from_residual.result c.from_residual.ensures.1 in
     let a = c.in_err-stage.ensures.came in
     λ is. read_told _ _ _ a.0 c.in_err-stage.field-0.0 a.1 a.2 (told_of c.from_residual.result p.0 fault.Read (fault_of c.in_err-stage.field-0.0) p.1 p.2 is)
+
+pub returns-in_err-stage-clause-told : goal.returns-in_err-stage-clause-told
+returns-in_err-stage-clause-told g c =
+    let p = err_from_is_err_and c.from_residual.result c.from_residual.ensures.1 in
+    rw (p.1, p.2) (λ other. c.in_err-stage.ensures.told (other_fault c.in_err-stage.field-0.0 other))
 
 pub returns-clause-ok : goal.returns-clause-ok
 returns-clause-ok g c = let a = c.in_ok-stage.ensures.came in whole _ _ _ a.0 c.in_ok-stage.stage a.1 a.2 c.finish.result c.finish.ensures.ok

@@ -1,4 +1,5 @@
 //! Gates: what workers pass before they go on.
+ghost use Rattle.std.specs.Prelude.{◌≡◌};
 
 /// The most session workers of a server. They have the numbers 1 to 16.
 pub const MOST_WORKERS: u32 = 16;
@@ -39,6 +40,10 @@ pub enum Go {
 /// What the workers of a server pass before they go on. So a server paces its timers and stops its workers, and a test holds them
 /// where it wants them.
 pub trait Gate {
+    // What holds where it stops a worker. Nothing is to be told of it but where a caller wants that.
+    ghost stops: { Self → Type 0 } = { λ _. Unit {0} };
+
     /// Lets the worker of that number go on from a point, or stops it. It may take as long as it wants.
-    fn pass(&self, who: u32, point: Point) -> Go;
+    fn pass(&self, who: u32, point: Point) -> Go
+        ensures { result ≡ Go.Stop → stops self.now };
 }

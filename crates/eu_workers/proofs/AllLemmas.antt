@@ -2,16 +2,17 @@
 use Rattle.std.proofs.Common.{◌≡◌, ◌<◌, ◌≤◌, ◌+◌, ◌-◌, ◌∙◌, ℕ, List, set, get_or, length, arith, subst, sym, ap, ⊎_elim, get_or-set_same, get_or-set_other}
 use Rattle.std.proofs.lemmas.Bool.{cases_lt}
 use Rattle.std.proofs.lemmas.List.{get_or_default}
+use Rattle.eu_choice.specs.Front.{Asks}
 use Rattle.eu_workers.specs.declared.all.Worker.{Worker}
 use Rattle.eu_workers.specs.declared.all.Worker.TheVariants.{Ready, Numbered, Working, Done}
 use Rattle.eu_workers.specs.All.{IsNumbered, HasRun, IsEnded}
 
 -- a worker that is numbered, and then runs
-pub ended : {K S C H P : Type 0} (u v w : Worker K S C H P) → IsNumbered u v → HasRun v w → IsEnded u w
-ended (Ready job) v w n r = subst (λ x. HasRun x w) n.1 r
-ended (Numbered k job) v w n r = subst (λ x. HasRun x w) n r
-ended Working v w n r = subst (λ x. HasRun x w) n r
-ended (Done q e left) v w n r = subst (λ x. HasRun x w) n r
+pub ended : {K S C H P : Type 0} (chooser : Asks H) (u v w : Worker K S C H P) → IsNumbered u v → HasRun chooser v w → IsEnded chooser u w
+ended chooser (Ready job) v w n r = subst (λ x. HasRun chooser x w) n.1 r
+ended chooser (Numbered k job) v w n r = subst (λ x. HasRun chooser x w) n r
+ended chooser Working v w n r = subst (λ x. HasRun chooser x w) n r
+ended chooser (Done q e left) v w n r = subst (λ x. HasRun chooser x w) n r
 
 -- what a relation does to each element of a list that is turned round, turned back
 pub turned : {X : Type 0} (R : X → X → Type 0) (old mid now new : List X)

@@ -1,7 +1,9 @@
 -- Workers that ask for one command
-use Rattle.std.specs.Prelude.{◌≡◌, ℕ, ◌+◌, ◌%◌, ◌==◌, Bool, false, length}
+use Rattle.std.specs.Prelude.{◌≡◌, ℕ, ◌+◌, ◌%◌, ◌==◌, Bool, false, List, [], ◌∷◌, length}
 use Rattle.std.specs.List.{AllByRecursion}
 use Rattle.eu_book.specs.declared.journal.Logged.{Logged}
+use Rattle.eu_book.specs.Account.{Account, Applies, IsLawful}
+use Rattle.eu_choice.specs.Front.{Asks}
 use Rattle.eu_gate.specs.declared.timers.Timer.{Timer}
 use Rattle.eu_gate.specs.declared.timers.Timer.TheVariants.{Evictor, Bucket, Threshold}
 use Rattle.eu_model.specs.declared.commands.Command.{Command}
@@ -29,3 +31,17 @@ pub record AsksOnly (command : Command) (limit : ℕ) (p q : Caller) (e : Ended)
   pub only : AllByRecursion (λ (l : Logged). l.command ≡ command) turns.pass.added
   pub many : length turns.pass.added + e.refused ≡ e.turns
   pub steps : q.tally.steps + e.refused ≡ p.tally.steps + e.turns
+
+-- some lawful book answers the pass of that number so, by the chooser's next words, and leaves the chooser so
+abbrev pub Answers : {S : Type 0} → Asks S → S → ℕ → Logged → S → Type 0
+Answers chooser x pass l x' = (before : Account) × (after : Account) × IsLawful before × IsLawful after × Applies chooser before x pass l.command l.moment l.reply l.number after x'
+
+-- one after another, each by the words that follow those of the one before
+abbrev pub AnswersAll : {S : Type 0} → Asks S → S → ℕ → List Logged → S → Type 0
+AnswersAll chooser x pass [] x' = x' ≡ x
+AnswersAll {S} chooser x pass (l ∷ ls) x' = (y : S) × Answers chooser x pass l y × AnswersAll chooser y pass ls x'
+
+-- A pass asked for the command alone, and what it was answered was drawn by the words of the chooser that it was lent; a turn that was refused draws none
+pub record AsksBy {S : Type 0} (chooser : Asks S) (x : S) (command : Command) (limit : ℕ) (p q : Caller) (e : Ended) (x' : S) : Type 0 where
+  pub asks : AsksOnly command limit p q e
+  pub drawn : AnswersAll chooser x p.number asks.turns.pass.added x'

@@ -1,6 +1,6 @@
 //! All workers of a server, each in a thread of its own.
 ghost use Rattle.std.specs.Prelude.{◌≡◌, ℕ, ◌<◌, length, slice_index_or};
-ghost use Rattle.eu_workers.specs.All.{HasRun, IsEnded, IsLeftOf, IsNumbered, IsWorked};
+ghost use Rattle.eu_workers.specs.All.{HasRun, IsEnded, IsNumbered, IsWorked};
 
 use crate::ended::Ended;
 use crate::replicator::run_replicator;
@@ -115,8 +115,7 @@ fn take_turns<K: Label, R: Wait, G: Gate, S: Source, C: Clock, H: Chooser, P: Pe
     clock: &mut C,
     limit: u64,
 ) -> (Pass<K>, Ended)
-    ensures done { IsWorked work.old limit pass result.0 result.1 }
-    ensures left { IsLeftOf work.old work.new }
+    ensures { IsWorked H.asks work.old work.new limit pass result.0 result.1 }
 {
     match work {
         Work::Sessions { source } => run_sessions(site, who, pass, source, clock, limit),
@@ -139,7 +138,7 @@ fn run_worker<
     H: Chooser + Drop,
     P: Peer + Drop,
 >(site: &Site<'_, K, R, G>, worker: &mut Worker<K, S, C, H, P>)
-    ensures { HasRun worker.old worker.new }
+    ensures { HasRun H.asks worker.old worker.new }
 {
     match mem::replace(worker, Worker::Working) {
         Worker::Numbered(who, job) => {
@@ -166,7 +165,7 @@ fn run_backwards<
     H: Chooser + Send + Drop,
     P: Peer + Send + Drop,
 >(site: &Site<'_, K, R, G>, workers: &mut [Worker<K, S, C, H, P>])
-    ensures { (i : ℕ) (d : _) → i < length workers.old → HasRun (slice_index_or workers.old i d) (slice_index_or workers.new i d) }
+    ensures { (i : ℕ) (d : _) → i < length workers.old → HasRun H.asks (slice_index_or workers.old i d) (slice_index_or workers.new i d) }
 {
     let threads = workers.len().max(1);
     for_each_mut(
@@ -187,7 +186,7 @@ fn run_each<
     H: Chooser + Send + Drop,
     P: Peer + Send + Drop,
 >(site: &Site<'_, K, R, G>, workers: &mut [Worker<K, S, C, H, P>])
-    ensures { (i : ℕ) (d : _) → i < length workers.old → HasRun (slice_index_or workers.old i d) (slice_index_or workers.new i d) }
+    ensures { (i : ℕ) (d : _) → i < length workers.old → HasRun H.asks (slice_index_or workers.old i d) (slice_index_or workers.new i d) }
 {
     workers.reverse();
     run_backwards(site, workers);
@@ -210,7 +209,7 @@ pub fn run_all<
     H: Chooser + Send + Drop,
     P: Peer + Send + Drop,
 >(site: &Site<'_, K, R, G>, workers: &mut [Worker<K, S, C, H, P>])
-    ensures { (i : ℕ) (d : _) → i < length workers.old → IsEnded (slice_index_or workers.old i d) (slice_index_or workers.new i d) }
+    ensures { (i : ℕ) (d : _) → i < length workers.old → IsEnded H.asks (slice_index_or workers.old i d) (slice_index_or workers.new i d) }
 {
     number_all(workers);
     run_each(site, workers);

@@ -1,4 +1,5 @@
 //! Workers that tell a peer what waits for it.
+ghost use Rattle.std.specs.Prelude.{◌<◌};
 ghost use Rattle.eu_workers.specs.Returned.{HasTurn, TakesTurns};
 
 use crate::ended::Ended;
@@ -38,7 +39,8 @@ pub fn run_replicator<K: Label, R: Wait, G: Gate, P: Peer, C: Clock>(
     clock: &mut C,
     limit: u64,
 ) -> (Pass<K>, Ended)
-    ensures { TakesTurns limit pass result.0 result.1 }
+    ensures takes { TakesTurns limit pass result.0 result.1 }
+    ensures stops { result.1.turns < limit → G.stops site.now.gate.now }
 {
     let mut seat = Seat {
         pass,

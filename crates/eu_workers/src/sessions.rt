@@ -1,5 +1,5 @@
 //! Workers that serve sessions.
-ghost use Rattle.std.specs.Prelude.{◌≡◌};
+ghost use Rattle.std.specs.Prelude.{◌≡◌, ◌<◌, ◌⊎◌};
 ghost use Rattle.eu_workers.specs.Returned.{HasTurn, IsAsked, TakesTurns};
 
 use crate::ended::Ended;
@@ -61,7 +61,8 @@ pub fn run_sessions<K: Label, R: Wait, G: Gate, S: Source, C: Clock>(
     clock: &mut C,
     limit: u64,
 ) -> (Pass<K>, Ended)
-    ensures { TakesTurns limit pass result.0 result.1 }
+    ensures takes { TakesTurns limit pass result.0 result.1 }
+    ensures stops { result.1.turns < limit → G.stops site.now.gate.now ⊎ S.ended source.new }
 {
     let mut seat = Seat {
         pass,

@@ -1,8 +1,8 @@
 //! Workers that ask for the same command, turn after turn.
-ghost use Rattle.std.specs.Prelude.{◌≡◌};
+ghost use Rattle.std.specs.Prelude.{◌≡◌, ◌<◌};
 ghost use Rattle.eu_model.specs.declared.commands.Command.TheVariants as command;
 ghost use Rattle.eu_workers.specs.Returned.{Tidies};
-ghost use Rattle.eu_workers.specs.Timers.{command_of, is_due_after, AsksOnly};
+ghost use Rattle.eu_workers.specs.Timers.{command_of, is_due_after, AsksBy, AsksOnly};
 
 use crate::ended::Ended;
 use crate::site::Site;
@@ -61,7 +61,8 @@ fn run<K: Label, R: Wait, G: Gate, C: Clock, H: Chooser>(
     chooser: &mut H,
     limit: u64,
 ) -> (Pass<K>, Ended)
-    ensures { AsksOnly (command_of timer) limit pass result.0 result.1 }
+    ensures asks { AsksBy H.asks chooser.old (command_of timer) limit pass result.0 result.1 chooser.new }
+    ensures stops { result.1.turns < limit → G.stops site.now.gate.now }
 {
     let mut pass = pass;
     let mut ended = Ended::default();
@@ -97,7 +98,8 @@ pub fn run_evictor<K: Label, R: Wait, G: Gate, C: Clock, H: Chooser>(
     chooser: &mut H,
     limit: u64,
 ) -> (Pass<K>, Ended)
-    ensures { AsksOnly command.Evict limit pass result.0 result.1 }
+    ensures asks { AsksBy H.asks chooser.old command.Evict limit pass result.0 result.1 chooser.new }
+    ensures stops { result.1.turns < limit → G.stops site.now.gate.now }
 {
     run(site, Timer::Evictor, pass, clock, chooser, limit)
 }
@@ -111,7 +113,8 @@ pub fn run_bucket<K: Label, R: Wait, G: Gate, C: Clock>(
     clock: &mut C,
     limit: u64,
 ) -> (Pass<K>, Ended)
-    ensures { AsksOnly command.Roll limit pass result.0 result.1 }
+    ensures asks { AsksOnly command.Roll limit pass result.0 result.1 }
+    ensures stops { result.1.turns < limit → G.stops site.now.gate.now }
 {
     run(site, Timer::Bucket, pass, clock, &mut FirstChooser, limit)
 }
@@ -124,7 +127,8 @@ pub fn run_threshold<K: Label, R: Wait, G: Gate, C: Clock>(
     clock: &mut C,
     limit: u64,
 ) -> (Pass<K>, Ended)
-    ensures { AsksOnly command.Update limit pass result.0 result.1 }
+    ensures asks { AsksOnly command.Update limit pass result.0 result.1 }
+    ensures stops { result.1.turns < limit → G.stops site.now.gate.now }
 {
     run(
         site,

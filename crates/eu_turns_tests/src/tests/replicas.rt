@@ -89,6 +89,20 @@ pub fn registers<K: Label, R: Wait>(
     }
 }
 
+/// Whether a batch is drained for the first peer at the moment 0, of which nobody tells what came.
+fn drains<K: Label, R: Wait>(
+    rt: &R,
+    shared: &Shared<K>,
+    alloc: Global,
+    pass: &mut Pass<K>,
+) -> bool {
+    let Some(moment) = Moment::new(0) else {
+        return false;
+    };
+    let command = Command::Drain { peer: 0 };
+    is_accepted(pass.ask(rt, shared, alloc, command, moment, &mut FirstChooser))
+}
+
 /// The leases that a view of counts tells.
 fn leases(view: &View) -> u64 {
     match view {
@@ -124,14 +138,17 @@ pub fn server(alloc: Global, config: Config) -> Result<InProcess<Book, ListClock
 /// The turns that a replicator has.
 const TURNS: u64 = 12_000;
 
-/// What a replicator does in them for the peer of that number after a registration.
+/// What a replicator does in them for the peer of that number after a registration, which is in flight already to the first peer: so a
+/// first turn for that one takes it for lost.
 fn replicate<K: Label, R: Wait>(
     site: &Site<'_, K, R, Open>,
     number: u32,
     peer: &mut InProcess<Book, ListClock>,
 ) -> Result<Ended, Fault> {
     let mut pass = site.shared.pass(site.rt, site.alloc)?;
-    if !registers(site.rt, site.shared, site.alloc, &mut pass) {
+    if !registers(site.rt, site.shared, site.alloc, &mut pass)
+        || !drains(site.rt, site.shared, site.alloc, &mut pass)
+    {
         drop(pass);
         return Err(Fault::OutOfMemory);
     }

@@ -386,6 +386,7 @@ fn the_journal_begins_anew_after_each_hour(rt: HostRuntime) -> Result<(), Fail> 
         (60, 0, None, 60),
         (119, 59, Some(60), 60),
         (121, 1, Some(120), 120),
+        (301, 1, Some(300), 300),
     ];
     for (turns, logged, begins, first) in cases {
         let wanted = Left {

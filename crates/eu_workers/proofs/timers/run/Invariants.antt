@@ -1,7 +1,9 @@
-use Rattle.eu_workers.specs.Timers.{command_of, AsksOnly}
+use Rattle.std.proofs.Common.{◌≡◌}
+use Rattle.eu_workers.specs.Timers.{command_of, AsksBy}
 use Rattle.eu_workers.proofs.timers.run.Given as goal
 
 abbrev pub invariant-loop-turn : goal.invariant-loop-turn
 invariant-loop-turn g l = record {
-  asks : AsksOnly (command_of l.timer) l._turn l.fn.pass l.pass l.ended;
+  asks : AsksBy g.H.Chooser.asks l.fn.chooser (command_of l.timer) l._turn l.fn.pass l.pass l.ended l.chooser;
+  each : l.ended.turns ≡ l._turn;
 }

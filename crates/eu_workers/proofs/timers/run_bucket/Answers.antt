@@ -1,0 +1,4 @@
+use Rattle.eu_workers.proofs.timers.run_bucket.Goals as goal
+
+pub returns-clause-asks : goal.returns-clause-asks
+returns-clause-asks g c = c.run.ensures.asks.asks

@@ -1,5 +1,5 @@
 //! Passes: by each, one caller asks the shared book.
-ghost use Rattle.std.specs.Prelude.{◌≡◌, ◌≤◌, false, max, IfOk};
+ghost use Rattle.std.specs.Prelude.{◌≡◌, ◌≤◌, ◌||◌, false, max, nat_lt, IfOk};
 ghost use Rattle.eu_settle.specs.Settled.{from_first};
 ghost use Rattle.eu_shared.specs.Closing.{log_of, logged_by};
 ghost use Rattle.eu_shared.specs.Passes.{trimmed};
@@ -72,8 +72,7 @@ impl<K: Label> Pass<K> {
     pub fn trim(&mut self)
         ensures { self.new ≡ trimmed self.old }
     {
-        trim_log(&mut self.log, self.seen, self.is_stale);
-        self.is_stale = false;
+        trim_log(&mut self.log, self.seen, &mut self.is_stale);
     }
 
     /// Lets go of a journal that has begun anew: that takes its time, and nobody waits for it where the lock is free.
@@ -119,6 +118,7 @@ impl<K: Label> Pass<K> {
 pub(crate) fn see(seen: &mut u64, is_stale: &mut bool, first: u64)
     ensures seen { seen.new ≡ max seen.old first }
     ensures stale { is_stale.new ≡ false → (is_stale.old ≡ false) × (seen.new ≡ seen.old) }
+    ensures exact { is_stale.new ≡ (is_stale.old || nat_lt seen.old first) }
 {
     *is_stale = *is_stale || *seen < first;
     *seen = (*seen).max(first);
@@ -126,17 +126,20 @@ pub(crate) fn see(seen: &mut u64, is_stale: &mut bool, first: u64)
 
 /// Whether a log may have what is numbered below `seen`, once it has an entry of that number more.
 pub(crate) fn is_stale_with(is_stale: bool, seen: u64, number: u64) -> bool
-    ensures { result ≡ false → (is_stale ≡ false) × (seen ≤ number) }
+    ensures fresh { result ≡ false → (is_stale ≡ false) × (seen ≤ number) }
+    ensures exact { result ≡ (is_stale || nat_lt number seen) }
 {
     is_stale || number < seen
 }
 
-/// Drops from a log what is numbered below `first`, where it may have such.
-fn trim_log(log: &mut Vec<Logged>, first: u64, is_stale: bool)
-    requires { is_stale ≡ false → from_first first log.old.items ≡ log.old.items }
-    ensures { log.new.items ≡ from_first first log.old.items }
+/// Drops from a log what is numbered below `first`, where it may have such. Afterwards it has none.
+fn trim_log(log: &mut Vec<Logged>, first: u64, is_stale: &mut bool)
+    requires { is_stale.old ≡ false → from_first first log.old.items ≡ log.old.items }
+    ensures log { log.new.items ≡ from_first first log.old.items }
+    ensures stale { is_stale.new ≡ false }
 {
-    if is_stale {
+    if *is_stale {
         log.retain(|logged| first <= logged.number);
+        *is_stale = false;
     }
 }

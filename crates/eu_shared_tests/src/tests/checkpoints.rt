@@ -57,7 +57,8 @@ fn close_account<K: Label>(
 /// done for them, and the number of pass 0's next renewal, if it has one.
 #[derive(Clone, Copy)]
 struct Trimmed {
-    made: bool,
+    /// Whether it was made, and one by that pass before it was asked, and once its log was trimmed.
+    made: (bool, bool, bool),
     logs: (usize, usize),
     steps: (u64, u64),
     next: Option<(u64, &'static str)>,
@@ -85,7 +86,7 @@ fn renew<K: Label, R: Wait>(
     }
 }
 
-/// Has both passes ask, pass 0 make a checkpoint, and both trim.
+/// Has both passes ask, pass 0 make a checkpoint, and both trim. Pass 0 makes one before and one after that too.
 fn trim<K: Label, R: Wait>(
     rt: &R,
     shared: &Shared<K>,
@@ -93,13 +94,15 @@ fn trim<K: Label, R: Wait>(
     two: &mut Two<K>,
     more: bool,
 ) -> Trimmed {
+    let first = two.zero.checkpoint(rt, shared, alloc).is_ok();
     let played = play(rt, shared, alloc, two);
     let Two { zero, one } = two;
     let made = played && zero.checkpoint(rt, shared, alloc).is_ok();
     zero.trim();
     one.trim();
+    let last = zero.checkpoint(rt, shared, alloc).is_ok();
     Trimmed {
-        made,
+        made: (made, first, last),
         logs: (zero.log().len(), one.log().len()),
         steps: (zero.tallies().steps, one.tallies().steps),
         next: renew(rt, shared, alloc, zero, more),
@@ -130,7 +133,7 @@ fn found<R: Wait>(rt: &R, alloc: Global, more: bool) -> Result<Findings, Fault> 
 fn a_checkpoint_is_accounted_for(rt: HostRuntime) -> Result<(), Fail> {
     let found = found(&rt, rt.alloc(), false)?;
     let Findings { trimmed, account } = found;
-    assert!(rt; trimmed.made);
+    assert!(rt; trimmed.made == (true, true, true));
     assert!(rt; trimmed.logs == (0, 2) && trimmed.steps == (5, 2));
     assert!(rt; account.totals == BOTH);
     assert!(rt; account.first == 7 && account.entries == 0);
@@ -143,7 +146,7 @@ fn a_checkpoint_is_accounted_for(rt: HostRuntime) -> Result<(), Fail> {
 fn what_follows_a_checkpoint_is_settled(rt: HostRuntime) -> Result<(), Fail> {
     let found = found(&rt, rt.alloc(), true)?;
     let Findings { trimmed, account } = found;
-    assert!(rt; trimmed.made);
+    assert!(rt; trimmed.made == (true, true, true));
     assert!(rt; trimmed.next == Some((7, "done")));
     assert!(rt; account.totals.steps == 8 && account.totals.counted == 6);
     assert!(rt; account.first == 7 && account.entries == 1);

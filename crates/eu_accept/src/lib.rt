@@ -2,6 +2,7 @@
 #![tactic(auto)]
 
 mod acceptor;
+mod bell;
 mod pace;
 
 pub use acceptor::{

@@ -1,8 +1,9 @@
 //! The gate of a server, which paces its timers.
 
+use crate::bell::{Bell, Ended};
 use eu_gate::{Gate, Go, Periods, Point, Schedules, Timer};
 use std::io;
-use std::sync::{Condvar, Mutex, Wait};
+use std::sync::{Mutex, Wait};
 use std::time::{Clock, Instant};
 
 /// Lets each timer take its turns a period apart, by the monotonic clock, until the sessions have ended; lets everybody else go on
@@ -14,7 +15,7 @@ use std::time::{Clock, Instant};
 pub struct Pace<'a, R: Wait + Clock> {
     rt: &'a R,
     schedules: Mutex<Schedules>,
-    ended: Condvar,
+    bell: Bell,
 }
 
 impl<'a, R: Wait + Clock> Pace<'a, R> {
@@ -24,28 +25,23 @@ impl<'a, R: Wait + Clock> Pace<'a, R> {
         Ok(Pace {
             rt,
             schedules: Mutex::new(schedules),
-            ended: Condvar::new(),
+            bell: Bell::new(),
         })
     }
 
     /// Tells the timers that the sessions have ended.
     pub fn end(&self) {
-        self.schedules.lock(self.rt).end();
-        self.ended.notify_all();
+        let ended = Ended::note(&mut *self.schedules.lock(self.rt));
+        self.bell.ring(ended);
     }
 
     /// Waits until the next turn of a timer is due, and begins it; `Stop` where the sessions have ended. An error is the clock's, and
     /// begins nothing.
     fn wait_for_turn(&self, timer: Timer) -> io::Result<Go> {
         let now = Instant::now(self.rt)?;
-        let mut schedules = self.schedules.lock(self.rt);
+        let schedules = self.schedules.lock(self.rt);
         let left = schedules.left(timer, now);
-        let (mut schedules, _) = self.ended.wait_timeout_while(
-            self.rt,
-            schedules,
-            left,
-            |schedules| !schedules.have_ended,
-        );
+        let mut schedules = self.bell.wait(self.rt, schedules, left);
         Ok(schedules.turn(timer, Instant::now(self.rt)?))
     }
 }

@@ -159,7 +159,7 @@ fn is_answered_among_silent<R: Net<Stream = TcpStream> + Clock>(
     let _first = TcpStream::connect(rt, address)?;
     let _second = TcpStream::connect(rt, address)?;
     let answered = is_answered(rt, alloc, address, REGISTRATION, REGISTERED);
-    Ok(answered && began.elapsed(rt)? < Duration::from_secs(5))
+    Ok(answered && began.elapsed(rt)? < Duration::from_secs(2))
 }
 
 #[test]
@@ -622,9 +622,20 @@ fn a_client_that_sends_more_has_its_answer(rt: HostRuntime) -> Result<(), Fail> 
     Ok(())
 }
 
+/// Whether a client's write failed since the server had closed the connection, rather than that the client gave up.
+fn was_cut_off(sent: io::Result<()>) -> bool {
+    match sent {
+        Ok(()) => false,
+        Err(error) => matches!(
+            error.kind(),
+            ErrorKind::ConnectionReset | ErrorKind::BrokenPipe
+        ),
+    }
+}
+
 /// Sends requests until the server takes no more, and reads no answer.
 fn send_on(alloc: Global, stream: &mut TcpStream) -> io::Result<()> {
-    stream.set_write_timeout(Some(Duration::from_millis(300)))?;
+    stream.set_write_timeout(Some(Duration::from_secs(10)))?;
     let mut more = String::new(alloc);
     for _ in 0..1_000 {
         more.push_str(LOOK)?;
@@ -648,13 +659,28 @@ fn dribble<R: Clock>(rt: &R, stream: &mut TcpStream, count: u32) -> io::Result<(
 /// Whether a client that dribbles three seconds long is cut off within one of them.
 fn is_cut_off_soon<R: Clock>(rt: &R, stream: &mut TcpStream) -> io::Result<bool> {
     let began = Instant::now(rt)?;
-    let taken = dribble(rt, stream, 150);
-    Ok(taken.is_err() && began.elapsed(rt)? < Duration::from_secs(1))
+    let sent = dribble(rt, stream, 150);
+    Ok(was_cut_off(sent) && began.elapsed(rt)? < Duration::from_secs(1))
 }
 
-/// What a client reads of its connection that dribbles for a while first.
+/// Sends bytes without a pause behind a last request, for three seconds, or until the connection is closed.
+fn pour<R: Clock>(rt: &R, stream: &mut TcpStream) -> io::Result<()> {
+    let piece = [b'x'; 16_384];
+    stream.set_write_timeout(Some(Duration::from_secs(10)))?;
+    stream.write_all(RENEWAL.as_bytes())?;
+    let began = Instant::now(rt)?;
+    for _ in 0..u64::MAX {
+        if began.elapsed(rt)? >= Duration::from_secs(3) {
+            break;
+        }
+        stream.write_all(&piece)?;
+    }
+    Ok(())
+}
+
+/// What a client reads of its connection that dribbles for a second and a half first, longer than a server lingers.
 fn answered_after<R: Clock>(rt: &R, alloc: Global, stream: &mut TcpStream) -> io::Result<Vec<u8>> {
-    dribble(rt, stream, 40)?;
+    dribble(rt, stream, 75)?;
     let mut answer = Vec::new(alloc);
     stream.read_to_end(&mut answer)?;
     Ok(answer)
@@ -667,10 +693,10 @@ fn a_client_that_sends_on_is_cut_off(rt: HostRuntime) -> Result<(), Fail> {
     let alloc = rt.alloc();
     let mut plan = plan(1, 10_000)?;
     plan.timeouts.linger = 40_000;
-    let (out, taken) = beside(&rt, alloc, &listener, &plan, move || {
+    let (out, sent) = beside(&rt, alloc, &listener, &plan, move || {
         send_on(alloc, &mut stream)
     });
-    assert!(rt; taken.is_err());
+    assert!(rt; was_cut_off(sent));
     assert!(rt; out?.as_slice() == b"served 1\n".as_slice());
     Ok(())
 }
@@ -689,6 +715,39 @@ fn a_client_that_dribbles_on_is_cut_off(rt: HostRuntime) -> Result<(), Fail> {
     Ok(())
 }
 
+/// Long before a server's bytes have come, or its time is up.
+#[test]
+fn a_client_that_sends_more_than_is_dropped_is_cut_off(rt: HostRuntime) -> Result<(), Fail> {
+    let (listener, address) = listen(&rt)?;
+    let mut stream = TcpStream::connect(&rt, address)?;
+    let mut plan = plan(1, 10_000)?;
+    plan.timeouts.linger = 40_000;
+    plan.timeouts.linger_bytes = 20;
+    let machine = &rt;
+    let (out, sent) = beside(&rt, rt.alloc(), &listener, &plan, move || {
+        dribble(machine, &mut stream, 150)
+    });
+    assert!(rt; was_cut_off(sent));
+    assert!(rt; out?.as_slice() == b"served 1\n".as_slice());
+    Ok(())
+}
+
+/// The time is up for bytes that come fast as well, however many may come.
+#[test]
+fn a_client_that_pours_on_is_cut_off(rt: HostRuntime) -> Result<(), Fail> {
+    let (listener, address) = listen(&rt)?;
+    let mut stream = TcpStream::connect(&rt, address)?;
+    let mut plan = plan(1, 10_000)?;
+    plan.timeouts.linger_bytes = usize::MAX;
+    let machine = &rt;
+    let (out, sent) = beside(&rt, rt.alloc(), &listener, &plan, move || {
+        pour(machine, &mut stream)
+    });
+    assert!(rt; was_cut_off(sent));
+    assert!(rt; out?.as_slice() == b"served 1\n".as_slice());
+    Ok(())
+}
+
 /// Bytes that come one by one count as so many, not as so many reads.
 #[test]
 fn a_client_that_dribbles_for_a_while_has_its_answer(rt: HostRuntime) -> Result<(), Fail> {
@@ -696,7 +755,7 @@ fn a_client_that_dribbles_for_a_while_has_its_answer(rt: HostRuntime) -> Result<
     let mut stream = TcpStream::connect(&rt, address)?;
     let mut plan = plan(1, 10_000)?;
     plan.timeouts.linger = 40_000;
-    plan.timeouts.linger_bytes = 50;
+    plan.timeouts.linger_bytes = 100;
     let (alloc, machine) = (rt.alloc(), &rt);
     let (out, answer) = beside(machine, alloc, &listener, &plan, move || {
         answered_after(machine, alloc, &mut stream)
@@ -729,19 +788,21 @@ fn ask_and_not_read(alloc: Global, stream: &mut TcpStream) -> io::Result<()> {
     stream.write_all(requests.as_bytes())
 }
 
-/// Whether a client is answered while another keeps its connection and doesn't read.
-fn is_answered_beside_one_who_does_not_read<R: Net<Stream = TcpStream>>(
+/// Whether a client is answered, and soon, while another keeps its connection and doesn't read.
+fn is_answered_beside_one_who_does_not_read<R: Net<Stream = TcpStream> + Clock>(
     rt: &R,
     alloc: Global,
     address: SocketAddr,
 ) -> io::Result<bool> {
     let large = large_registration(alloc)?;
     let registered = is_answered(rt, alloc, address, &large, REGISTERED);
+    let began = Instant::now(rt)?;
     let mut stream = TcpStream::connect(rt, address)?;
     ask_and_not_read(alloc, &mut stream)?;
     let answered = is_answered(rt, alloc, address, RENEWAL, NOT_FOUND);
+    let soon = began.elapsed(rt)? < Duration::from_secs(5);
     drop(stream);
-    Ok(registered && answered)
+    Ok(registered && answered && soon)
 }
 
 #[test]
@@ -749,6 +810,7 @@ fn a_client_that_does_not_read_is_given_up(rt: HostRuntime) -> Result<(), Fail> 
     let (listener, address) = listen(&rt)?;
     let mut plan = plan(3, 10_000)?;
     plan.workers = 1;
+    plan.timeouts.write = 300;
     let (alloc, machine) = (rt.alloc(), &rt);
     let (out, answered) = beside(machine, alloc, &listener, &plan, move || {
         is_answered_beside_one_who_does_not_read(machine, alloc, address)

@@ -1,5 +1,5 @@
 //! From the words of the command line to the exit status.
-ghost use Rattle.std.specs.Prelude.{ℕ, ◌≡◌, ◌≢◌, ◌⊎◌, OnOk, Ok, Err, true, false};
+ghost use Rattle.std.specs.Prelude.{ℕ, ◌≡◌, ◌≢◌, ◌⊎◌, OnOk, Ok, Err, None, Some, true, false};
 ghost use Rattle.clap.specs.Words.{kind_of};
 ghost use Rattle.std.specs.declared.io.ErrorKind.TheVariants as io_kind;
 
@@ -166,6 +166,45 @@ fn audit<R: Input + Print + Eprint + AllocGlobal, C: Chooser>(
     tell_audit(rt, ended)
 }
 
+/// The fault by whose number the end of a journal's audit is told; or else the number of the line that is bad, or none, where the journal
+/// isn't whole.
+fn audit_told_by(ended: AuditFault) -> Result<Fault, Option<u64>>
+    ensures bad_line { (line : ℕ) → ended ≡ AuditFault.BadLine line → result ≡ Err (Some line) }
+    ensures early { ended ≡ AuditFault.EndsEarly → result ≡ Err None }
+    ensures read { ended ≡ AuditFault.Read → result ≡ Ok Fault.Read }
+    ensures write { ended ≡ AuditFault.Write → result ≡ Ok Fault.Write }
+    ensures no_memory { ended ≡ AuditFault.OutOfMemory → result ≡ Ok Fault.OutOfMemory }
+{
+    match ended {
+        AuditFault::BadLine(line) => Err(Some(line)),
+        AuditFault::EndsEarly => Err(None),
+        AuditFault::Read => Ok(Fault::Read),
+        AuditFault::Write => Ok(Fault::Write),
+        AuditFault::OutOfMemory => Ok(Fault::OutOfMemory),
+    }
+}
+
+/// Tells why a journal's audit ended early, if standard error takes it, and gives the exit status.
+fn tell_audit_end(rt: &impl Eprint, ended: AuditFault) -> u8
+    ensures bad_line { (line : ℕ) → ended ≡ AuditFault.BadLine line → result ≡ 2 }
+    ensures early { ended ≡ AuditFault.EndsEarly → result ≡ 2 }
+    ensures read { ended ≡ AuditFault.Read → result ≡ 3 }
+    ensures write { ended ≡ AuditFault.Write → result ≡ 3 }
+    ensures no_memory { ended ≡ AuditFault.OutOfMemory → result ≡ 3 }
+{
+    match audit_told_by(ended) {
+        Ok(told) => tell_fault(rt, told),
+        Err(Some(line)) => {
+            let _ = eprintln!(rt; "line {line}: bad line");
+            BAD_INPUT
+        }
+        Err(None) => {
+            let _ = eprintln!(rt; "the journal isn't whole");
+            BAD_INPUT
+        }
+    }
+}
+
 /// Gives the exit status of a journal's audit: of its answer, or of the fault by which it ended early, which is told if standard error takes
 /// it.
 fn tell_journal_audit(rt: &impl Eprint, ended: Result<bool, AuditFault>) -> u8
@@ -180,17 +219,7 @@ fn tell_journal_audit(rt: &impl Eprint, ended: Result<bool, AuditFault>) -> u8
     match ended {
         Ok(true) => DONE,
         Ok(false) => FAILED,
-        Err(AuditFault::BadLine(line)) => {
-            let _ = eprintln!(rt; "line {line}: bad line");
-            BAD_INPUT
-        }
-        Err(AuditFault::EndsEarly) => {
-            let _ = eprintln!(rt; "the journal isn't whole");
-            BAD_INPUT
-        }
-        Err(AuditFault::Read) => tell_fault(rt, Fault::Read),
-        Err(AuditFault::Write) => tell_fault(rt, Fault::Write),
-        Err(AuditFault::OutOfMemory) => tell_fault(rt, Fault::OutOfMemory),
+        Err(early) => tell_audit_end(rt, early),
     }
 }
 

@@ -34,6 +34,16 @@ pub fn listen<R: Net<Listener = TcpListener, Stream = TcpStream> + Eprint>(
     }
 }
 
+/// What a server does that has these settings, and serves so much as the options say.
+fn plan_of(config: Config, serving: Serving) -> Plan
+    ensures settings { result.config ≡ config }
+    ensures expected { result.expected ≡ serving.expected }
+    ensures workers { result.workers ≡ serving.workers }
+    ensures sessions { result.sessions ≡ serving.sessions }
+{
+    Plan::of_server(config, serving.expected, serving.workers, serving.sessions)
+}
+
 /// Tells why a server ended early, if it did and standard error takes it, and gives the exit status.
 fn tell_served<T: Drop>(rt: &impl Eprint, ended: Result<T, Fault>) -> u8
     ensures whole { OnOk ended (result ≡ 0) }
@@ -90,7 +100,7 @@ pub fn serve<
     let Some(listener) = listen(rt, serving.port) else {
         return tell_fault(rt, Fault::Read);
     };
-    let plan = Plan::of_server(config, serving.expected, serving.workers, serving.sessions);
+    let plan = plan_of(config, serving);
     if let Some(path) = journal {
         return serve_to(rt, &listener, &plan, path, chooser);
     }

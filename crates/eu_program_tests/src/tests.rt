@@ -1,4 +1,5 @@
 //! Servers of no session, and whole runs.
+mod files;
 mod journals;
 mod runs;
 

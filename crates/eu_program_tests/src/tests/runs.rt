@@ -1,4 +1,5 @@
 //! Whole runs of the program, on a machine whose words and input are given and whose output is kept.
+use crate::tests::files::{Kept, Place, open_kept};
 use eu_program::start;
 use std::alloc::{Alloc, Allocator, Global};
 use std::env::FillError;
@@ -15,7 +16,7 @@ use std::{io, str, thread};
 
 /// What doesn't work at a machine.
 #[derive(Clone, Copy, PartialEq, Eq)]
-enum Broken {
+pub enum Broken {
     Nothing,
     /// Its words aren't UTF-8.
     Words,
@@ -25,6 +26,37 @@ enum Broken {
     Clock,
     /// Standard output takes no bytes.
     Output,
+    /// A read of standard input fails.
+    Input,
+}
+
+/// An input, whose reads fail where it is broken.
+#[derive(Drop)]
+struct Given {
+    bytes: &'static [u8],
+    is_broken: bool,
+}
+
+impl Read for Given {
+    fn read(&mut self, buffer: &mut [u8]) -> io::Result<usize> {
+        if self.is_broken {
+            return Err(Error::from(ErrorKind::Unsupported));
+        }
+        self.bytes.read(buffer)
+    }
+}
+
+impl BufRead for Given {
+    fn fill_buf(&mut self) -> io::Result<&[u8]> {
+        if self.is_broken {
+            return Err(Error::from(ErrorKind::Unsupported));
+        }
+        Ok(self.bytes)
+    }
+
+    fn consume(&mut self, amount: usize) {
+        self.bytes = &self.bytes[amount.min(self.bytes.len())..];
+    }
 }
 
 /// A machine with such words and such an input; what is written to it is kept.
@@ -37,6 +69,7 @@ struct Machine<'a, R> {
     out: Mutex<Vec<u8>>,
     err: Mutex<Vec<u8>>,
     broken: Broken,
+    place: &'a Place,
 }
 
 /// Writes a text behind what is kept.
@@ -112,22 +145,18 @@ impl<R> Env for Machine<'_, R> {
     }
 }
 
-/// There are no files.
+/// There is nothing but the one file.
 fn no_file<T>() -> io::Result<T> {
     Err(Error::from(ErrorKind::Unsupported))
 }
 
-impl<R> Files for Machine<'_, R> {
-    type File = <HostRuntime as Files>::File;
+impl<'a, R> Files for Machine<'a, R> {
+    type File = Kept<'a>;
 
     type Dir = <HostRuntime as Files>::Dir;
 
-    fn open_file(
-        &self,
-        _how: &OpenOptions,
-        _path: &str,
-    ) -> io::Result<<HostRuntime as Files>::File> {
-        no_file()
+    fn open_file(&self, how: &OpenOptions, path: &str) -> io::Result<Kept<'a>> {
+        open_kept(self.place, self.alloc, how, path)
     }
 
     fn open_dir(&self, _path: &str) -> io::Result<<HostRuntime as Files>::Dir> {
@@ -168,18 +197,21 @@ impl<R> Files for Machine<'_, R> {
 }
 
 impl<R> Input for Machine<'_, R> {
-    type Reader = &'static [u8];
+    type Reader = Given;
 
     fn read_line<A: Allocator + Clone>(&self, _buf: &mut String<A>) -> io::Result<usize> {
         Err(Error::from(ErrorKind::Unsupported))
     }
 
-    fn lines<A: Allocator>(&self, alloc: A) -> Lines<&'static [u8], A> {
-        self.input.lines(alloc)
+    fn lines<A: Allocator>(&self, alloc: A) -> Lines<Given, A> {
+        self.reader().lines(alloc)
     }
 
-    fn reader(&self) -> &'static [u8] {
-        self.input
+    fn reader(&self) -> Given {
+        Given {
+            bytes: self.input,
+            is_broken: self.broken == Broken::Input,
+        }
     }
 }
 
@@ -227,6 +259,7 @@ fn prepared<'a, R>(
     words: &'a [&'a str],
     input: &'static str,
     broken: Broken,
+    place: &'a Place,
 ) -> Machine<'a, R> {
     Machine {
         rt,
@@ -236,6 +269,7 @@ fn prepared<'a, R>(
         out: Mutex::new(Vec::new(alloc)),
         err: Mutex::new(Vec::new(alloc)),
         broken,
+        place,
     }
 }
 
@@ -249,6 +283,7 @@ fn kept_by<R>(machine: Machine<'_, R>, status: u8) -> Ran {
         out,
         err,
         broken: _,
+        place: _,
     } = machine;
     Ran {
         status,
@@ -257,7 +292,21 @@ fn kept_by<R>(machine: Machine<'_, R>, status: u8) -> Ran {
     }
 }
 
-/// Runs the program where something is broken.
+/// Runs the program where something is broken, at a machine with this file.
+pub fn run_at<R: Threads + Wait + Clock + Net<Listener = TcpListener, Stream = TcpStream> + Sync>(
+    rt: &R,
+    alloc: Global,
+    words: &[&str],
+    input: &'static str,
+    broken: Broken,
+    place: &Place,
+) -> Ran {
+    let machine = prepared(rt, alloc, words, input, broken, place);
+    let status = start(&machine);
+    kept_by(machine, status)
+}
+
+/// Runs the program where something is broken. There is no file at first.
 fn run_broken<R: Threads + Wait + Clock + Net<Listener = TcpListener, Stream = TcpStream> + Sync>(
     rt: &R,
     alloc: Global,
@@ -265,12 +314,11 @@ fn run_broken<R: Threads + Wait + Clock + Net<Listener = TcpListener, Stream = T
     input: &'static str,
     broken: Broken,
 ) -> Ran {
-    let machine = prepared(rt, alloc, words, input, broken);
-    let status = start(&machine);
-    kept_by(machine, status)
+    let place: Place = Mutex::new(None);
+    run_at(rt, alloc, words, input, broken, &place)
 }
 
-/// Runs the program.
+/// Runs the program. There is no file at first.
 pub fn run<R: Threads + Wait + Clock + Net<Listener = TcpListener, Stream = TcpStream> + Sync>(
     rt: &R,
     alloc: Global,
@@ -327,6 +375,13 @@ fn a_script_goes_by_its_options(rt: HostRuntime) -> Result<(), Fail> {
 }
 
 #[test]
+fn a_script_that_leaves_a_journal_goes_by_its_options(rt: HostRuntime) -> Result<(), Fail> {
+    let more = ["--seed", "3", "--journal", "kept.journal"];
+    assert!(rt; evicts(&rt, rt.alloc(), more.as_slice(), "A i3 A i1")?);
+    Ok(())
+}
+
+#[test]
 fn without_a_seed_the_first_are_evicted(rt: HostRuntime) -> Result<(), Fail> {
     assert!(rt; evicts(&rt, rt.alloc(), [].as_slice(), "A i0 A i1")?);
     Ok(())
@@ -371,6 +426,34 @@ fn a_script_is_audited(rt: HostRuntime) {
     assert!(rt; ran.err.is_empty());
 }
 
+/// Four leases that have expired, and a pass by which two of them may go; then a renewal of i0, and what a peer is to be told of it. Where
+/// i0 went, nothing is to be told, and the last line is refused.
+const RENEWED: &str =
+    "open 4 1\nregister 0 A i0 1 UP UNKNOWN 0 r\nregister 0 A i1 1 UP UNKNOWN 0 r\nregister 0 A i2 1 UP UNKNOWN 0 r\nregister 0 A i3 1 UP UNKNOWN 0 r\nevict 10000\nrenew 10000 A i0 - - c\ndrain 10000 0\n";
+
+/// Whether an audit of that script with these words more prints this.
+fn is_audited<R: Threads + Wait + Clock + Net<Listener = TcpListener, Stream = TcpStream> + Sync>(
+    rt: &R,
+    alloc: Global,
+    more: &[&'static str],
+    answer: &str,
+) -> Result<bool, Fail> {
+    let mut usual = WORDS;
+    usual[1] = "audit";
+    let mut words = Vec::from_slice(alloc, usual.as_slice())?;
+    words.extend_from_slice(more)?;
+    let ran = run(rt, alloc, words.as_slice(), RENEWED);
+    Ok(ran.status == 0 && ran.out.as_slice() == answer.as_bytes() && ran.err.is_empty())
+}
+
+/// What isn't refused is an entry: seven where i0 stays, as by the words of the seed 3, and six where it goes.
+#[test]
+fn an_audit_goes_by_its_options(rt: HostRuntime) -> Result<(), Fail> {
+    assert!(rt; is_audited(&rt, rt.alloc(), ["--seed", "3"].as_slice(), "audit yes 7\n")?);
+    assert!(rt; is_audited(&rt, rt.alloc(), [].as_slice(), "audit yes 6\n")?);
+    Ok(())
+}
+
 #[test]
 fn an_audit_of_no_script_has_no_entry(rt: HostRuntime) {
     let words = ["eureka", "audit"];
@@ -404,7 +487,10 @@ fn words_that_are_refused_are_told_on_standard_error(rt: HostRuntime) {
     let ran = run(&rt, rt.alloc(), words.as_slice(), "");
     assert!(rt; ran.status == 2);
     assert!(rt; ran.out.is_empty());
-    assert!(rt; !ran.err.is_empty());
+    assert!(rt;
+        ran.err
+            .starts_with(b"error: invalid value '0' for '--interval <SECONDS>': ")
+    );
 }
 
 #[test]
@@ -413,21 +499,32 @@ fn words_that_are_no_text_are_refused(rt: HostRuntime) {
     let ran = run_broken(&rt, rt.alloc(), words.as_slice(), "open 1\n", Broken::Words);
     assert!(rt; ran.status == 2);
     assert!(rt; ran.out.is_empty());
-    assert!(rt; !ran.err.is_empty());
+    assert!(rt; ran.err.as_slice() == b"error: a word is not UTF-8\n".as_slice());
 }
 
 #[test]
 fn output_that_is_not_taken_is_told_by_its_fault(rt: HostRuntime) {
-    let words = ["eureka", "script"];
-    let ran = run_broken(
-        &rt,
-        rt.alloc(),
-        words.as_slice(),
-        "open 1\n",
-        Broken::Output,
-    );
-    assert!(rt; ran.status == 3);
-    assert!(rt; ran.err.as_slice() == b"fault 41\n".as_slice());
+    for words in [["eureka", "script"], ["eureka", "audit"]] {
+        let ran = run_broken(
+            &rt,
+            rt.alloc(),
+            words.as_slice(),
+            "open 1\n",
+            Broken::Output,
+        );
+        assert!(rt; ran.status == 3);
+        assert!(rt; ran.err.as_slice() == b"fault 41\n".as_slice());
+    }
+}
+
+#[test]
+fn input_that_is_not_read_is_told_by_its_fault(rt: HostRuntime) {
+    for words in [["eureka", "script"], ["eureka", "audit"]] {
+        let ran = run_broken(&rt, rt.alloc(), words.as_slice(), "open 1\n", Broken::Input);
+        assert!(rt; ran.status == 3);
+        assert!(rt; ran.out.is_empty());
+        assert!(rt; ran.err.as_slice() == b"fault 40\n".as_slice());
+    }
 }
 
 #[test]
@@ -461,7 +558,10 @@ fn help_is_told_on_standard_output(rt: HostRuntime) {
     let words = ["eureka", "--help"];
     let ran = run(&rt, rt.alloc(), words.as_slice(), "");
     assert!(rt; ran.status == 0);
-    assert!(rt; !ran.out.is_empty());
+    assert!(rt;
+        ran.out
+            .starts_with(b"A proved lease registry\n\nUsage: eureka <COMMAND>\n")
+    );
     assert!(rt; ran.err.is_empty());
 }
 
@@ -530,7 +630,8 @@ fn run_server<R: Threads + Wait + Clock + Net<Listener = TcpListener, Stream = T
     alloc: Global,
     words: &[&str],
 ) -> (Ran, io::Result<Vec<u8>>) {
-    let machine = prepared(rt, alloc, words, "", Broken::Nothing);
+    let place: Place = Mutex::new(None);
+    let machine = prepared(rt, alloc, words, "", Broken::Nothing, &place);
     let (status, answer) = thread::join(rt, || start(&machine), || look(&machine));
     (kept_by(machine, status), answer)
 }
@@ -576,6 +677,17 @@ fn is_told<R: Net<Stream = TcpStream> + Clock>(
     Ok(soon && answer.starts_with(status.as_bytes()))
 }
 
+/// A request by which a client registers for a second.
+fn registration(alloc: Global, id: &str) -> io::Result<String> {
+    let body = format!(in alloc;
+        "{{\"instance\":{{\"instanceId\":\"{id}\",\"hostName\":\"h\",\"app\":\"a\",\"ipAddr\":\"10.0.0.1\",\"status\":\"UP\",\"lastDirtyTimestamp\":\"5\",\"dataCenterInfo\":{{\"name\":\"MyOwn\"}},\"leaseInfo\":{{\"durationInSecs\":1}}}}}}"
+    )?;
+    let length = body.len();
+    Ok(format!(in alloc;
+        "POST /eureka/apps/a HTTP/1.1\r\nHost: x\r\nConnection: close\r\nContent-Length: {length}\r\n\r\n{body}"
+    )?)
+}
+
 /// Whether a client registers for a second.
 fn is_registered<R: Net<Stream = TcpStream> + Clock>(
     rt: &R,
@@ -583,27 +695,29 @@ fn is_registered<R: Net<Stream = TcpStream> + Clock>(
     address: SocketAddr,
     id: &str,
 ) -> io::Result<bool> {
-    let body = format!(in alloc;
-        "{{\"instance\":{{\"instanceId\":\"{id}\",\"hostName\":\"h\",\"app\":\"a\",\"ipAddr\":\"10.0.0.1\",\"status\":\"UP\",\"lastDirtyTimestamp\":\"5\",\"dataCenterInfo\":{{\"name\":\"MyOwn\"}},\"leaseInfo\":{{\"durationInSecs\":1}}}}}}"
-    )?;
-    let length = body.len();
-    let request = format!(in alloc;
-        "POST /eureka/apps/a HTTP/1.1\r\nHost: x\r\nConnection: close\r\nContent-Length: {length}\r\n\r\n{body}"
-    )?;
+    let request = registration(alloc, id)?;
     is_told(rt, alloc, address, &request, "HTTP/1.1 204 ")
 }
 
-/// Whether nothing of that id is held.
-fn is_gone<R: Net<Stream = TcpStream> + Clock>(
+/// A request for what is held of A, expired or not.
+const LIST: &str = "GET /eureka/apps/A HTTP/1.1\r\nHost: x\r\nConnection: close\r\n\r\n";
+
+/// Whether of the four that registered just these two are listed.
+fn are_listed<R: Net<Stream = TcpStream>>(
     rt: &R,
     alloc: Global,
     address: SocketAddr,
-    id: &str,
+    held: [&str; 2],
 ) -> io::Result<bool> {
-    let request = format!(in alloc;
-        "GET /eureka/apps/A/{id} HTTP/1.1\r\nHost: x\r\nConnection: close\r\n\r\n"
-    )?;
-    is_told(rt, alloc, address, &request, "HTTP/1.1 404 ")
+    let answer = answered(alloc, TcpStream::connect(rt, address)?, LIST)?;
+    let listing = str::from_utf8(&answer).unwrap_or("");
+    let mut as_told = true;
+    for id in CLIENTS {
+        let member = format!(in alloc; "\"instanceId\":\"{id}\"")?;
+        let is_held = id == held[0] || id == held[1];
+        as_told = as_told && listing.find(member.as_str()).is_some() == is_held;
+    }
+    Ok(as_told)
 }
 
 /// A renewal of a lease that isn't there.
@@ -616,7 +730,8 @@ fn run_for_two<R: Threads + Wait + Clock + Net<Listener = TcpListener, Stream = 
     alloc: Global,
 ) -> (Ran, io::Result<(bool, bool)>) {
     let words = ["eureka", "serve", "--port", "0", "--sessions", "2"];
-    let machine = prepared(rt, alloc, words.as_slice(), "", Broken::Nothing);
+    let place: Place = Mutex::new(None);
+    let machine = prepared(rt, alloc, words.as_slice(), "", Broken::Nothing, &place);
     let (status, told) = thread::join(
         rt,
         || start(&machine),
@@ -646,36 +761,37 @@ fn two_clients_are_served(rt: HostRuntime) -> Result<(), Fail> {
 const TWO_LEFT: &str =
     "HTTP/1.1 200 OK\r\nContent-Type: text/plain; charset=utf-8\r\nContent-Length: 84\r\nConnection: close\r\n\r\nheld 2\nexpected 9\nthreshold 13\nlast 0\npreservation off\npermitted yes\nstatuses UP_2_\n";
 
-/// What clients of a server see, while two keep a worker each: whether four register, and six seconds later these two are gone; and then
-/// the first one is answered.
+/// The clients that register, in key order.
+const CLIENTS: [&str; 4] = ["i0", "i1", "i2", "i3"];
+
+/// What clients of a server see, while two keep a worker each: whether four register, and six seconds later just these two are held; and
+/// then the first one is answered.
 fn visit<R: Wait + Clock + Net<Stream = TcpStream>>(
     machine: &Machine<'_, R>,
-    gone: [&str; 2],
+    held: [&str; 2],
 ) -> io::Result<bool> {
     let (rt, alloc) = (machine.rt, machine.alloc);
     let address = address_told(machine)?;
     let silent = TcpStream::connect(rt, address)?;
     let _other = TcpStream::connect(rt, address)?;
     let mut as_told = true;
-    for id in ["i0", "i1", "i2", "i3"] {
+    for id in CLIENTS {
         as_told = is_registered(rt, alloc, address, id)? && as_told;
     }
     thread::sleep(rt, Duration::from_millis(6_000));
-    for id in gone {
-        as_told = is_gone(rt, alloc, address, id)? && as_told;
-    }
+    as_told = are_listed(rt, alloc, address, held)? && as_told;
     let page = answered(alloc, silent, LOOK)?;
     Ok(as_told && page.as_slice() == TWO_LEFT.as_bytes())
 }
 
-/// The words of a server of eight sessions, three at once, which evicts after four seconds, by the words of the seed 3.
+/// The words of a server of seven sessions, three at once, which evicts after four seconds, by the words of the seed 3.
 const SERVE: [&str; 20] = [
     "eureka",
     "serve",
     "--port",
     "0",
     "--sessions",
-    "8",
+    "7",
     "--workers",
     "3",
     "--expected",
@@ -692,32 +808,82 @@ const SERVE: [&str; 20] = [
     "3",
 ];
 
-/// A run of a server with these words, and whether its clients see that these two are gone.
+/// A run of a server with these words, at a machine with no file, and whether its clients see that just these two are held.
 fn run_visited<R: Threads + Wait + Clock + Net<Listener = TcpListener, Stream = TcpStream> + Sync>(
     rt: &R,
     alloc: Global,
     words: &[&str],
-    gone: [&str; 2],
+    held: [&str; 2],
 ) -> (Ran, io::Result<bool>) {
-    let machine = prepared(rt, alloc, words, "", Broken::Nothing);
-    let (status, seen) = thread::join(rt, || start(&machine), || visit(&machine, gone));
+    let place: Place = Mutex::new(None);
+    let machine = prepared(rt, alloc, words, "", Broken::Nothing, &place);
+    let (status, seen) = thread::join(rt, || start(&machine), || visit(&machine, held));
     (kept_by(machine, status), seen)
 }
 
 #[test]
 fn a_server_evicts_by_its_seed(rt: HostRuntime) -> Result<(), Fail> {
-    let (ran, seen) = run_visited(&rt, rt.alloc(), SERVE.as_slice(), ["i1", "i3"]);
+    let (ran, seen) = run_visited(&rt, rt.alloc(), SERVE.as_slice(), ["i0", "i2"]);
     assert!(rt; seen?);
     assert!(rt; ran.status == 0);
-    assert!(rt; ran.out.as_slice() == b"served 8\n".as_slice());
+    assert!(rt; ran.out.as_slice() == b"served 7\n".as_slice());
     Ok(())
 }
 
 #[test]
 fn a_server_without_a_seed_evicts_the_first(rt: HostRuntime) -> Result<(), Fail> {
-    let (ran, seen) = run_visited(&rt, rt.alloc(), &SERVE[..18], ["i0", "i1"]);
+    let (ran, seen) = run_visited(&rt, rt.alloc(), &SERVE[..18], ["i2", "i3"]);
     assert!(rt; seen?);
     assert!(rt; ran.status == 0);
-    assert!(rt; ran.out.as_slice() == b"served 8\n".as_slice());
+    assert!(rt; ran.out.as_slice() == b"served 7\n".as_slice());
+    Ok(())
+}
+
+#[test]
+fn a_server_with_a_journal_evicts_by_its_seed(rt: HostRuntime) -> Result<(), Fail> {
+    let mut words = Vec::from_slice(rt.alloc(), SERVE.as_slice())?;
+    words.extend_from_slice(["--journal", "kept.journal"].as_slice())?;
+    let (ran, seen) = run_visited(&rt, rt.alloc(), words.as_slice(), ["i0", "i2"]);
+    assert!(rt; seen?);
+    assert!(rt; ran.status == 0);
+    assert!(rt; ran.out.as_slice() == b"served 7\n".as_slice());
+    Ok(())
+}
+
+/// Whether a client that registers waits until another, which came before it and is silent for a second, has read that nothing is held.
+fn waits_for_the_first<R: Wait + Clock + Net<Stream = TcpStream>>(
+    machine: &Machine<'_, R>,
+) -> io::Result<bool> {
+    let (rt, alloc) = (machine.rt, machine.alloc);
+    let address = address_told(machine)?;
+    let first = TcpStream::connect(rt, address)?;
+    let mut second = TcpStream::connect(rt, address)?;
+    second.write_all(registration(alloc, "i1")?.as_bytes())?;
+    thread::sleep(rt, Duration::from_millis(1_000));
+    let page = answered(alloc, first, LOOK)?;
+    let answer = answered(alloc, second, "")?;
+    Ok(page.as_slice() == LOOKED.as_bytes() && answer.starts_with(b"HTTP/1.1 204 "))
+}
+
+/// A run of a server of two sessions, one at once, and whether one client waits for the other.
+fn run_in_turn<R: Threads + Wait + Clock + Net<Listener = TcpListener, Stream = TcpStream> + Sync>(
+    rt: &R,
+    alloc: Global,
+) -> (Ran, io::Result<bool>) {
+    let mut words = SERVE;
+    words[5] = "2";
+    words[7] = "1";
+    let place: Place = Mutex::new(None);
+    let machine = prepared(rt, alloc, words.as_slice(), "", Broken::Nothing, &place);
+    let (status, waited) = thread::join(rt, || start(&machine), || waits_for_the_first(&machine));
+    (kept_by(machine, status), waited)
+}
+
+#[test]
+fn a_server_of_one_worker_serves_one_client_at_once(rt: HostRuntime) -> Result<(), Fail> {
+    let (ran, waited) = run_in_turn(&rt, rt.alloc());
+    assert!(rt; waited?);
+    assert!(rt; ran.status == 0);
+    assert!(rt; ran.out.as_slice() == b"served 2\n".as_slice());
     Ok(())
 }

@@ -1,5 +1,5 @@
 -- What a server wrote to its journal, by the fault by which it ended
-use Rattle.std.proofs.Common.{◌≡◌, ◌⊎◌, ℕ, Bool, true, List, length, take, Option, Result, Ok, Err, OnOk, OnErr, refl, sym, subst, inl, inr, ap}
+use Rattle.std.proofs.Common.{◌≡◌, ◌⊎◌, ℕ, Bool, true, List, length, take, Option, Result, Ok, Err, OnOk, refl, sym, subst, inl, inr}
 use Rattle.std.proofs.KnownBytes.{Appends-kept}
 use Rattle.std.proofs.Math.Seq.{take-length}
 use Rattle.std.specs.Io.KnownBytes.{Appends, Keeps}

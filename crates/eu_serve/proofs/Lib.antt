@@ -1,1 +1,3 @@
 pub mod Journals
+pub mod Adding
+pub mod Ending

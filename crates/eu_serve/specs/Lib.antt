@@ -1,4 +1,4 @@
 pub mod Ends
 pub mod Served
-pub mod Unlimited
+pub mod Staff
 pub mod Journal

@@ -1,12 +1,13 @@
 //! A server.
-ghost use Rattle.std.specs.Prelude.{◌≡◌, ◌≤◌, ◌<◌, ◌⊎◌, ℕ, true, max, min, take, Ok, Err, IfOk, IfErr, OnOk};
+ghost use Rattle.std.specs.Prelude.{◌≡◌, ◌≤◌, ◌⊎◌, ◌+◌, ℕ, [], ◌∷◌, ◌++◌, true, false, if◌then◌else◌, max, min, take, vec_len, Ok, Err, IfOk, IfErr, OnOk};
+ghost use Rattle.std.specs.Vec.{vec_capacity};
 ghost use Rattle.std.specs.Io.KnownBytes.{Appends, Keeps};
 ghost use Rattle.eu_book.specs.Account.{IsLawful};
 ghost use Rattle.eu_book.specs.Peers.{state_of};
 ghost use Rattle.eu_serve.specs.Ends.{IsClose, IsEnd, IsStart};
 ghost use Rattle.eu_serve.specs.Journal.{IsUntold, closed_text};
 ghost use Rattle.eu_serve.specs.Served.{served_text};
-ghost use Rattle.eu_serve.specs.Unlimited.{IsUnlimited};
+ghost use Rattle.eu_serve.specs.Staff.{AreSessions, AreTimers, IsReadyFor, IsStaff};
 ghost use Rattle.eu_settle.specs.Settled.{IsMismatch, IsSettled};
 ghost use Rattle.eu_settle.specs.declared.settling.Mismatch.{Mismatch};
 ghost use Rattle.eu_shared.specs.Closing.{account_of};
@@ -78,16 +79,24 @@ fn workers_of(wanted: u32) -> u32
     wanted.clamp(1, MOST_WORKERS)
 }
 
+/// How many connections a server by this plan accepts, and how many workers look for them: as many as it has.
+fn admission_of(plan: &Plan) -> Admission
+    ensures { result ≡ record { left = plan.now.sessions; workers = max 1 (min plan.now.workers 16); failed = false } }
+{
+    let workers = workers_of(plan.workers);
+    Admission::new(plan.sessions, workers)
+}
+
 /// A worker of a server, over a book that `K` names.
 type ServerWorker<'a, K, R, H> = Worker<K, Connections<'a, R>, SystemClock<'a, R>, H, NoPeer>;
 
-/// A job without a limit.
+/// A worker that is ready for this work, in as many turns as can be counted.
 fn job<'a, K: Label, R: Wait + Clock, H: Chooser>(
     rt: &'a R,
     pass: Pass<K>,
     work: Work<Connections<'a, R>, H, NoPeer>,
 ) -> ServerWorker<'a, K, R, H>
-    ensures { IsUnlimited result }
+    ensures { IsReadyFor work.entry result }
 {
     Worker::Ready(Job {
         pass,
@@ -97,7 +106,7 @@ fn job<'a, K: Label, R: Wait + Clock, H: Chooser>(
     })
 }
 
-/// Adds a worker with a pass of its own. `OutOfMemory`, and the fault of `Shared::pass`.
+/// Adds a worker that is ready for this work, with a pass of its own. `OutOfMemory`, and the fault of `Shared::pass`.
 fn add<'a, K: Label, R: Wait + Clock, H: Chooser + Drop>(
     workers: &mut Vec<ServerWorker<'a, K, R, H>>,
     rt: &'a R,
@@ -105,7 +114,8 @@ fn add<'a, K: Label, R: Wait + Clock, H: Chooser + Drop>(
     shared: &Shared<K>,
     work: Work<Connections<'a, R>, H, NoPeer>,
 ) -> Result<(), Fault>
-    ensures { IfErr result IsStart }
+    ensures made { OnOk result ((worker : _) × IsReadyFor work.entry worker × (workers.new.items ≡ workers.old.items ++ worker ∷ [])) }
+    ensures fault { IfErr result IsStart }
 {
     let pass = shared.pass(rt, alloc)?;
     workers.push(job(rt, pass, work))?;
@@ -121,9 +131,10 @@ fn add_sessions<'a, K: Label, R: Wait + Clock, H: Chooser + Drop>(
     acceptor: &'a Acceptor<'a, R>,
     count: u32,
 ) -> Result<(), Fault>
-    ensures { IfErr result IsStart }
+    ensures made { OnOk result ((sessions : _) × AreSessions count sessions × (workers.new.items ≡ workers.old.items ++ sessions)) }
+    ensures fault { IfErr result IsStart }
 {
-    for _worker in 0..count {
+    for _ in 0..count {
         let source = Connections { acceptor };
         add(workers, rt, alloc, shared, Work::Sessions { source })?;
     }
@@ -138,38 +149,39 @@ fn add_timers<'a, K: Label, R: Wait + Clock, H: Chooser + Drop>(
     shared: &Shared<K>,
     chooser: H,
 ) -> Result<(), Fault>
-    ensures { IfErr result IsStart }
+    ensures made { OnOk result ((timers : _) × AreTimers chooser timers × (workers.new.items ≡ workers.old.items ++ timers)) }
+    ensures fault { IfErr result IsStart }
 {
     add(workers, rt, alloc, shared, Work::Evictor { chooser })?;
     add(workers, rt, alloc, shared, Work::Bucket)?;
     add(workers, rt, alloc, shared, Work::Threshold)
 }
 
-/// The workers of sessions, and then those of the timers. `OutOfMemory`, and the fault of `Shared::pass`.
+/// The workers of a server by this plan: those of sessions, and then those of the timers. `OutOfMemory`, and the fault of `Shared::pass`.
 fn make_workers<'a, K: Label, R: Wait + Clock, H: Chooser + Drop>(
     rt: &'a R,
     alloc: Global,
     shared: &Shared<K>,
     acceptor: &'a Acceptor<'a, R>,
-    count: u32,
+    plan: &Plan,
     chooser: H,
 ) -> Result<Vec<ServerWorker<'a, K, R, H>>, Fault>
-    requires few { count ≤ 16 }
-    ensures { IfErr result IsStart }
+    ensures staff { IfOk result (λ staff. IsStaff (max 1 (min plan.now.workers 16)) chooser staff.items) }
+    ensures fault { IfErr result IsStart }
 {
+    let count = workers_of(plan.workers);
     let mut workers = Vec::with_capacity(alloc, count as usize + TIMERS)?;
     add_sessions(&mut workers, rt, alloc, shared, acceptor, count)?;
     add_timers(&mut workers, rt, alloc, shared, chooser)?;
     Ok(workers)
 }
 
-/// Takes the passes back, and tells how many connections the workers of sessions served in all. `OutOfMemory` where there is no room for
-/// the passes.
+/// Takes the passes back, into room that is there, and tells how many connections the workers of sessions served in all. Takes no memory.
 fn gather<K: Label, R: Wait + Clock, H: Chooser + Drop>(
     workers: Vec<ServerWorker<'_, K, R, H>>,
     passes: &mut Vec<Pass<K>>,
-) -> Result<u64, Fault>
-    ensures { IfErr result (λ f. f ≡ Fault.OutOfMemory) }
+) -> u64
+    requires room { vec_len passes.old + vec_len workers ≤ vec_capacity passes.old }
 {
     let mut served = 0u64;
     for worker in workers {
@@ -180,13 +192,13 @@ fn gather<K: Label, R: Wait + Clock, H: Chooser + Drop>(
             served = served.saturating_add(ended.turns);
         }
         drop(work);
-        passes.push(pass)?;
+        passes.push_reserved(pass);
     }
-    Ok(served)
+    served
 }
 
-/// Has all workers work until the sessions have ended. Gives their passes, room for which is made before any works, and tells how many
-/// connections were served. `OutOfMemory`, and the faults of `make_workers`.
+/// Has all workers of a server by this plan work until the sessions have ended. Gives their passes, room for which is made before any
+/// works, and tells how many connections were served. `OutOfMemory`, and the faults of `make_workers`: all before any works.
 fn run_workers<
     'a,
     K: Label + Send + Sync,
@@ -197,14 +209,13 @@ fn run_workers<
     alloc: Global,
     shared: &'a Shared<K>,
     acceptor: &'a Acceptor<'a, R>,
-    count: u32,
+    plan: &Plan,
     chooser: H,
 ) -> Result<(Vec<Pass<K>>, u64), Fault>
-    requires few { count ≤ 16 }
     ensures { IfErr result IsStart }
 {
     let routes = Routes::new(alloc)?;
-    let mut workers = make_workers(rt, alloc, shared, acceptor, count, chooser)?;
+    let mut workers = make_workers(rt, alloc, shared, acceptor, plan, chooser)?;
     let mut passes = Vec::with_capacity(alloc, workers.len())?;
     let site = Site {
         rt,
@@ -214,7 +225,7 @@ fn run_workers<
         gate: &acceptor.pace,
     };
     run_all(&site, workers.as_mut_slice());
-    let served = gather(workers, &mut passes)?;
+    let served = gather(workers, &mut passes);
     Ok((passes, served))
 }
 
@@ -258,10 +269,50 @@ pub struct Outcome {
     pub closed: Closed,
 }
 
+/// Has all workers of a server by this plan work until the sessions have ended, and then closes and settles the book, whether accepting
+/// a connection has failed or not. The faults are those of `run_workers` and `close_book`, never that of an accept.
+fn serve_and_close<
+    K: Label + Send + Sync,
+    R: Threads + Wait + Clock + Sync,
+    H: Chooser + Send + Drop,
+>(
+    rt: &R,
+    alloc: Global,
+    shared: Shared<K>,
+    acceptor: &Acceptor<'_, R>,
+    plan: &Plan,
+    chooser: H,
+) -> Result<Outcome, Fault>
+    ensures lawful { IfOk result (λ o. IsLawful (account_of o.closed)) }
+    ensures plain { IfOk result (λ o. (o.closed.base ≡ state_of (account_of o.closed).base) × (o.closed.end ≡ state_of (account_of o.closed).state)) }
+    ensures settled { IfOk result (λ o. IsSettled o.closed.first o.closed.logs.items o.closed.entries.items) }
+    ensures fault { IfErr result (λ f. IsStart f ⊎ IsClose f) }
+{
+    let (passes, served) = run_workers(rt, alloc, &shared, acceptor, plan, chooser)?;
+    let closed = close_book(shared, alloc, passes)?;
+    Ok(Outcome { served, closed })
+}
+
+/// What a server ends by, of which is known whether accepting a connection has failed: by its other fault, if it has one; else by `Read`,
+/// if that has failed.
+fn judge_accepts(has_failed: bool, outcome: Result<Outcome, Fault>) -> Result<Outcome, Fault>
+    ensures other { IfErr outcome (λ f. result ≡ Err f) }
+    ensures failed { IfOk outcome (λ o. result ≡ (if has_failed then Err Fault.Read else Ok o)) }
+{
+    let outcome = match outcome {
+        Ok(outcome) => outcome,
+        Err(fault) => return Err(fault),
+    };
+    if has_failed {
+        return Err(Fault::Read);
+    }
+    Ok(outcome)
+}
+
 /// Serves by a plan, and gives the book, closed and settled, rather than writing a line: its entries lead from the base to the end, and the
 /// log of each worker, from the first entry's number on, is its part of them.
 ///
-/// The blanks are four new ledgers of 1,025 parts each, as `Shared::open` takes them. The faults are those of `serve_on`, and come when they
+/// The blanks are four new ledgers of 1,025 parts each, as `Shared::open` takes them. The faults are those of `serve_by`, and come when they
 /// do there, but for `Write`: nothing is written.
 pub fn serve_book<
     K: Label + Send + Sync,
@@ -283,17 +334,12 @@ pub fn serve_book<
     ensures fault { IfErr result IsEnd }
 {
     let shared: Shared<K> = Shared::open(alloc, plan.config, plan.expected, 0, blanks)?;
-    let workers = workers_of(plan.workers);
-    let admission = Admission::new(plan.sessions, workers);
+    let admission = admission_of(plan);
     let Ok(acceptor) = Acceptor::new(rt, listener, admission, plan.periods, plan.timeouts) else {
         return Err(Fault::Read);
     };
-    let (passes, served) = run_workers(rt, alloc, &shared, &acceptor, workers, chooser)?;
-    let closed = close_book(shared, alloc, passes)?;
-    if acceptor.has_failed() {
-        return Err(Fault::Read);
-    }
-    Ok(Outcome { served, closed })
+    let outcome = serve_and_close(rt, alloc, shared, &acceptor, plan, chooser);
+    judge_accepts(acceptor.has_failed(), outcome)
 }
 
 /// Writes how many connections were served. `Write` where that fails.
@@ -323,7 +369,29 @@ fn serve_new<R: Threads + Wait + Clock + Sync, H: Chooser + Send + Drop>(
     serve_book::<Brand, R, H>(rt, alloc, listener, plan, chooser, Blanks::new())
 }
 
-/// Serves by a plan, as `serve_on` does by that of an ordinary server: with its faults, each when it comes there.
+/// Serves so many connections of a listener as the plan says, by its workers, and then writes `served N`, N being how many there were.
+///
+/// A book is opened with the settings and the number expected, without peers. Each accepted connection is one session of
+/// HTTP/1.1 (`eu_session::serve_session`), at the machine's time, of a worker that is free; while none is, connections wait in the
+/// system's queue. Beside the workers of sessions the evictor takes its turns, by the chooser's words, the bucket ends minutes, and the
+/// threshold is updated, each a period apart. Once the sessions have ended, so have these. Then the book is closed, and settled with
+/// what each worker logged.
+///
+/// A read of a connection ends its session after `read` milliseconds of the plan's timeouts, a write after `write`. After its last
+/// response what still comes is dropped, up to `linger_bytes` and for at most `linger` milliseconds, and the connection is closed
+/// (RFC 9112, section 9.6).
+///
+/// # Errors
+///
+/// - `Read` where a connection can't be accepted, for another reason than that it was aborted before, its network failed or a
+///   signal came. No further session begins then; those that began are finished, and the book is closed and settled, before it is
+///   told. Also where the machine's clock can't be read at the start.
+/// - `OutOfMemory` where there is no memory to open the book or for the workers, before a connection is accepted, or to close the book.
+/// - `PassMissing` and `Mismatch` where the book can't be closed or settled.
+/// - `TooManyPasses` by the contract, but nineteen passes are made at most.
+/// - `Write` where `served N` can't be written or flushed.
+///
+/// In all cases but the last nothing is written.
 pub fn serve_by<R: Threads + Wait + Clock + Sync, H: Chooser + Send + Drop, W: Write>(
     rt: &R,
     alloc: Global,
@@ -379,7 +447,7 @@ fn flush<J: Sink>(journal: &mut J) -> Result<(), Fault>
 ///
 /// # Errors
 ///
-/// Those of `serve_on`, each when it comes there, and `OutOfMemory` also where there is no memory for the text: nothing is written then,
+/// Those of `serve_by`, each when it comes there, and `OutOfMemory` also where there is no memory for the text: nothing is written then,
 /// neither there nor of `served N`. `Write` comes also where a write or a flush of the journal failed, now or before: then a front of the
 /// text was written there, and nothing of `served N`. Where `Write` comes of `served N`, the text was written whole.
 pub fn serve_with_journal<
@@ -409,45 +477,4 @@ pub fn serve_with_journal<
     write_closed(alloc, journal, &outcome.closed)?;
     tell(writer, outcome.served)?;
     Ok(outcome)
-}
-
-/// Serves so many connections of a listener, by so many workers, 1 to 16, and then writes `served N`, N being how many there were.
-///
-/// A book is opened with the settings and the number expected, without peers. Each accepted connection is one session of
-/// HTTP/1.1 (`eu_session::serve_session`), at the machine's time, of a worker that is free; while none is, connections wait in the
-/// system's queue. Beside the workers the evictor takes a turn each `evict_ms` of these settings (0 counting as 1), by the chooser's
-/// words, the bucket ends a minute each `BUCKET_MS`, and the threshold is updated each `THRESHOLD_MS`. Once the sessions have
-/// ended, so have these. Then the book is closed, and settled with what each worker logged.
-///
-/// A read of a connection ends its session after `READ_TIMEOUT_MS`, a write after `WRITE_TIMEOUT_MS`. After its last response what
-/// still comes is dropped, up to `LINGER_BYTES` and for at most `LINGER_MS`, and the connection is closed (RFC 9112, section 9.6).
-///
-/// # Errors
-///
-/// - `Read` where a connection can't be accepted, for another reason than that it was aborted before, its network failed or a
-///   signal came. No further session begins then; those that began are finished, and the book is closed and settled, before it is
-///   told. Also where the machine's clock can't be read at the start.
-/// - `OutOfMemory` where there is no memory to open the book, for the workers, or to close it.
-/// - `PassMissing` and `Mismatch` where the book can't be closed or settled.
-/// - `TooManyPasses` by the contract, but nineteen passes are made at most.
-/// - `Write` where `served N` can't be written or flushed.
-///
-/// In all cases but the last nothing is written.
-pub fn serve_on<R: Threads + Wait + Clock + Sync, H: Chooser + Send + Drop, W: Write>(
-    rt: &R,
-    alloc: Global,
-    listener: &TcpListener,
-    config: Config,
-    expected: u32,
-    workers: u32,
-    sessions: u32,
-    chooser: H,
-    writer: &mut W,
-) -> Result<(), Fault>
-    requires { (1 ≤ workers) × (workers ≤ 16) }
-    ensures told { OnOk result ((n : ℕ) × Appends (W.contents writer.old) (W.contents writer.new) (served_text n)) }
-    ensures untold { IfErr result (λ f. (f ≡ Fault.Write) ⊎ (IsEnd f × (writer.new ≡ writer.old))) }
-{
-    let plan = Plan::of_server(config, expected, workers, sessions);
-    serve_by(rt, alloc, listener, &plan, chooser, writer)
 }

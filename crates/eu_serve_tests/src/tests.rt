@@ -3,10 +3,10 @@ mod cuts;
 mod journals;
 
 use eu_accept::Timeouts;
-use eu_base::{Config, Fault};
+use eu_base::{Config, Fault, Key};
 use eu_clock::FirstChooser;
 use eu_gate::Periods;
-use eu_serve::{Plan, serve_book, serve_by, serve_on};
+use eu_serve::{Plan, serve_book, serve_by};
 use eu_shared::Blanks;
 use std::alloc::{AllocError, Global};
 use std::io::{ErrorKind, Read, Write};
@@ -192,49 +192,15 @@ fn is_answered_beside_fifteen<R: Net<Stream = TcpStream> + Clock>(
     Ok(answered && soon)
 }
 
-/// What a server of sixteen sessions at once writes.
-fn written_by_sixteen<R: Threads + Wait + Clock + Sync>(
-    rt: &R,
-    alloc: Global,
-    listener: &TcpListener,
-) -> Result<Vec<u8>, Fault> {
-    let config = Config::new(true, 85, 30, 60_000)?;
-    let mut out = Vec::new(alloc);
-    serve_on(
-        rt,
-        alloc,
-        listener,
-        config,
-        1,
-        16,
-        16,
-        FirstChooser,
-        &mut out,
-    )?;
-    Ok(out)
-}
-
-/// The same, and whether a client is answered at once beside fifteen silent ones.
-fn serve_sixteen<
-    R: Threads + Wait + Clock + Sync + Net<Listener = TcpListener, Stream = TcpStream>,
->(
-    rt: &R,
-    alloc: Global,
-    listener: &TcpListener,
-    address: SocketAddr,
-) -> (Result<Vec<u8>, Fault>, io::Result<bool>) {
-    thread::join(
-        rt,
-        || written_by_sixteen(rt, alloc, listener),
-        || is_answered_beside_fifteen(rt, alloc, address),
-    )
-}
-
 /// A silent client is waited for longer than the other one waits here.
 #[test]
 fn sixteen_workers_serve_at_once(rt: HostRuntime) -> Result<(), Fail> {
     let (listener, address) = listen(&rt)?;
-    let (out, answered) = serve_sixteen(&rt, rt.alloc(), &listener, address);
+    let plan = Plan::of_server(Config::new(true, 85, 30, 60_000)?, 1, 16, 16);
+    let (alloc, machine) = (rt.alloc(), &rt);
+    let (out, answered) = beside(machine, alloc, &listener, &plan, move || {
+        is_answered_beside_fifteen(machine, alloc, address)
+    });
     assert!(rt; answered?);
     assert!(rt; out?.as_slice() == b"served 16\n".as_slice());
     Ok(())
@@ -282,6 +248,21 @@ fn a_server_has_a_worker_at_least(rt: HostRuntime) -> Result<(), Fail> {
     Ok(())
 }
 
+/// Workers that it hasn't aren't waited for.
+#[test]
+fn a_server_that_is_to_have_a_thousand_workers_ends(rt: HostRuntime) -> Result<(), Fail> {
+    let (listener, address) = listen(&rt)?;
+    let mut plan = plan(1, 10_000)?;
+    plan.workers = 1_000;
+    let (alloc, machine) = (rt.alloc(), &rt);
+    let (out, answered) = beside(machine, alloc, &listener, &plan, move || {
+        is_answered(machine, alloc, address, RENEWAL, NOT_FOUND)
+    });
+    assert!(rt; answered);
+    assert!(rt; out?.as_slice() == b"served 1\n".as_slice());
+    Ok(())
+}
+
 #[test]
 fn no_session_is_served_at_once(rt: HostRuntime) -> Result<(), Fail> {
     let (listener, _) = listen(&rt)?;
@@ -317,14 +298,25 @@ fn served_that_is_not_flushed_is_a_failed_write(rt: HostRuntime) -> Result<(), F
 /// What is told of a book that is handed back.
 #[derive(Clone, Copy, PartialEq, Eq)]
 struct HandedBack {
+    /// How many connections were served.
+    served: u64,
     /// Where its journal begins.
     first: u64,
     /// How many leases were added.
     added: u64,
+    /// How many are held at the end.
+    held: usize,
+    /// Whether the first of these is that of A/i1.
+    is_of_the_client: bool,
     /// How many logs there are.
     logs: usize,
     /// How many peers.
     peers: usize,
+}
+
+/// Whether a key is that of A/i1.
+fn is_of_the_client(key: &Key) -> bool {
+    key.app.as_str() == "A" && key.id.as_str() == "i1"
 }
 
 /// What is told of the book that a server by a plan hands back.
@@ -343,9 +335,14 @@ fn handed_back<R: Threads + Wait + Clock + Sync>(
         Blanks::new(),
     )?;
     let closed = &outcome.closed;
+    let leases = closed.end.leases.as_slice();
+    let first = leases.first();
     let told = HandedBack {
+        served: outcome.served,
         first: closed.first,
         added: closed.totals.added,
+        held: leases.len(),
+        is_of_the_client: first.is_some_and(|lease| is_of_the_client(&lease.instance.key)),
         logs: closed.logs.len(),
         peers: closed.end.queues.as_slice().len(),
     };
@@ -378,8 +375,11 @@ fn a_book_is_handed_back_as_it_was_served(rt: HostRuntime) -> Result<(), Fail> {
     let (told, answered) = serve_one(&rt, rt.alloc(), &listener, address, &plan);
     assert!(rt; answered);
     let wanted = HandedBack {
+        served: 1,
         first: 0,
         added: 1,
+        held: 1,
+        is_of_the_client: true,
         logs: 5,
         peers: 0,
     };
@@ -393,28 +393,6 @@ const LOOK: &str = "GET /eureka/status HTTP/1.1\r\nHost: x\r\nConnection: close\
 
 const PAGE: &str =
     "HTTP/1.1 200 OK\r\nContent-Type: text/plain; charset=utf-8\r\nContent-Length: 87\r\nConnection: close\r\n\r\nheld 0\nexpected 70007\nthreshold 105010\nlast 0\npreservation off\npermitted yes\nstatuses \n";
-
-/// What a server of two sessions, one at a time, writes that has those settings.
-fn written_by_settings<R: Threads + Wait + Clock + Sync>(
-    rt: &R,
-    alloc: Global,
-    listener: &TcpListener,
-) -> Result<Vec<u8>, Fault> {
-    let config = Config::new(false, 50, 20, 1_000)?;
-    let mut out = Vec::new(alloc);
-    serve_on(
-        rt,
-        alloc,
-        listener,
-        config,
-        70_007,
-        1,
-        2,
-        FirstChooser,
-        &mut out,
-    )?;
-    Ok(out)
-}
 
 /// Whether a client waits for as long as another one, which says nothing, is connected, and reads the page then.
 fn reads_the_page_in_turn<R: Net<Stream = TcpStream>>(
@@ -432,26 +410,34 @@ fn reads_the_page_in_turn<R: Net<Stream = TcpStream>>(
     Ok(waits && is_answered_on(alloc, stream, "", PAGE))
 }
 
-/// The same, and whether a client reads the page in its turn.
-fn serve_page<R: Threads + Wait + Clock + Sync + Net<Listener = TcpListener, Stream = TcpStream>>(
-    rt: &R,
-    alloc: Global,
-    listener: &TcpListener,
-    address: SocketAddr,
-) -> (Result<Vec<u8>, Fault>, io::Result<bool>) {
-    thread::join(
-        rt,
-        || written_by_settings(rt, alloc, listener),
-        || reads_the_page_in_turn(rt, alloc, address),
-    )
-}
-
 #[test]
 fn a_server_has_the_settings_that_it_is_given(rt: HostRuntime) -> Result<(), Fail> {
     let (listener, address) = listen(&rt)?;
-    let (out, answered) = serve_page(&rt, rt.alloc(), &listener, address);
+    let plan = Plan::of_server(Config::new(false, 50, 20, 1_000)?, 70_007, 1, 2);
+    let (alloc, machine) = (rt.alloc(), &rt);
+    let (out, answered) = beside(machine, alloc, &listener, &plan, move || {
+        reads_the_page_in_turn(machine, alloc, address)
+    });
     assert!(rt; answered?);
     assert!(rt; out?.as_slice() == b"served 2\n".as_slice());
+    Ok(())
+}
+
+/// The page of such a server that expects nobody.
+const PAGE_OF_NOBODY: &str =
+    "HTTP/1.1 200 OK\r\nContent-Type: text/plain; charset=utf-8\r\nContent-Length: 78\r\nConnection: close\r\n\r\nheld 0\nexpected 0\nthreshold 0\nlast 0\npreservation off\npermitted yes\nstatuses \n";
+
+/// Nobody is counted anew within the first quarter of an hour.
+#[test]
+fn a_server_may_expect_nobody(rt: HostRuntime) -> Result<(), Fail> {
+    let (listener, address) = listen(&rt)?;
+    let plan = Plan::of_server(Config::new(false, 50, 20, 1_000)?, 0, 1, 1);
+    let (alloc, machine) = (rt.alloc(), &rt);
+    let (out, answered) = beside(machine, alloc, &listener, &plan, move || {
+        is_answered(machine, alloc, address, LOOK, PAGE_OF_NOBODY)
+    });
+    assert!(rt; answered);
+    assert!(rt; out?.as_slice() == b"served 1\n".as_slice());
     Ok(())
 }
 

@@ -764,11 +764,29 @@ const TWO_LEFT: &str =
 /// The clients that register, in key order.
 const CLIENTS: [&str; 4] = ["i0", "i1", "i2", "i3"];
 
+/// Which two of these a pass leaves.
+#[derive(Clone, Copy)]
+enum Left {
+    /// Those that the words of the seed 3 leave.
+    BySeed,
+    /// The last in key order: without a seed the first ones go.
+    TheLast,
+}
+
+impl Left {
+    fn ids(self) -> [&'static str; 2] {
+        match self {
+            Left::BySeed => ["i0", "i2"],
+            Left::TheLast => ["i2", "i3"],
+        }
+    }
+}
+
 /// What clients of a server see, while two keep a worker each: whether four register, and six seconds later just these two are held; and
 /// then the first one is answered.
 fn visit<R: Wait + Clock + Net<Stream = TcpStream>>(
     machine: &Machine<'_, R>,
-    held: [&str; 2],
+    left: Left,
 ) -> io::Result<bool> {
     let (rt, alloc) = (machine.rt, machine.alloc);
     let address = address_told(machine)?;
@@ -779,7 +797,7 @@ fn visit<R: Wait + Clock + Net<Stream = TcpStream>>(
         as_told = is_registered(rt, alloc, address, id)? && as_told;
     }
     thread::sleep(rt, Duration::from_millis(6_000));
-    as_told = are_listed(rt, alloc, address, held)? && as_told;
+    as_told = are_listed(rt, alloc, address, left.ids())? && as_told;
     let page = answered(alloc, silent, LOOK)?;
     Ok(as_told && page.as_slice() == TWO_LEFT.as_bytes())
 }
@@ -808,22 +826,22 @@ const SERVE: [&str; 20] = [
     "3",
 ];
 
-/// A run of a server with these words, at a machine with no file, and whether its clients see that just these two are held.
+/// A run of a server with these words, at a machine with no file, and whether its clients see that these two are left.
 fn run_visited<R: Threads + Wait + Clock + Net<Listener = TcpListener, Stream = TcpStream> + Sync>(
     rt: &R,
     alloc: Global,
     words: &[&str],
-    held: [&str; 2],
+    left: Left,
 ) -> (Ran, io::Result<bool>) {
     let place: Place = Mutex::new(None);
     let machine = prepared(rt, alloc, words, "", Broken::Nothing, &place);
-    let (status, seen) = thread::join(rt, || start(&machine), || visit(&machine, held));
+    let (status, seen) = thread::join(rt, || start(&machine), || visit(&machine, left));
     (kept_by(machine, status), seen)
 }
 
 #[test]
 fn a_server_evicts_by_its_seed(rt: HostRuntime) -> Result<(), Fail> {
-    let (ran, seen) = run_visited(&rt, rt.alloc(), SERVE.as_slice(), ["i0", "i2"]);
+    let (ran, seen) = run_visited(&rt, rt.alloc(), SERVE.as_slice(), Left::BySeed);
     assert!(rt; seen?);
     assert!(rt; ran.status == 0);
     assert!(rt; ran.out.as_slice() == b"served 7\n".as_slice());
@@ -832,7 +850,7 @@ fn a_server_evicts_by_its_seed(rt: HostRuntime) -> Result<(), Fail> {
 
 #[test]
 fn a_server_without_a_seed_evicts_the_first(rt: HostRuntime) -> Result<(), Fail> {
-    let (ran, seen) = run_visited(&rt, rt.alloc(), &SERVE[..18], ["i2", "i3"]);
+    let (ran, seen) = run_visited(&rt, rt.alloc(), &SERVE[..18], Left::TheLast);
     assert!(rt; seen?);
     assert!(rt; ran.status == 0);
     assert!(rt; ran.out.as_slice() == b"served 7\n".as_slice());
@@ -843,7 +861,7 @@ fn a_server_without_a_seed_evicts_the_first(rt: HostRuntime) -> Result<(), Fail>
 fn a_server_with_a_journal_evicts_by_its_seed(rt: HostRuntime) -> Result<(), Fail> {
     let mut words = Vec::from_slice(rt.alloc(), SERVE.as_slice())?;
     words.extend_from_slice(["--journal", "kept.journal"].as_slice())?;
-    let (ran, seen) = run_visited(&rt, rt.alloc(), words.as_slice(), ["i0", "i2"]);
+    let (ran, seen) = run_visited(&rt, rt.alloc(), words.as_slice(), Left::BySeed);
     assert!(rt; seen?);
     assert!(rt; ran.status == 0);
     assert!(rt; ran.out.as_slice() == b"served 7\n".as_slice());

@@ -764,29 +764,11 @@ const TWO_LEFT: &str =
 /// The clients that register, in key order.
 const CLIENTS: [&str; 4] = ["i0", "i1", "i2", "i3"];
 
-/// Which two of these a pass leaves.
-#[derive(Clone, Copy)]
-enum Left {
-    /// Those that the words of the seed 3 leave.
-    BySeed,
-    /// The last in key order: without a seed the first ones go.
-    TheLast,
-}
-
-impl Left {
-    fn ids(self) -> [&'static str; 2] {
-        match self {
-            Left::BySeed => ["i0", "i2"],
-            Left::TheLast => ["i2", "i3"],
-        }
-    }
-}
-
 /// What clients of a server see, while two keep a worker each: whether four register, and six seconds later just these two are held; and
 /// then the first one is answered.
 fn visit<R: Wait + Clock + Net<Stream = TcpStream>>(
     machine: &Machine<'_, R>,
-    left: Left,
+    visited: Visited,
 ) -> io::Result<bool> {
     let (rt, alloc) = (machine.rt, machine.alloc);
     let address = address_told(machine)?;
@@ -797,13 +779,13 @@ fn visit<R: Wait + Clock + Net<Stream = TcpStream>>(
         as_told = is_registered(rt, alloc, address, id)? && as_told;
     }
     thread::sleep(rt, Duration::from_millis(6_000));
-    as_told = are_listed(rt, alloc, address, left.ids())? && as_told;
+    as_told = are_listed(rt, alloc, address, visited.left())? && as_told;
     let page = answered(alloc, silent, LOOK)?;
     Ok(as_told && page.as_slice() == TWO_LEFT.as_bytes())
 }
 
-/// The words of a server of seven sessions, three at once, which evicts after four seconds, by the words of the seed 3.
-const SERVE: [&str; 20] = [
+/// The words of a server of seven sessions, three at once, which evicts after four seconds, by the words of the seed 3, and leaves a journal.
+static SERVE: [&str; 22] = [
     "eureka",
     "serve",
     "--port",
@@ -824,24 +806,54 @@ const SERVE: [&str; 20] = [
     "4000",
     "--seed",
     "3",
+    "--journal",
+    "kept.journal",
 ];
 
-/// A run of a server with these words, at a machine with no file, and whether its clients see that these two are left.
+/// How much is said to that server: all of it, all but the journal, or neither that nor the seed.
+#[derive(Clone, Copy)]
+enum Visited {
+    WithJournal,
+    WithSeed,
+    WithNeither,
+}
+
+impl Visited {
+    /// How many of the words are said.
+    fn words(self) -> usize {
+        match self {
+            Visited::WithJournal => 22,
+            Visited::WithSeed => 20,
+            Visited::WithNeither => 18,
+        }
+    }
+
+    /// Which two a pass leaves. Without a seed the first in key order go.
+    fn left(self) -> [&'static str; 2] {
+        match self {
+            Visited::WithJournal | Visited::WithSeed => ["i0", "i2"],
+            Visited::WithNeither => ["i2", "i3"],
+        }
+    }
+}
+
+/// A run of that server, at a machine with no file, and whether its clients see that these two are left.
 fn run_visited<R: Threads + Wait + Clock + Net<Listener = TcpListener, Stream = TcpStream> + Sync>(
     rt: &R,
     alloc: Global,
-    words: &[&str],
-    left: Left,
+    visited: Visited,
 ) -> (Ran, io::Result<bool>) {
     let place: Place = Mutex::new(None);
+    let words = SERVE.as_slice();
+    let words = &words[..visited.words().min(words.len())];
     let machine = prepared(rt, alloc, words, "", Broken::Nothing, &place);
-    let (status, seen) = thread::join(rt, || start(&machine), || visit(&machine, left));
+    let (status, seen) = thread::join(rt, || start(&machine), || visit(&machine, visited));
     (kept_by(machine, status), seen)
 }
 
 #[test]
 fn a_server_evicts_by_its_seed(rt: HostRuntime) -> Result<(), Fail> {
-    let (ran, seen) = run_visited(&rt, rt.alloc(), SERVE.as_slice(), Left::BySeed);
+    let (ran, seen) = run_visited(&rt, rt.alloc(), Visited::WithSeed);
     assert!(rt; seen?);
     assert!(rt; ran.status == 0);
     assert!(rt; ran.out.as_slice() == b"served 7\n".as_slice());
@@ -850,7 +862,7 @@ fn a_server_evicts_by_its_seed(rt: HostRuntime) -> Result<(), Fail> {
 
 #[test]
 fn a_server_without_a_seed_evicts_the_first(rt: HostRuntime) -> Result<(), Fail> {
-    let (ran, seen) = run_visited(&rt, rt.alloc(), &SERVE[..18], Left::TheLast);
+    let (ran, seen) = run_visited(&rt, rt.alloc(), Visited::WithNeither);
     assert!(rt; seen?);
     assert!(rt; ran.status == 0);
     assert!(rt; ran.out.as_slice() == b"served 7\n".as_slice());
@@ -859,9 +871,7 @@ fn a_server_without_a_seed_evicts_the_first(rt: HostRuntime) -> Result<(), Fail>
 
 #[test]
 fn a_server_with_a_journal_evicts_by_its_seed(rt: HostRuntime) -> Result<(), Fail> {
-    let mut words = Vec::from_slice(rt.alloc(), SERVE.as_slice())?;
-    words.extend_from_slice(["--journal", "kept.journal"].as_slice())?;
-    let (ran, seen) = run_visited(&rt, rt.alloc(), words.as_slice(), Left::BySeed);
+    let (ran, seen) = run_visited(&rt, rt.alloc(), Visited::WithJournal);
     assert!(rt; seen?);
     assert!(rt; ran.status == 0);
     assert!(rt; ran.out.as_slice() == b"served 7\n".as_slice());

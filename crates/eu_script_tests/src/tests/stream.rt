@@ -153,10 +153,109 @@ fn goes_well(kind: ErrorKind) -> (bool, bool, bool) {
     )
 }
 
+/// Each kind of error but an interruption.
+const FAILURES: [ErrorKind; 41] = [
+    ErrorKind::NotFound,
+    ErrorKind::PermissionDenied,
+    ErrorKind::ConnectionRefused,
+    ErrorKind::ConnectionReset,
+    ErrorKind::HostUnreachable,
+    ErrorKind::NetworkUnreachable,
+    ErrorKind::ConnectionAborted,
+    ErrorKind::NotConnected,
+    ErrorKind::AddrInUse,
+    ErrorKind::AddrNotAvailable,
+    ErrorKind::NetworkDown,
+    ErrorKind::BrokenPipe,
+    ErrorKind::AlreadyExists,
+    ErrorKind::WouldBlock,
+    ErrorKind::NotADirectory,
+    ErrorKind::IsADirectory,
+    ErrorKind::DirectoryNotEmpty,
+    ErrorKind::ReadOnlyFilesystem,
+    ErrorKind::FilesystemLoop,
+    ErrorKind::StaleNetworkFileHandle,
+    ErrorKind::InvalidInput,
+    ErrorKind::InvalidData,
+    ErrorKind::TimedOut,
+    ErrorKind::WriteZero,
+    ErrorKind::StorageFull,
+    ErrorKind::NotSeekable,
+    ErrorKind::QuotaExceeded,
+    ErrorKind::FileTooLarge,
+    ErrorKind::ResourceBusy,
+    ErrorKind::ExecutableFileBusy,
+    ErrorKind::Deadlock,
+    ErrorKind::CrossesDevices,
+    ErrorKind::TooManyLinks,
+    ErrorKind::InvalidFilename,
+    ErrorKind::ArgumentListTooLong,
+    ErrorKind::Unsupported,
+    ErrorKind::UnexpectedEof,
+    ErrorKind::OutOfMemory,
+    ErrorKind::InProgress,
+    ErrorKind::Other,
+    ErrorKind::Uncategorized,
+];
+
 #[test]
 fn an_interruption_alone_is_tried_again(rt: HostRuntime) {
     assert!(rt; goes_well(ErrorKind::Interrupted) == (true, true, true));
-    assert!(rt; goes_well(ErrorKind::WouldBlock) == (false, false, false));
+    for kind in FAILURES {
+        assert!(rt; goes_well(kind) == (false, false, false));
+    }
+}
+
+/// Is interrupted some times at first, takes nothing at the next write, and does well after that.
+#[derive(Drop)]
+struct Hesitating {
+    interruptions: usize,
+    takes_nothing: bool,
+}
+
+impl Write for Hesitating {
+    fn write(&mut self, bytes: &[u8]) -> io::Result<usize> {
+        self.flush()?;
+        if self.takes_nothing {
+            self.takes_nothing = false;
+            return Ok(0);
+        }
+        Ok(bytes.len())
+    }
+
+    fn flush(&mut self) -> io::Result<()> {
+        if self.interruptions > 0 {
+            self.interruptions -= 1;
+            return Err(Error::from(ErrorKind::Interrupted));
+        }
+        Ok(())
+    }
+}
+
+#[test]
+fn a_write_that_takes_nothing_is_a_failure_at_once(rt: HostRuntime) {
+    let mut writer = Hesitating {
+        interruptions: 1,
+        takes_nothing: true,
+    };
+    let mut writing = Writing::new(&mut writer);
+    assert!(rt; writing.write_some(b"ab") == Err(WriteFault));
+    assert!(rt; writing.has_failed());
+}
+
+/// What comes of a flush that is interrupted so often.
+fn flushed(interruptions: usize) -> Result<(), WriteFault> {
+    let mut writer = Hesitating {
+        interruptions,
+        takes_nothing: false,
+    };
+    Writing::new(&mut writer).flush()
+}
+
+#[test]
+fn a_flush_is_tried_as_often_as_a_write(rt: HostRuntime) {
+    assert!(rt; flushed(15) == Ok(()));
+    assert!(rt; flushed(16) == Err(WriteFault));
 }
 
 /// Whether a writer with room for so many bytes takes the whole of six, or takes a front and fails, and is flushed only with room left.

@@ -4,7 +4,7 @@ ghost use Rattle.eu_framing.specs.Target.{path_of, query_of};
 ghost use Rattle.eu_routes.specs.Route.{route_of};
 
 use eu_base::Fault;
-use eu_framing::{Request, read_request};
+use eu_framing::{EMPTY_PIECE, Request, read_request};
 use eu_routes::Routes;
 use std::alloc::Global;
 
@@ -26,9 +26,10 @@ fn has_route(alloc: Global, routes: &Routes, request: &Request) -> bool
 fn count_once(alloc: Global, routes: &Routes, bytes: &[u8]) -> Result<u64, Fault> {
     let mut reader = bytes;
     let mut buffer = Vec::new(alloc);
+    let mut piece = EMPTY_PIECE;
     let mut routed = 0u64;
     'requests: for _request in 0..u64::MAX {
-        match read_request(alloc, &mut reader, &mut buffer)? {
+        match read_request(alloc, &mut reader, &mut buffer, &mut piece)? {
             None => break,
             Some(request) if has_route(alloc, routes, &request) => routed = routed.saturating_add(
                 1,

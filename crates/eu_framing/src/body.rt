@@ -4,7 +4,7 @@ ghost use Rattle.eu_framing.specs.Fields.{IsWithin};
 ghost use Rattle.eu_framing.specs.Message.{ReadsSized, BreaksSized, ReadsBody, BreaksBody, max_head};
 ghost use Rattle.eu_framing.specs.Reading.{Grows, Blames};
 
-use crate::buffer::fill_to;
+use crate::buffer::{Piece, fill_to};
 use crate::chunks::read_chunked;
 use crate::fields::Framing;
 use eu_base::Fault;
@@ -18,6 +18,7 @@ fn read_sized<R: Source>(
     alloc: Global,
     reader: &mut R,
     buffer: &mut Vec<u8>,
+    piece: &mut Piece,
     start: usize,
     len: usize,
 ) -> Result<(Vec<u8>, usize), Fault>
@@ -32,7 +33,7 @@ fn read_sized<R: Source>(
     ensures same_stream { R.stream reader.new ≡ R.stream reader.old }
 {
     let end = start + len;
-    if !fill_to(reader, buffer, end)? {
+    if !fill_to(reader, buffer, piece, end)? {
         return Err(Fault::BadLength);
     }
     Ok((Vec::from_slice(alloc, &buffer[start..end])?, end))
@@ -45,6 +46,7 @@ pub fn read_body<R: Source>(
     alloc: Global,
     reader: &mut R,
     buffer: &mut Vec<u8>,
+    piece: &mut Piece,
     start: usize,
     framing: Framing,
 ) -> Result<(Vec<u8>, usize), Fault>
@@ -60,7 +62,7 @@ pub fn read_body<R: Source>(
 {
     match framing {
         Framing::NoBody => Ok((Vec::new(alloc), start)),
-        Framing::Sized(len) => read_sized(alloc, reader, buffer, start, len as usize),
-        Framing::Chunked => read_chunked(alloc, reader, buffer, start),
+        Framing::Sized(len) => read_sized(alloc, reader, buffer, piece, start, len as usize),
+        Framing::Chunked => read_chunked(alloc, reader, buffer, piece, start),
     }
 }

@@ -6,13 +6,21 @@ ghost use Rattle.eu_framing.specs.Reading.{Grows, Fails};
 use eu_base::Fault;
 use eu_stream::Source;
 
-/// So many bytes are read at once, at most.
-const PIECE: usize = 4096;
+/// Room for the bytes that come with one read. What it holds before and after doesn't matter: it is only kept from read to read,
+/// so that it needn't be made for each.
+pub type Piece = [u8; 4096];
+
+/// A piece that holds nothing yet.
+pub const EMPTY_PIECE: Piece = [0u8; 4096];
 
 /// Reads once, to the end of the buffer, and tells how many bytes came: none only at the end.
 ///
 /// `Read` comes where a read failed, and `OutOfMemory` where there was no memory for what came.
-pub fn fill<R: Source>(reader: &mut R, buffer: &mut Vec<u8>) -> Result<usize, Fault>
+pub fn fill<R: Source>(
+    reader: &mut R,
+    buffer: &mut Vec<u8>,
+    piece: &mut Piece,
+) -> Result<usize, Fault>
     ensures grows { OnOk result (Grows (R.remaining reader.old) (R.failed reader.old) buffer.old.items (R.remaining reader.new) (R.failed reader.new) buffer.new.items) }
     ensures count { IfOk result (λ n. vec_len buffer.new ≡ vec_len buffer.old + n) }
     ensures end { IfOk result (λ n. n ≡ 0 → IsAtEnd (R.remaining reader.new)) }
@@ -20,8 +28,7 @@ pub fn fill<R: Source>(reader: &mut R, buffer: &mut Vec<u8>) -> Result<usize, Fa
     ensures told { IfErr result (λ fault. fault ≢ Fault.Read → R.failed reader.new ≡ R.failed reader.old) }
     ensures same_stream { R.stream reader.new ≡ R.stream reader.old }
 {
-    let mut piece = [0u8; PIECE];
-    match reader.read_some(&mut piece) {
+    match reader.read_some(piece) {
         Ok(count) => {
             buffer.extend_from_slice(&piece[..count])?;
             Ok(count)
@@ -36,6 +43,7 @@ pub fn fill<R: Source>(reader: &mut R, buffer: &mut Vec<u8>) -> Result<usize, Fa
 pub fn fill_to<R: Source>(
     reader: &mut R,
     buffer: &mut Vec<u8>,
+    piece: &mut Piece,
     wanted: usize,
 ) -> Result<bool, Fault>
     ensures grows { OnOk result (Grows (R.remaining reader.old) (R.failed reader.old) buffer.old.items (R.remaining reader.new) (R.failed reader.new) buffer.new.items) }
@@ -47,7 +55,7 @@ pub fn fill_to<R: Source>(
     ensures same_stream { R.stream reader.new ≡ R.stream reader.old }
 {
     'reads: while buffer.len() < wanted {
-        if fill(reader, buffer)? == 0 {
+        if fill(reader, buffer, piece)? == 0 {
             return Ok(false);
         }
     }
@@ -68,5 +76,7 @@ pub fn drop_front(buffer: &mut Vec<u8>, used: usize)
     requires { used ≤ vec_len buffer.old }
     ensures { buffer.new.items ≡ drop used buffer.old.items }
 {
-    buffer.drain(..used);
+    let left = buffer.len() - used;
+    buffer.copy_within(used.., 0);
+    buffer.truncate(left);
 }

@@ -10,7 +10,7 @@ ghost use Rattle.eu_framing.specs.Scanning.{LineEndsAfter};
 ghost use Rattle.eu_framing.specs.Steps.{FindsLine};
 ghost use Rattle.eu_framing.specs.ChunkSteps.{TakesStep, TakesChunks};
 
-use crate::buffer::{fill, fill_to, window};
+use crate::buffer::{Piece, fill, fill_to, window};
 use crate::trailer::find_trailer;
 use crate::{MAX_BODY, MAX_RAW};
 use eu_base::Fault;
@@ -95,6 +95,7 @@ fn full_line(buffer: &[u8], start: usize, room: usize) -> Result<(usize, u64), F
 fn find_line<R: Source>(
     reader: &mut R,
     buffer: &mut Vec<u8>,
+    piece: &mut Piece,
     start: usize,
     room: usize,
 ) -> Result<(usize, u64), Fault>
@@ -115,7 +116,7 @@ fn find_line<R: Source>(
             None => {}
         }
         seen = buffer.len();
-        if fill(reader, buffer)? == 0 {
+        if fill(reader, buffer, piece)? == 0 {
             return last_line(buffer, start, room);
         }
     }
@@ -136,6 +137,7 @@ fn has_line_end(buffer: &[u8], at: usize) -> bool
 fn take_data<R: Source>(
     reader: &mut R,
     buffer: &mut Vec<u8>,
+    piece: &mut Piece,
     body: &mut Vec<u8>,
     start: usize,
     room: usize,
@@ -152,7 +154,7 @@ fn take_data<R: Source>(
     ensures told { IfErr result (λ fault. fault ≢ Fault.Read → R.failed reader.new ≡ R.failed reader.old) }
     ensures same_stream { R.stream reader.new ≡ R.stream reader.old }
 {
-    if !fill_to(reader, buffer, start + room.min(size + 2))? {
+    if !fill_to(reader, buffer, piece, start + room.min(size + 2))? {
         return Err(Fault::BadChunk);
     }
     if size + 2 > room {
@@ -172,6 +174,7 @@ fn take_data<R: Source>(
 fn take_chunk<R: Source>(
     reader: &mut R,
     buffer: &mut Vec<u8>,
+    piece: &mut Piece,
     body: &mut Vec<u8>,
     start: usize,
     room: usize,
@@ -185,7 +188,7 @@ fn take_chunk<R: Source>(
     ensures told { IfErr result (λ fault. fault ≢ Fault.Read → R.failed reader.new ≡ R.failed reader.old) }
     ensures same_stream { R.stream reader.new ≡ R.stream reader.old }
 {
-    let (len, size) = find_line(reader, buffer, start, room)?;
+    let (len, size) = find_line(reader, buffer, piece, start, room)?;
     if size == 0 {
         return Ok(Step::Last(len));
     }
@@ -193,7 +196,7 @@ fn take_chunk<R: Source>(
         return Err(Fault::BodyTooLong);
     }
     let size = size as usize;
-    take_data(reader, buffer, body, start + len, room - len, size)?;
+    take_data(reader, buffer, piece, body, start + len, room - len, size)?;
     Ok(Step::Chunk(len + size + 2))
 }
 
@@ -203,6 +206,7 @@ fn take_chunk<R: Source>(
 fn take_chunks<R: Source>(
     reader: &mut R,
     buffer: &mut Vec<u8>,
+    piece: &mut Piece,
     body: &mut Vec<u8>,
     start: usize,
 ) -> Result<(usize, usize), Fault>
@@ -217,7 +221,7 @@ fn take_chunks<R: Source>(
 {
     let mut at = start;
     'chunks: loop {
-        match take_chunk(reader, buffer, body, at, MAX_RAW - (at - start))? {
+        match take_chunk(reader, buffer, piece, body, at, MAX_RAW - (at - start))? {
             Step::Chunk(len) => at += len,
             Step::Last(len) => return Ok((at, len)),
         }
@@ -231,6 +235,7 @@ pub fn read_chunked<R: Source>(
     alloc: Global,
     reader: &mut R,
     buffer: &mut Vec<u8>,
+    piece: &mut Piece,
     start: usize,
 ) -> Result<(Vec<u8>, usize), Fault>
     requires within { start ≤ vec_len buffer.old }
@@ -243,8 +248,8 @@ pub fn read_chunked<R: Source>(
     ensures same_stream { R.stream reader.new ≡ R.stream reader.old }
 {
     let mut body = Vec::new(alloc);
-    let (at, len) = take_chunks(reader, buffer, &mut body, start)?;
+    let (at, len) = take_chunks(reader, buffer, piece, &mut body, start)?;
     let behind = at + len;
-    let trailer = find_trailer(reader, buffer, behind, MAX_RAW - (behind - start))?;
+    let trailer = find_trailer(reader, buffer, piece, behind, MAX_RAW - (behind - start))?;
     Ok((body, behind + trailer))
 }

@@ -9,7 +9,7 @@ ghost use Rattle.eu_framing.specs.Scanning.{IsAt, HeadEndsAfter};
 ghost use Rattle.eu_framing.specs.Steps.{HasHeadAt, blank_lines};
 
 use crate::MAX_HEAD;
-use crate::buffer::{fill, window};
+use crate::buffer::{Piece, fill, window};
 use crate::scan::Scan;
 use eu_base::Fault;
 use eu_stream::Source;
@@ -104,6 +104,7 @@ fn full_head(buffer: &[u8], spans: &mut [HeaderSpan]) -> Result<Option<RequestSp
 pub fn find_head<R: Source>(
     reader: &mut R,
     buffer: &mut Vec<u8>,
+    piece: &mut Piece,
     spans: &mut [HeaderSpan],
 ) -> Result<Option<RequestSpans>, Fault>
     requires { length spans.old ≡ max_fields }
@@ -121,7 +122,7 @@ pub fn find_head<R: Source>(
             Some(head) => return Ok(Some(head)),
             None => {}
         }
-        if fill(reader, buffer)? == 0 {
+        if fill(reader, buffer, piece)? == 0 {
             return last_head(buffer, spans);
         }
     }

@@ -16,6 +16,7 @@ mod request;
 mod scan;
 mod trailer;
 
+pub use buffer::{EMPTY_PIECE, Piece};
 pub use law::one_request_at_most;
 pub use request::{Request, read_request};
 

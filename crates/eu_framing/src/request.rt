@@ -13,7 +13,7 @@ ghost use Rattle.eu_framing.specs.Target.{path_of, query_of};
 ghost use Rattle.eu_framing.specs.Stream.{pending, Between, OfBytes};
 
 use crate::body::read_body;
-use crate::buffer::{drop_front, window};
+use crate::buffer::{Piece, drop_front, window};
 use crate::fields::{Framing, find_closes, find_framing, find_replicated};
 use crate::head::find_head;
 use crate::{MAX_FIELDS, MAX_HEAD};
@@ -113,6 +113,7 @@ fn next_head<R: Source>(
     alloc: Global,
     reader: &mut R,
     buffer: &mut Vec<u8>,
+    piece: &mut Piece,
 ) -> Result<Option<Head>, Fault>
     ensures grows { OnOk result (Grows (R.remaining reader.old) (R.failed reader.old) buffer.old.items (R.remaining reader.new) (R.failed reader.new) buffer.new.items) }
     ensures found { IfOk result (λ found. FindsHead found buffer.new.items) }
@@ -123,7 +124,7 @@ fn next_head<R: Source>(
     ensures same_stream { R.stream reader.new ≡ R.stream reader.old }
 {
     let mut spans = [EMPTY_HEADER_SPAN; MAX_FIELDS];
-    match find_head(reader, buffer, &mut spans)? {
+    match find_head(reader, buffer, piece, &mut spans)? {
         None => Ok(None),
         Some(found) => Ok(Some(copy_head(alloc, window(buffer, 0, MAX_HEAD), &spans, &found)?)),
     }
@@ -133,7 +134,7 @@ fn next_head<R: Source>(
 ///
 /// `buffer` holds bytes that were read and not yet used; they come first. Those that the request doesn't use are left in it, so
 /// the next call goes on with them. Where there is no request, it is as it was, with what was read behind it. No byte behind
-/// the request is waited for.
+/// the request is waited for. `piece` is room for a read; what it holds doesn't matter.
 ///
 /// A head is what `httparse` reads, with empty lines before it (RFC 9112, sections 2 to 5). The end is that of the bytes,
 /// before a head or after empty lines alone. Of the faults, the first that is met comes:
@@ -155,6 +156,7 @@ pub fn read_request<R: Source>(
     alloc: Global,
     reader: &mut R,
     buffer: &mut Vec<u8>,
+    piece: &mut Piece,
 ) -> Result<Option<Request>, Fault>
     ensures found { IfOk result (λ next. Between (pending buffer.old.items (R.remaining reader.old)) (pending buffer.new.items (R.remaining reader.new)) (FindsNext next)) }
     ensures fault { IfErr result (λ fault. Interrupts (R.failed reader.new) (pending buffer.old.items (R.remaining reader.old)) (pending buffer.new.items (R.remaining reader.new)) buffer.new.items fault ⊎ OfBytes (pending buffer.old.items (R.remaining reader.old)) (λ bytes. IsFault bytes fault)) }
@@ -162,10 +164,10 @@ pub fn read_request<R: Source>(
     ensures told { IfErr result (λ fault. fault ≢ Fault.Read → R.failed reader.new ≡ R.failed reader.old) }
     ensures same_stream { R.stream reader.new ≡ R.stream reader.old }
 {
-    match next_head(alloc, reader, buffer)? {
+    match next_head(alloc, reader, buffer, piece)? {
         None => Ok(None),
         Some(head) => {
-            let (body, used) = read_body(alloc, reader, buffer, head.len, head.framing)?;
+            let (body, used) = read_body(alloc, reader, buffer, piece, head.len, head.framing)?;
             drop_front(buffer, used);
             Ok(Some(Request {
                 method: head.method,

@@ -8,7 +8,7 @@ ghost use Rattle.eu_framing.specs.Reading.{Grows, Blames};
 ghost use Rattle.eu_framing.specs.Scanning.{IsAt, TrailerEndsAfter};
 ghost use Rattle.eu_framing.specs.ChunkSteps.{FindsTrailer, lines_in, long_trailer_fault};
 
-use crate::buffer::{fill, window};
+use crate::buffer::{Piece, fill, window};
 use crate::scan::Scan;
 use crate::{MAX_FIELDS, MAX_TRAILER};
 use eu_base::Fault;
@@ -123,6 +123,7 @@ fn full_trailer(
 pub fn find_trailer<R: Source>(
     reader: &mut R,
     buffer: &mut Vec<u8>,
+    piece: &mut Piece,
     start: usize,
     room: usize,
 ) -> Result<usize, Fault>
@@ -142,7 +143,7 @@ pub fn find_trailer<R: Source>(
             Some(len) => return Ok(len),
             None => {}
         }
-        if fill(reader, buffer)? == 0 {
+        if fill(reader, buffer, piece)? == 0 {
             return last_trailer(buffer, start, room, &mut spans);
         }
     }

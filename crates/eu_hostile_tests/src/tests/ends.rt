@@ -3,7 +3,7 @@ ghost use Rattle.std.specs.Prelude.{None};
 
 use crate::tests::fakes::Shaky;
 use eu_base::Fault;
-use eu_framing::read_request;
+use eu_framing::{EMPTY_PIECE, read_request};
 use eu_stream::{ReadFault, Source};
 use std::alloc::Global;
 
@@ -116,7 +116,8 @@ impl Source for Split<'_> {
 /// The fault of the first request of a reader.
 fn fault_by<R: Source + Drop>(alloc: Global, mut reader: R) -> Option<Fault> {
     let mut buffer = Vec::new(alloc);
-    match read_request(alloc, &mut reader, &mut buffer) {
+    let mut piece = EMPTY_PIECE;
+    match read_request(alloc, &mut reader, &mut buffer, &mut piece) {
         Err(fault) => Some(fault),
         _ => None,
     }

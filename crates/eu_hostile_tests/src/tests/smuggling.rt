@@ -2,7 +2,7 @@
 use crate::tests::fakes::{Brittle, Noting, Shaky, serve};
 use crate::tests::tables::{CHUNKS, CODINGS, DIFFERENCES, FIELDS, LENGTHS, LINES, Row, TARGETS};
 use eu_base::Fault;
-use eu_framing::{Request, read_request};
+use eu_framing::{EMPTY_PIECE, Piece, Request, read_request};
 use eu_routes::Routes;
 use eu_stream::Source;
 use std::alloc::{AllocError, Global};
@@ -85,9 +85,10 @@ fn add_next<R: Source>(
     alloc: Global,
     reader: &mut R,
     buffer: &mut Vec<u8>,
+    piece: &mut Piece,
     made: &mut Made,
 ) -> Result<bool, AllocError> {
-    match read_request(alloc, reader, buffer) {
+    match read_request(alloc, reader, buffer, piece) {
         Ok(Some(request)) => {
             let closes = request.closes;
             let added = add_request(made, &request);
@@ -109,8 +110,9 @@ fn add_next<R: Source>(
 /// Adds all requests of a reader, of which no message has more than eight.
 fn add_all<R: Source>(alloc: Global, reader: &mut R, made: &mut Made) -> Result<(), AllocError> {
     let mut buffer = Vec::new(alloc);
+    let mut piece = EMPTY_PIECE;
     for _ in 0..9 {
-        if !add_next(alloc, reader, &mut buffer, made)? {
+        if !add_next(alloc, reader, &mut buffer, &mut piece, made)? {
             return Ok(());
         }
     }

@@ -32,7 +32,7 @@ fn fill(alloc: Global, registry: &mut Registry, count: u32) -> Result<(), Fault>
     let moment = Moment::new(0).ok_or(Fault::BadValue)?;
     for number in 0..count {
         let instance = newcomer(alloc, number)?;
-        let reply = registry.register(alloc, instance, false, moment)?;
+        let reply = registry.register(alloc, &instance, false, moment)?;
         drop(reply);
     }
     Ok(())

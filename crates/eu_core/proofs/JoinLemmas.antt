@@ -1,21 +1,20 @@
--- What a registration writes is what the definitions say
-use Rattle.std.proofs.Common.{◌≡◌, ℕ, Bool, true, false, List, refl, sym, ap, ◌∙◌, arith, ◌<◌, ◌≤◌}
+-- What is decided of a registration is the rule book's change
+use Rattle.std.proofs.Common.{◌≡◌, ℕ, Bool, true, false, refl, sym, ap, ◌∙◌, arith, ◌<◌, ◌≤◌}
 use Rattle.std.proofs.lemmas.Bool.Decides.{nat_tests}
-use Rattle.std.specs.Prelude.{if◌then◌else◌, Option, Some, None, unwrap_or, nat_lt, IsSomeAnd}
+use Rattle.std.specs.Prelude.{if◌then◌else◌, Option, Some, None, unwrap_or, nat_lt, is_some, not}
 use Rattle.std.specs.Option.{option_map, option_map_or}
-use Rattle.std.specs.FinMap.{FinMap, insert}
 use Rattle.eu_base.specs.declared.statuses.Status.{Status}
-use Rattle.eu_base.specs.declared.names.Key.{Key}
 use Rattle.eu_base.specs.declared.instances.Instance.{Instance}
-use Rattle.eu_base.specs.Key.{name_cmp, key_cmp}
 use Rattle.eu_base.proofs.InstanceLemmas.{Data, data_of}
 use Rattle.eu_model.specs.declared.views.Listed.{Listed}
 use Rattle.eu_model.specs.declared.views.Times.{Times}
 use Rattle.eu_model.specs.Override.{rule, is_status}
 use Rattle.eu_model.specs.Change.{newer, row_after, under_row, up_after}
-use Rattle.eu_model.specs.Maps.{with_value}
+use Rattle.eu_model.specs.declared.commands.Reply.TheVariants.{Registered}
 use Rattle.eu_model.specs.Kept.{kept_register}
-use Rattle.eu_eviction.specs.Rows.{with_put, with_row}
+use Rattle.eu_meter.specs.Meter.{Counted, Expectation}
+use Rattle.eu_core.specs.declared.decision.Decision.{Decision}
+use Rattle.eu_core.specs.Decided.{lease_left}
 use Rattle.eu_core.specs.Joins.{Joins}
 use Rattle.eu_store.proofs.ListedLemmas.{same_listed}
 
@@ -57,41 +56,38 @@ pub lease_joined : (held : Option Listed) (row : Option Status) (n : Instance) (
 lease_joined None row n replicated t x d e = ap Some (one_lease n row None replicated 0 t x d e)
 lease_joined (Some l) row n replicated t x d e = ap Some (one_lease (newer (Some l.instance) n) row (Some l.instance.status) replicated l.times.up t x d e)
 
+pub reply_joined : (held : Option Listed) (row : Option Status) (e : ℕ) (n : Instance) (r : Bool) (t : ℕ) → (kept_register held row e n r t).reply ≡ Registered (not (is_some held))
+reply_joined None row e n r t = refl
+reply_joined (Some l) row e n r t = refl
+
 pub row_joined : (held : Option Listed) (row : Option Status) (n : Instance) (replicated : Bool) (t : ℕ) →
     row_after row (chosen held n).overridden ≡ (kept_register held row 0 n replicated t).row
 row_joined None row n replicated t = refl
 row_joined (Some l) row n replicated t = refl
 
--- from what the calls ensure: j is the instance that was chosen
-module _ (L L' : FinMap key_cmp Listed) (O O1 O' : FinMap name_cmp Status) (n j : Instance) (replicated : Bool) (t : ℕ) (held : Option Listed) (x : Listed) (row settled_row : Option Status) (status overridden : Status) (put : Option (List ℕ × Status)) where
-  pub joins_from : j ≡ chosen held n
-      → settled_row ≡ row_after row j.overridden
+-- from what the calls find: j is the instance that was chosen
+module _ (d : Decision) (expected : Expectation) (counts : Counted) (n j : Instance) (replicated : Bool) (t : ℕ) (held : Option Listed) (x : Listed) (row : Option Status) (status overridden : Status) where
+  pub joins_from : lease_left d.lease held ≡ Some x → d.threshold ≡ expected → d.rate ≡ counts → d.reply ≡ Registered (not (is_some held))
+      → j ≡ chosen held n
+      → d.row ≡ row_after row j.overridden
       → overridden ≡ unwrap_or (row_after row j.overridden) j.overridden
       → status ≡ rule j.status (row_after row j.overridden) (held_status held) replicated
       → data_of x.instance ≡ (j.key, status, overridden, j.dirty, j.secs, j.interval, j.rest)
       → x.times ≡ record { registered = t; updated = t; up = up_after (held_up held) status t }
-      → L' ≡ insert L n.key x
-      → with_put O put ≡ with_row O n.key.id settled_row → O1 ≡ O → O' ≡ with_put O1 put
-      → Joins L L' O O' n held row replicated t
-  joins_from chose is_settled is_overridden is_status d e l is_put o1 o =
+      → Joins d held row expected counts n replicated t
+  joins_from leaves is_expected is_counted is_reply chose is_row is_overridden is_status facts_are times_are =
       let facts : ◌≡◌ {A = Data} (j.key, status, overridden, j.dirty, j.secs, j.interval, j.rest) (joined_data j row (held_status held) replicated) = λ i. (j.key, is_status i, is_overridden i, j.dirty, j.secs, j.interval, j.rest) in
       let times : ◌≡◌ {A = Times} (record { registered = t; updated = t; up = up_after (held_up held) status t }) (joined_times j row (held_status held) replicated (held_up held) t) =
       λ i. record { registered = t; updated = t; up = up_after (held_up held) (is_status i) t } in
       record {
-        lease = l ∙ ap (with_value L n.key) (lease_joined held row n replicated t x
-            (d ∙ facts ∙ ap (λ k. joined_data k row (held_status held) replicated) chose)
-            (e ∙ times ∙ ap (λ k. joined_times k row (held_status held) replicated (held_up held) t) chose));
-        row = o ∙ ap (λ w. with_put w put) o1 ∙ is_put
-            ∙ ap (with_row O n.key.id) (is_settled ∙ ap (λ (k : Instance). row_after row k.overridden) chose ∙ row_joined held row n replicated t);
+        lease = leaves ∙ lease_joined held row n replicated t x
+            (facts_are ∙ facts ∙ ap (λ k. joined_data k row (held_status held) replicated) chose)
+            (times_are ∙ times ∙ ap (λ k. joined_times k row (held_status held) replicated (held_up held) t) chose);
+        row_is = is_row ∙ ap (λ (k : Instance). row_after row k.overridden) chose ∙ row_joined held row n replicated t;
+        expected_is = is_expected;
+        counted_is = is_counted;
+        reply = is_reply ∙ sym (reply_joined held row 0 n replicated t);
       }
-
--- a lease that was put where room was made, at a copy of the key
-pub put_at : (L L1 L' : FinMap key_cmp Listed) (k k' : Key) (x : Listed) → L' ≡ insert L1 k' x → L1 ≡ L → k' ≡ k → L' ≡ insert L k x
-put_at L L1 L' k k' x put room copy = put ∙ (λ i. insert (room i) (copy i) x)
-
-pub some_and : {A : Type 0} (P : A → Type 0) (o : Option A) → IsSomeAnd o P → (x : A) × (o ≡ Some x) × P x
-some_and P None h = absurd h
-some_and P (Some x) h = (x, refl, h)
 
 -- the newcomer is taken on a tie
 pub chosen_over : (l : Listed) (n : Instance) → l.instance.dirty ≤ n.dirty → n ≡ chosen (Some l) n

@@ -1,10 +1,9 @@
 pub mod RowLemmas
+pub mod DecidedLemmas
 pub mod JoinLemmas
 pub mod RegisterLemmas
 pub mod AdoptLemmas
 pub mod RenewLemmas
-pub mod StatusLemmas
-pub mod CancelLemmas
 pub mod LookLemmas
 pub mod PassLemmas
 pub mod StepLemmas

@@ -1,17 +1,23 @@
 -- What a look at a lease gives, and what is listed, is what the machine shows
-use Rattle.std.proofs.Common.{◌≡◌, ℕ, List, Result, Ok, Err, IfOk, sym, ap, ◌∙◌}
-use Rattle.std.specs.Prelude.{Option}
+use Rattle.std.proofs.Common.{◌≡◌, ℕ, Bool, true, false, List, Result, Ok, Err, IfOk, sym, ap, ◌∙◌}
+use Rattle.std.specs.Prelude.{cond, ◌&&◌, Option, Some, None}
 use Rattle.eu_base.specs.declared.names.Key.{Key}
 use Rattle.eu_model.specs.declared.views.Listed.{Listed}
 use Rattle.eu_model.specs.Plain.{Plain}
 use Rattle.eu_model.specs.View.{one, listing}
 use Rattle.eu_model.specs.Answers.{Shows}
-use Rattle.eu_model.specs.Kept.{kept_one, kept_listing}
+use Rattle.eu_model.specs.Kept.{kept_expired, kept_listing, kept_one, kept_seen}
 use Rattle.eu_model.proofs.SeenLemmas.{one-kept}
 use Rattle.eu_model.proofs.ListingLemmas.{listing_shown}
 use Rattle.eu_store.specs.Stored.{listing_of}
 use Rattle.eu_core.specs.declared.registry.Registry.TheInside.{Inside}
 use Rattle.eu_core.specs.Registry.{plain_of}
+
+-- what is seen is held
+pub seen_held : (b : Bool) (t : ℕ) (o : Option Listed) (l : Listed) → Some l ≡ kept_seen b t o → o ≡ Some l
+seen_held b t None l e = sym e
+seen_held b t (Some m) l e =
+    elim (b && kept_expired m t 0) as (λ x. Some l ≡ cond x None (Some m) → Some m ≡ Some l) [ true ↦ λ h. cc | false ↦ λ h. sym h ] e
 
 pub shows : (p : Plain) (k : Key) (t : ℕ) (value : Option Listed) → value ≡ kept_one p k t → Shows p (λ s. one s k t) value
 shows p k t value is s e = is ∙ ap (λ (x : Plain). kept_one x k t) (sym e) ∙ sym (one-kept s k t)

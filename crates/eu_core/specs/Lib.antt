@@ -4,3 +4,4 @@ pub mod Shown
 pub mod Evicts
 pub mod Stepped
 pub mod State
+pub mod Decided

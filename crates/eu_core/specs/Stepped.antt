@@ -1,9 +1,9 @@
 -- What a step gives: so many equal replies, and so many copies of the instance that is held after it
-use Rattle.std.specs.Prelude.{◌≡◌, ℕ, Bool, true, false, nat_lt, if◌then◌else◌, List, [], length, replicate, Option, Some, None, Ok, All}
+use Rattle.std.specs.Prelude.{◌≡◌, ℕ, List, [], replicate, Option, Some, None, Ok}
 use Rattle.eu_base.specs.declared.names.Key.{Key}
 use Rattle.eu_base.specs.declared.instances.Instance.{Instance}
 use Rattle.eu_model.specs.declared.commands.Command.{Command}
-use Rattle.eu_model.specs.declared.commands.Command.TheVariants.{Renew, SetStatus, UnsetStatus, Evict}
+use Rattle.eu_model.specs.declared.commands.Command.TheVariants.{Evict}
 use Rattle.eu_model.specs.declared.commands.Reply.{Reply}
 use Rattle.eu_model.specs.declared.commands.Reply.TheVariants.{Evicted}
 use Rattle.eu_model.specs.Plain.{Plain, held_under}
@@ -37,27 +37,3 @@ Chooses asks old x _ t reply x' = x' ≡ x
 pub record Steps {S : Type 0} (asks : Asks S) (old : Plain) (x : S) (c : Command) (t : ℕ) (n m : ℕ) (replies : List Reply) (instances : List Instance) (new : Plain) (x' : S) : Type 0 where
   pub acts : Acts old c t n m replies instances new
   pub chooses : Chooses asks old x c t acts.reply x'
-
--- ---- on the way to a step
-
--- it amends a lease
-abbrev pub amends : Command → Bool
-amends (Renew k dirty overridden replicated) = true
-amends (SetStatus k status dirty replicated) = true
-amends (UnsetStatus k suggested dirty replicated) = true
-amends _ = false
-
--- instances that are alike but for statuses, stamp, duration and interval: a step on a lease changes no more of its instance
-pub record AreAlike (i j : Instance) : Type 0 where
-  pub key : i.key ≡ j.key
-  pub rest : i.rest ≡ j.rest
-
--- so many instances that are like this one, where there is one
-abbrev pub AreOf : ℕ → List Instance → Option Instance → Type 0
-AreOf m instances None = instances ≡ []
-AreOf m instances (Some i) = (length instances ≡ m) × All (λ j. AreAlike j i) instances
-
--- the instance that a registration keeps, but for statuses and duration: the held one, where its stamp is strictly greater
-abbrev pub taken : Option Instance → Instance → Instance
-taken None n = n
-taken (Some h) n = if nat_lt n.dirty h.dirty then h else n

@@ -1,39 +1,22 @@
-//! What a registration writes into leases and rows.
-ghost use Rattle.std.specs.Prelude.{◌≡◌, ◌<◌, ◌≤◌, IsSomeAnd, IfErr, OnOk, OnErr, None, Some};
+//! What a registration decides.
+ghost use Rattle.std.specs.Prelude.{◌≡◌, ◌<◌, ◌≤◌, IfOk, None, Some};
 ghost use Rattle.std.specs.FinMap as map;
+ghost use Rattle.std.specs.FinMap.{FinMap};
+ghost use Rattle.std.specs.Option.{option_copied};
+ghost use Rattle.eu_base.specs.Key.{key_cmp};
+ghost use Rattle.eu_model.specs.declared.views.Listed.{Listed};
 ghost use Rattle.eu_model.specs.Change.{up_after};
-ghost use Rattle.eu_core.specs.Joins.{IsPart, IsRead, Joins};
+ghost use Rattle.eu_core.specs.Decided.{IsNew, IsOf};
+ghost use Rattle.eu_core.specs.Joins.{Joins};
 
+use crate::decide::Known;
+use crate::decision::{Decision, LeaseChange};
 use crate::statuses::settle;
-use eu_base::{Fault, Instance, Key, Moment, Status};
-use eu_eviction::Overrides;
+use eu_base::{Instance, Moment, Status};
 use eu_lease::Lease;
-use eu_store::{Held, Leases};
+use eu_model::Reply;
+use eu_store::Held;
 use std::alloc::{AllocError, Global};
-
-/// What is read of a held lease.
-#[derive(Clone, Copy, Debug)]
-pub struct HeldPart {
-    pub status: Status,
-    pub overridden: Status,
-    pub dirty: u64,
-    pub lease: Lease,
-}
-
-/// What is read of the lease of that key, if it is held.
-pub fn held_part(leases: &Leases, key: &Key) -> Option<HeldPart>
-    ensures read { IsRead result (map.get leases.now.held key.now) }
-{
-    match leases.get(key) {
-        Some(held) => Some(HeldPart {
-            status: held.instance().status,
-            overridden: held.instance().overridden,
-            dirty: held.instance().dirty,
-            lease: held.lease(),
-        }),
-        None => None,
-    }
-}
 
 /// A lease that begins with its instance in this status.
 fn begun(mut lease: Lease, status: Status, moment: Moment) -> Lease
@@ -46,131 +29,131 @@ fn begun(mut lease: Lease, status: Status, moment: Moment) -> Lease
     lease
 }
 
-/// Registers an instance whose key isn't held, where the id has this row.
-///
-/// A refusal, for want of memory, leaves leases and rows as they were.
-pub fn join_new(
-    leases: &mut Leases,
-    rows: &mut Overrides,
+/// A registration (`AbstractInstanceRegistry.register`), where as many clients are expected as with this one. `AllocError` where no
+/// memory is left.
+pub fn decide_join(
     alloc: Global,
-    mut instance: Instance,
-    row: Option<Status>,
+    instance: &Instance,
+    held: Option<&Held>,
+    known: Known,
     replicated: bool,
     moment: Moment,
-) -> Result<(), Fault>
-    requires absent { map.get leases.old.held instance.key ≡ None }
-    requires roomy { map.len leases.old.held < 65536 }
-    ensures ok { OnOk result (Joins leases.old.held leases.new.held rows.old.rows rows.new.rows instance None row replicated moment) }
-    ensures err_leases { OnErr result (leases.new.held ≡ leases.old.held) }
-    ensures err_rows { OnErr result (rows.new.rows ≡ rows.old.rows) }
-    ensures no_other { IfErr result (λ f. f ≡ Fault.OutOfMemory) }
+) -> Result<Decision, AllocError>
+    ensures joins { IfOk result (λ d. Joins d (option_copied held.entry) known.row known.threshold known.rate instance.now replicated moment) }
+    ensures of { IfOk result (λ d. IsOf instance.now.key d.lease) }
+    ensures new { IfOk result (λ d. (leases : FinMap key_cmp Listed) → option_copied held.entry ≡ map.get leases instance.now.key → (option_copied held.entry ≡ None → map.len leases < 65536) → IsNew leases d.lease) }
 {
-    let settled = settle(instance.status, instance.overridden, row, None, replicated);
-    let put = rows.prepare(alloc, &instance.key.id, settled.row)?;
-    let key = instance.key.copy(alloc)?;
-    leases.prepare_put(&key)?;
-    let fresh = Lease::fresh(moment, instance.secs);
-    let lease = begun(fresh, settled.status, moment);
-    instance.status = settled.status;
-    instance.overridden = settled.overridden;
-    leases.put_prepared(key, Held::new(instance, lease));
-    rows.put(put);
-    Ok(())
+    let instance = instance.copy(alloc)?;
+    match held {
+        None => join_new(alloc, instance, known, replicated, moment),
+        Some(held) if instance.dirty < held.instance().dirty => {
+            Ok(join_under(instance, held, known, replicated, moment))
+        }
+        Some(held) => Ok(join_over(instance, held, known, replicated, moment)),
+    }
 }
 
-/// Registers an instance whose key is held with a stamp that isn't greater.
-///
-/// A refusal, for want of memory, leaves leases and rows as they were.
-fn join_over(
-    leases: &mut Leases,
-    rows: &mut Overrides,
+/// The registration of an instance whose key isn't held. `AllocError` where no memory is left.
+fn join_new(
     alloc: Global,
     mut instance: Instance,
-    held: HeldPart,
-    row: Option<Status>,
+    known: Known,
     replicated: bool,
     moment: Moment,
-) -> Result<(), AllocError>
-    requires held { IsSomeAnd (map.get leases.old.held instance.key) (IsPart held) }
-    requires newer { held.dirty ≤ instance.dirty }
-    ensures ok { OnOk result (Joins leases.old.held leases.new.held rows.old.rows rows.new.rows instance (map.get leases.old.held instance.key) row replicated moment) }
-    ensures err_leases { OnErr result (leases.new.held ≡ leases.old.held) }
-    ensures err_rows { OnErr result (rows.new.rows ≡ rows.old.rows) }
+) -> Result<Decision, AllocError>
+    ensures joins { IfOk result (λ d. Joins d None known.row known.threshold known.rate instance replicated moment) }
+    ensures of { IfOk result (λ d. IsOf instance.key d.lease) }
+    ensures new { IfOk result (λ d. (leases : FinMap key_cmp Listed) → map.get leases instance.key ≡ None → map.len leases < 65536 → IsNew leases d.lease) }
 {
     let settled = settle(
         instance.status,
         instance.overridden,
-        row,
-        Some(held.status),
+        known.row,
+        None,
         replicated,
     );
-    let put = rows.prepare(alloc, &instance.key.id, settled.row)?;
-    let anew = held.lease.anew(moment, instance.secs);
+    let key = instance.key.copy(alloc)?;
+    let fresh = Lease::fresh(moment, instance.secs);
+    let lease = begun(fresh, settled.status, moment);
+    instance.status = settled.status;
+    instance.overridden = settled.overridden;
+    let held = Held::new(instance, lease);
+    Ok(Decision {
+        lease: LeaseChange::Begun { key, held },
+        row: settled.row,
+        threshold: known.threshold,
+        rate: known.rate,
+        reply: Reply::Registered { fresh: true },
+    })
+}
+
+/// The registration of an instance whose key is held with a stamp that isn't greater.
+fn join_over(
+    mut instance: Instance,
+    held: &Held,
+    known: Known,
+    replicated: bool,
+    moment: Moment,
+) -> Decision
+    requires { held.now.instance.dirty ≤ instance.dirty }
+    ensures joins { Joins result (Some held.now) known.row known.threshold known.rate instance replicated moment }
+    ensures of { IsOf instance.key result.lease }
+    ensures new { (leases : FinMap key_cmp Listed) → IsNew leases result.lease }
+{
+    let settled = settle(
+        instance.status,
+        instance.overridden,
+        known.row,
+        Some(held.instance().status),
+        replicated,
+    );
+    let anew = held.lease().anew(moment, instance.secs);
     let lease = begun(anew, settled.status, moment);
     instance.status = settled.status;
     instance.overridden = settled.overridden;
-    leases.replace(Held::new(instance, lease));
-    rows.put(put);
-    Ok(())
+    let held = Held::new(instance, lease);
+    Decision {
+        lease: LeaseChange::Replaced { held },
+        row: settled.row,
+        threshold: known.threshold,
+        rate: known.rate,
+        reply: Reply::Registered { fresh: false },
+    }
 }
 
-/// Registers an instance whose key is held with a greater stamp: the held one stays.
-///
-/// A refusal, for want of memory, leaves leases and rows as they were.
+/// The registration of an instance whose key is held with a greater stamp: the held one stays.
 fn join_under(
-    leases: &mut Leases,
-    rows: &mut Overrides,
-    alloc: Global,
-    instance: &Instance,
-    held: HeldPart,
-    row: Option<Status>,
+    newcomer: Instance,
+    held: &Held,
+    known: Known,
     replicated: bool,
     moment: Moment,
-) -> Result<(), AllocError>
-    requires held { IsSomeAnd (map.get leases.old.held instance.now.key) (IsPart held) }
-    requires older { instance.now.dirty < held.dirty }
-    ensures ok { OnOk result (Joins leases.old.held leases.new.held rows.old.rows rows.new.rows instance.now (map.get leases.old.held instance.now.key) row replicated moment) }
-    ensures err_leases { OnErr result (leases.new.held ≡ leases.old.held) }
-    ensures err_rows { OnErr result (rows.new.rows ≡ rows.old.rows) }
+) -> Decision
+    requires { newcomer.dirty < held.now.instance.dirty }
+    ensures joins { Joins result (Some held.now) known.row known.threshold known.rate newcomer replicated moment }
+    ensures of { IsOf newcomer.key result.lease }
+    ensures new { (leases : FinMap key_cmp Listed) → IsNew leases result.lease }
 {
+    let own = held.instance();
     let settled = settle(
-        held.status,
-        held.overridden,
-        row,
-        Some(held.status),
+        own.status,
+        own.overridden,
+        known.row,
+        Some(own.status),
         replicated,
     );
-    let put = rows.prepare(alloc, &instance.key.id, settled.row)?;
-    let anew = held.lease.anew(moment, instance.secs);
+    let anew = held.lease().anew(moment, newcomer.secs);
     let lease = begun(anew, settled.status, moment);
-    leases.rejoin(instance, settled.status, settled.overridden, lease);
-    rows.put(put);
-    Ok(())
-}
-
-/// Registers an instance whose key is held, where this is read of its lease and the id has this row.
-///
-/// A refusal, for want of memory, leaves leases and rows as they were.
-pub fn join_held(
-    leases: &mut Leases,
-    rows: &mut Overrides,
-    alloc: Global,
-    instance: Instance,
-    held: HeldPart,
-    row: Option<Status>,
-    replicated: bool,
-    moment: Moment,
-) -> Result<(), AllocError>
-    requires held { IsSomeAnd (map.get leases.old.held instance.key) (IsPart held) }
-    ensures ok { OnOk result (Joins leases.old.held leases.new.held rows.old.rows rows.new.rows instance (map.get leases.old.held instance.key) row replicated moment) }
-    ensures err_leases { OnErr result (leases.new.held ≡ leases.old.held) }
-    ensures err_rows { OnErr result (rows.new.rows ≡ rows.old.rows) }
-{
-    if instance.dirty < held.dirty {
-        join_under(
-            leases, rows, alloc, &instance, held, row, replicated, moment,
-        )
-    } else {
-        join_over(leases, rows, alloc, instance, held, row, replicated, moment)
+    Decision {
+        lease: LeaseChange::Rejoined {
+            newcomer,
+            status: settled.status,
+            overridden: settled.overridden,
+            lease,
+        },
+        row: settled.row,
+        threshold: known.threshold,
+        rate: known.rate,
+        reply: Reply::Registered { fresh: false },
     }
 }

@@ -1,9 +1,11 @@
 //! The lease registry, on one thread: each call is a step of the lease machine.
 #![tactic(auto)]
 
+mod decide;
+mod decision;
 mod joins;
-mod prepare;
 mod registry;
+mod replies;
 mod statuses;
 mod step;
 

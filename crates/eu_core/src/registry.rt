@@ -1,26 +1,28 @@
 //! The registry.
-ghost use Rattle.std.specs.Prelude.{◌≡◌, ◌≢◌, ℕ, Bool, false, replicate, OnOk, OnErr, Option, None, Some, Ok, Err, List, IfOk, IfErr, IsOk};
+ghost use Rattle.std.specs.Prelude.{◌≡◌, ◌≢◌, ◌<◌, ◌⊎◌, ℕ, Bool, false, not, replicate, IsOk, OnOk, OnErr, Option, None, Some, Ok, Err, List, IfOk, IfErr, is_some};
 ghost use Rattle.std.specs.Option.{option_copied};
 ghost use Rattle.std.specs.FinMap as map;
-ghost use Rattle.eu_model.specs.Change.{renew_reply};
+ghost use Rattle.eu_base.specs.declared.names.Key.{Key};
+ghost use Rattle.eu_model.specs.Change.{one_more};
 ghost use Rattle.eu_model.specs.Machine.{opening};
-ghost use Rattle.eu_model.specs.Plain.{plain, kept_instance};
-ghost use Rattle.eu_model.specs.Answers.{Answers, IsRefusal, Shows};
+ghost use Rattle.eu_model.specs.Meter.{is_permitted};
+ghost use Rattle.eu_model.specs.Plain.{plain};
+ghost use Rattle.eu_model.specs.Answers.{Answers, Shows};
 ghost use Rattle.eu_model.specs.View.{counts, one, listing};
-ghost use Rattle.eu_model.specs.Kept.{after, kept_join_fault, kept_one, kept_renew};
+ghost use Rattle.eu_model.specs.Kept.{kept_join_fault, kept_seen};
 ghost use Rattle.eu_model.specs.Evict.{extra_time};
-ghost use Rattle.eu_base.specs.declared.statuses.Status.{Status};
+ghost use Rattle.eu_core.specs.Decided.{counted, expectation, left, Decides, IsFrugal, IsNew, IsOf};
 ghost use Rattle.eu_core.specs.Evicts.{Draws};
-ghost use Rattle.eu_core.specs.Joins.{IsRead, joined_by};
 ghost use Rattle.eu_core.specs.Shown.{shown};
 ghost use Rattle.eu_core.specs.State.{state_of};
 
-use crate::joins::{HeldPart, held_part, join_held, join_new};
-use crate::statuses::{brought, told};
+use crate::decide::{Known, decide_cancel, decide_no_status, decide_renewal, decide_status};
+use crate::decision::{Decision, make_room, prepare_row, without_memory, write_lease, write_row};
+use crate::joins::decide_join;
+use crate::statuses::told;
 use eu_base::{App, Config, Fault, Instance, Key, Moment, Stamp, Status};
 use eu_clock::Chooser;
 use eu_eviction::{Overrides, Passed, run_pass};
-use eu_lease::{is_status, override_rule};
 use eu_meter::{Rate, Threshold};
 use eu_model::{Command, Counts, Keys, Listed, Listing, Queues, Reply, State, Times};
 use eu_store::{Held, Leases, MOST_LEASES};
@@ -97,16 +99,16 @@ impl Registry {
     pub fn register(
         &mut self,
         alloc: Global,
-        instance: Instance,
+        instance: &Instance,
         replicated: bool,
         moment: Moment,
     ) -> Result<Reply, Fault>
-        ensures answers { Answers self.old (Command.Register instance replicated) moment result self.new }
+        ensures answers { Answers self.old (Command.Register instance.now replicated) moment result self.new }
         ensures err { OnErr result (self.new ≡ self.old) }
     {
-        let held = held_part(&self.leases, &instance.key);
-        let row = self.rows.get(&instance.key.id);
-        self.join(alloc, instance, held, row, replicated, moment)
+        let (held, row) = self.find(&instance.key);
+        let decision = self.registration(alloc, instance, held, row, replicated, moment)?;
+        self.carry_out(alloc, &instance.key, row, decision)
     }
 
     /// Adopts an instance of which a peer told (`PeerEurekaNode.syncInstancesIfTimestampDiffers` in Eureka).
@@ -116,68 +118,15 @@ impl Registry {
     pub fn adopt(
         &mut self,
         alloc: Global,
-        instance: Instance,
+        instance: &Instance,
         moment: Moment,
     ) -> Result<Reply, Fault>
-        ensures answers { Answers self.old (Command.Adopt instance) moment result self.new }
+        ensures answers { Answers self.old (Command.Adopt instance.now) moment result self.new }
         ensures err { OnErr result (self.new ≡ self.old) }
     {
-        let held = held_part(&self.leases, &instance.key);
-        let row = told(instance.overridden).or(self.rows.get(&instance.key.id));
-        self.join(alloc, instance, held, row, true, moment)
-    }
-
-    /// Registers an instance, where this is read of its lease and this is to be the row of its id.
-    fn join(
-        &mut self,
-        alloc: Global,
-        instance: Instance,
-        held: Option<HeldPart>,
-        row: Option<Status>,
-        replicated: bool,
-        moment: Moment,
-    ) -> Result<Reply, Fault>
-        requires held { IsRead held (map.get self.old.leases instance.key) }
-        requires row { row ≡ None → map.get self.old.rows instance.key.id ≡ None }
-        ensures fault { OnOk result (kept_join_fault self.old instance.key ≡ None) }
-        ensures reply { IfOk result (λ reply. reply ≡ (joined_by self.old row instance replicated moment).reply) }
-        ensures after { OnOk result (self.new ≡ after self.old instance.key (joined_by self.old row instance replicated moment)) }
-        ensures refused { IfErr result (λ f. IsRefusal (kept_join_fault self.old instance.key) f) }
-        ensures err { OnErr result (self.new ≡ self.old) }
-    {
-        match held {
-            Some(held) => {
-                join_held(
-                    &mut self.leases,
-                    &mut self.rows,
-                    alloc,
-                    instance,
-                    held,
-                    row,
-                    replicated,
-                    moment,
-                )?;
-                Ok(Reply::Registered { fresh: false })
-            }
-            None => {
-                if self.leases.len() == MOST_LEASES {
-                    return Err(Fault::Full);
-                }
-                let mut threshold = self.threshold;
-                threshold.joined()?;
-                join_new(
-                    &mut self.leases,
-                    &mut self.rows,
-                    alloc,
-                    instance,
-                    row,
-                    replicated,
-                    moment,
-                )?;
-                self.threshold = threshold;
-                Ok(Reply::Registered { fresh: true })
-            }
-        }
+        let (held, row) = self.find(&instance.key);
+        let decision = self.adoption(alloc, instance, held, row, moment)?;
+        self.carry_out(alloc, &instance.key, row, decision)
     }
 
     /// Renews a lease at the moment, also one that has expired: a heartbeat (`AbstractInstanceRegistry.renew` and
@@ -205,25 +154,9 @@ impl Registry {
         ensures memory { dirty ≡ None → result ≢ Err Fault.OutOfMemory }
         ensures client { replicated ≡ false → result ≢ Err Fault.OutOfMemory }
     {
-        let row = self.rows.get(&key.id);
-        let Some(held) = self.leases.get(key) else {
-            return Ok(Reply::NotFound);
-        };
-        let own = held.instance().status;
-        let status = override_rule(own, row, Some(own), replicated);
-        if is_status(status, Status::Unknown) {
-            return Ok(Reply::NotFound);
-        }
-        let mut rate = self.rate;
-        rate.count()?;
-        let reply = renew_reply(alloc, held.instance(), status, dirty, replicated)?;
-        let brought = brought(&reply, overridden, row, replicated);
-        let overridden = brought.unwrap_or(held.instance().overridden);
-        let put = self.rows.prepare(alloc, &key.id, brought)?;
-        self.leases.renew_as(key, moment, status, overridden, None);
-        self.rows.put(put);
-        self.rate = rate;
-        Ok(reply)
+        let (held, row) = self.find(key);
+        let decision = self.renewal(alloc, key, held, row, dirty, overridden, replicated, moment)?;
+        self.carry_out(alloc, key, row, decision)
     }
 
     /// Overrides the status of an instance whose lease is visible (`AbstractInstanceRegistry.statusUpdate` in Eureka).
@@ -245,20 +178,9 @@ impl Registry {
         ensures answers { (replicated : Bool) → Answers self.old (Command.SetStatus key.now status dirty replicated) moment result self.new }
         ensures err { OnErr result (self.new ≡ self.old) }
     {
-        let Some(held) = self.visible(key, moment) else {
-            return Ok(Reply::NotFound);
-        };
-        if is_status(held.instance().status, status) {
-            self.leases.renew(key, moment);
-            return Ok(Reply::Done);
-        }
-        let put = self.rows.prepare(alloc, &key.id, Some(status))?;
-        self.leases.renew_as(key, moment, status, status, dirty);
-        if is_status(status, Status::Up) {
-            self.leases.mark_up(key, moment);
-        }
-        self.rows.put(put);
-        Ok(Reply::Done)
+        let (held, row) = self.find(key);
+        let decision = self.status(key, held, row, status, dirty, moment);
+        self.carry_out(alloc, key, row, decision)
     }
 
     /// Takes an override back from an instance whose lease is visible (`AbstractInstanceRegistry.deleteStatusOverride` in
@@ -277,20 +199,9 @@ impl Registry {
     ) -> Reply
         ensures { (replicated : Bool) → Answers self.old (Command.UnsetStatus key.now status dirty replicated) moment (Ok result) self.new }
     {
-        let Some(_held) = self.visible(key, moment) else {
-            return Reply::NotFound;
-        };
-        match self.rows.take(&key.id) {
-            Some(_row) => {
-                let status = status.unwrap_or(Status::Unknown);
-                self.leases
-                    .renew_as(key, moment, status, Status::Unknown, dirty);
-            }
-            None => {
-                self.leases.renew(key, moment);
-            }
-        }
-        Reply::Done
+        let (held, row) = self.find(key);
+        let decision = self.no_status(key, held, row, status, dirty, moment);
+        self.carry_out_in_place(key, row, decision)
     }
 
     /// Ends a lease, and removes the override row of its id, also where no lease is held
@@ -301,15 +212,9 @@ impl Registry {
     pub fn cancel(&mut self, key: &Key) -> Reply
         ensures { (replicated : Bool) (t : ℕ) → Answers self.old (Command.Cancel key.now replicated) t (Ok result) self.new }
     {
-        self.rows.take(&key.id);
-        match self.leases.take(key) {
-            Some(lease) => {
-                drop(lease);
-                self.threshold.left();
-                Reply::Done
-            }
-            None => Reply::NotFound,
-        }
+        let (held, row) = self.find(key);
+        let decision = self.cancellation(key, held, row);
+        self.carry_out_in_place(key, row, decision)
     }
 
     /// Ends a minute (the timer of `MeasuredRate` in Eureka).
@@ -414,7 +319,7 @@ impl Registry {
     pub fn look(&self, key: &Key, moment: Moment) -> Option<(&Instance, Times)>
         ensures { Shows self.now (λ s. one s key.now moment) (shown result) }
     {
-        match self.visible(key, moment) {
+        match self.seen(self.leases.get(key), moment) {
             Some(held) => Some((held.instance(), held.times())),
             None => None,
         }
@@ -428,16 +333,6 @@ impl Registry {
         ensures { IfOk result (λ leases. Shows self.now (listing (option_copied app.entry)) leases.items) }
     {
         self.leases.listed(alloc, app)
-    }
-
-    /// The instance that is held under that key. Takes no memory.
-    pub(crate) fn held(&self, key: &Key) -> Option<&Instance>
-        ensures { option_copied result ≡ kept_instance self.now key.now }
-    {
-        match self.leases.get(key) {
-            Some(held) => Some(held.instance()),
-            None => None,
-        }
     }
 
     /// The registry as plain data: settings, number expected, leases in key order, override rows in the order of their ids, the
@@ -461,57 +356,232 @@ impl Registry {
         })
     }
 
-    /// Whether a lease of that key can be registered: `Full` or `Exhausted` where the machine has that fault. Takes no memory.
-    pub(crate) fn check_join(&self, key: &Key) -> Result<(), Fault>
-        ensures ok { OnOk result (kept_join_fault self.now key.now ≡ None) }
-        ensures refused { IfErr result (λ f. kept_join_fault self.now key.now ≡ Some f) }
+    /// What is held under that key, and the override row of its id. Takes no memory.
+    pub(crate) fn find(&self, key: &Key) -> (Option<&Held>, Option<Status>)
+        ensures held { option_copied result.0 ≡ map.get self.now.leases key.now }
+        ensures row { result.1 ≡ map.get self.now.rows key.now.id }
     {
-        if self.leases.get(key).is_some() {
-            return Ok(());
+        (self.leases.get(key), self.rows.get(&key.id))
+    }
+
+    /// What is known beside a lease whose id has that row.
+    fn known(&self, row: Option<Status>) -> Known
+        ensures row { result.row ≡ row }
+        ensures threshold { result.threshold ≡ expectation self.now }
+        ensures rate { result.rate ≡ counted self.now }
+    {
+        Known {
+            row,
+            threshold: self.threshold,
+            rate: self.rate,
+        }
+    }
+
+    /// What is seen at the moment of what is held: nothing, where eviction is permitted and it has expired.
+    fn seen<'a>(&self, held: Option<&'a Held>, moment: Moment) -> Option<&'a Held>
+        ensures { option_copied result ≡ kept_seen (is_permitted self.now.config self.now.expected self.now.last) moment (option_copied held.entry) }
+    {
+        let permitted = self.threshold.permitted(self.rate.last());
+        match held {
+            Some(held) if permitted && held.expired(moment, 0) => None,
+            held => held,
+        }
+    }
+
+    /// Whether a lease can be registered, where that is held under its key, and how many clients are expected then. `Full` or `Exhausted`
+    /// where the machine has that fault. Takes no memory.
+    fn check_join(&self, held: Option<&Held>) -> Result<Threshold, Fault>
+        ensures ok { (k : Key) → option_copied held.entry ≡ map.get self.now.leases k → OnOk result (kept_join_fault self.now k ≡ None) }
+        ensures threshold { IfOk result (λ threshold. threshold ≡ record (expectation self.now) { expected = one_more (not (is_some (option_copied held.entry))) self.now.expected }) }
+        ensures few { option_copied held.entry ≡ None → OnOk result (map.len self.now.leases < 65536) }
+        ensures refused { (k : Key) → option_copied held.entry ≡ map.get self.now.leases k → IfErr result (λ f. kept_join_fault self.now k ≡ Some f) }
+    {
+        if held.is_some() {
+            return Ok(self.threshold);
         }
         if self.leases.len() == MOST_LEASES {
             return Err(Fault::Full);
         }
         let mut threshold = self.threshold;
-        threshold.joined()
+        threshold.joined()?;
+        Ok(threshold)
     }
 
-    /// The reply that a renewal is given, if it isn't refused. `Exhausted` where the machine has that fault, else `OutOfMemory`.
-    pub(crate) fn renewal_reply(
+    /// What a registration does to the lease of its key, where that is held and its id has that row.
+    pub(crate) fn registration(
+        &self,
+        alloc: Global,
+        instance: &Instance,
+        held: Option<&Held>,
+        row: Option<Status>,
+        replicated: bool,
+        moment: Moment,
+    ) -> Result<Decision, Fault>
+        requires held { option_copied held ≡ map.get self.now.leases instance.now.key }
+        requires row { row ≡ map.get self.now.rows instance.now.key.id }
+        ensures decides { IfOk result (Decides self.now (Command.Register instance.now replicated) moment instance.now.key) }
+        ensures refused { IfErr result (λ f. Answers self.now (Command.Register instance.now replicated) moment (Err f) self.now) }
+    {
+        let threshold = self.check_join(held)?;
+        let known = Known {
+            row,
+            threshold,
+            rate: self.rate,
+        };
+        Ok(decide_join(alloc, instance, held, known, replicated, moment)?)
+    }
+
+    /// What an adoption does to the lease of its key, where that is held and its id has that row.
+    pub(crate) fn adoption(
+        &self,
+        alloc: Global,
+        instance: &Instance,
+        held: Option<&Held>,
+        row: Option<Status>,
+        moment: Moment,
+    ) -> Result<Decision, Fault>
+        requires held { option_copied held ≡ map.get self.now.leases instance.now.key }
+        requires row { row ≡ map.get self.now.rows instance.now.key.id }
+        ensures decides { IfOk result (Decides self.now (Command.Adopt instance.now) moment instance.now.key) }
+        ensures refused { IfErr result (λ f. Answers self.now (Command.Adopt instance.now) moment (Err f) self.now) }
+    {
+        let threshold = self.check_join(held)?;
+        let known = Known {
+            row: told(instance.overridden).or(row),
+            threshold,
+            rate: self.rate,
+        };
+        Ok(decide_join(alloc, instance, held, known, true, moment)?)
+    }
+
+    /// What a renewal does to the lease of that key, where that is held and its id has that row.
+    pub(crate) fn renewal(
         &self,
         alloc: Global,
         key: &Key,
+        held: Option<&Held>,
+        row: Option<Status>,
         dirty: Option<Stamp>,
+        overridden: Option<Status>,
         replicated: bool,
-    ) -> Result<Reply, Fault>
-        ensures reply { IfOk result (λ reply. (overridden : Option Status) (t : ℕ) → reply ≡ (kept_renew (map.get self.now.leases key.now) (map.get self.now.rows key.now.id) self.now.expected dirty overridden replicated t).reply) }
-        ensures memory { OnOk result ((overridden : Option Status) (t : ℕ) → Answers self.now (Command.Renew key.now dirty overridden replicated) t (Err Fault.OutOfMemory) self.now) }
-        ensures refused { IfErr result (λ f. (overridden : Option Status) (t : ℕ) → Answers self.now (Command.Renew key.now dirty overridden replicated) t (Err f) self.now) }
+        moment: Moment,
+    ) -> Result<Decision, Fault>
+        requires held { option_copied held ≡ map.get self.now.leases key.now }
+        requires row { row ≡ map.get self.now.rows key.now.id }
+        ensures decides { IfOk result (Decides self.now (Command.Renew key.now dirty overridden replicated) moment key.now) }
+        ensures refused { IfErr result (λ f. Answers self.now (Command.Renew key.now dirty overridden replicated) moment (Err f) self.now) }
+        ensures frugal { (dirty ≡ None) ⊎ (replicated ≡ false) → IfOk result (IsFrugal row) }
+        ensures memory { (dirty ≡ None) ⊎ (replicated ≡ false) → result ≢ Err Fault.OutOfMemory }
     {
-        let row = self.rows.get(&key.id);
-        let Some(lease) = self.leases.get(key) else {
-            return Ok(Reply::NotFound);
-        };
-        let own = lease.instance().status;
-        let ruled = override_rule(own, row, Some(own), replicated);
-        if is_status(ruled, Status::Unknown) {
-            return Ok(Reply::NotFound);
-        }
-        let mut rate = self.rate;
-        rate.count()?;
-        let reply = renew_reply(alloc, lease.instance(), ruled, dirty, replicated)?;
+        let known = self.known(row);
+        decide_renewal(alloc, held, known, dirty, overridden, replicated, moment)
+    }
+
+    /// What a status that is set does to the lease of that key, where that is held and its id has that row.
+    pub(crate) fn status(
+        &self,
+        key: &Key,
+        held: Option<&Held>,
+        row: Option<Status>,
+        status: Status,
+        dirty: Option<Stamp>,
+        moment: Moment,
+    ) -> Decision
+        requires held { option_copied held ≡ map.get self.now.leases key.now }
+        requires row { row ≡ map.get self.now.rows key.now.id }
+        ensures { (replicated : Bool) → Decides self.now (Command.SetStatus key.now status dirty replicated) moment key.now result }
+    {
+        let seen = self.seen(held, moment);
+        decide_status(seen, self.known(row), status, dirty, moment)
+    }
+
+    /// What a status that is taken back does to the lease of that key, where that is held and its id has that row.
+    pub(crate) fn no_status(
+        &self,
+        key: &Key,
+        held: Option<&Held>,
+        row: Option<Status>,
+        status: Option<Status>,
+        dirty: Option<Stamp>,
+        moment: Moment,
+    ) -> Decision
+        requires held { option_copied held ≡ map.get self.now.leases key.now }
+        requires row { row ≡ map.get self.now.rows key.now.id }
+        ensures decides { (replicated : Bool) → Decides self.now (Command.UnsetStatus key.now status dirty replicated) moment key.now result }
+        ensures frugal { IsFrugal row result }
+    {
+        let seen = self.seen(held, moment);
+        decide_no_status(seen, self.known(row), status, dirty, moment)
+    }
+
+    /// What a cancel does to the lease of that key, where that is held and its id has that row.
+    pub(crate) fn cancellation(
+        &self,
+        key: &Key,
+        held: Option<&Held>,
+        row: Option<Status>,
+    ) -> Decision
+        requires held { option_copied held ≡ map.get self.now.leases key.now }
+        ensures decides { (replicated : Bool) (t : ℕ) → Decides self.now (Command.Cancel key.now replicated) t key.now result }
+        ensures frugal { IsFrugal row result }
+    {
+        decide_cancel(held, self.known(row))
+    }
+
+    /// Carries out what was decided of the lease of that key, whose id has that row. All memory is taken first: `OutOfMemory` alone
+    /// refuses, which changes nothing.
+    pub(crate) fn carry_out(
+        &mut self,
+        alloc: Global,
+        key: &Key,
+        row: Option<Status>,
+        decision: Decision,
+    ) -> Result<Reply, Fault>
+        requires row { row ≡ map.get self.old.rows key.now.id }
+        requires of { IsOf key.now decision.lease }
+        requires new { IsNew self.old.leases decision.lease }
+        ensures ok { OnOk result (self.new ≡ left self.old key.now decision) }
+        ensures reply { IfOk result (λ reply. reply ≡ decision.reply) }
+        ensures no_other { IfErr result (λ f. f ≡ Fault.OutOfMemory) }
+        ensures err { OnErr result (self.new ≡ self.old) }
+        ensures memory { IsFrugal row decision → IsOk result }
+    {
+        let Decision {
+            lease,
+            row: after,
+            threshold,
+            rate,
+            reply,
+        } = decision;
+        let row = prepare_row(&mut self.rows, alloc, &key.id, row, after)?;
+        make_room(&mut self.leases, &lease)?;
+        write_lease(&mut self.leases, key, lease);
+        write_row(&mut self.rows, &key.id, row);
+        self.threshold = threshold;
+        self.rate = rate;
         Ok(reply)
     }
 
-    /// What is held under that key, where it is visible at the moment.
-    fn visible(&self, key: &Key, moment: Moment) -> Option<&Held>
-        ensures { option_copied result ≡ kept_one self.now key.now moment }
+    /// Carries out what was decided of the lease of that key, whose id has that row, where that wants no memory.
+    fn carry_out_in_place(&mut self, key: &Key, row: Option<Status>, decision: Decision) -> Reply
+        requires row { row ≡ map.get self.old.rows key.now.id }
+        requires frugal { IsFrugal row decision }
+        ensures registry { self.new ≡ left self.old key.now decision }
+        ensures reply { result ≡ decision.reply }
     {
-        let permitted = self.threshold.permitted(self.rate.last());
-        match self.leases.get(key) {
-            Some(held) if permitted && held.expired(moment, 0) => None,
-            held => held,
-        }
+        let Decision {
+            lease,
+            row: after,
+            threshold,
+            rate,
+            reply,
+        } = decision;
+        let row = without_memory(row, after);
+        write_lease(&mut self.leases, key, lease);
+        write_row(&mut self.rows, &key.id, row);
+        self.threshold = threshold;
+        self.rate = rate;
+        reply
     }
 }
 
@@ -526,31 +596,4 @@ fn extra_time(config: &Config, previous: Option<Moment>, moment: Moment) -> u64
         }
         None => 0,
     }
-}
-
-/// The reply to a renewal that gives this instance this status, by the stamp that its sender knows. Takes memory for a
-/// `Conflict` alone, whose instance is a copy.
-fn renew_reply(
-    alloc: Global,
-    instance: &Instance,
-    status: Status,
-    dirty: Option<Stamp>,
-    replicated: bool,
-) -> Result<Reply, AllocError>
-    ensures reply { IfOk result (λ reply. reply ≡ renew_reply dirty (record instance.now { status = status }) replicated) }
-    ensures memory { dirty ≡ None → IsOk result }
-    ensures client { replicated ≡ false → IsOk result }
-{
-    let Some(stamp) = dirty else {
-        return Ok(Reply::Done);
-    };
-    if stamp.value > instance.dirty {
-        return Ok(Reply::Stale);
-    }
-    if stamp.value < instance.dirty && replicated {
-        let mut now = instance.copy(alloc)?;
-        now.status = status;
-        return Ok(Reply::Conflict(now));
-    }
-    Ok(Reply::Done)
 }

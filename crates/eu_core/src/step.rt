@@ -1,20 +1,22 @@
 //! Steps: each command by its call, with replies and copies of what is held after it.
-ghost use Rattle.std.specs.Prelude.{◌≡◌, ◌≤◌, ℕ, Bool, [], true, false, Option, Some, Err, replicate, vec_capacity, IfOk, IfErr, OnErr};
+ghost use Rattle.std.specs.Prelude.{◌≡◌, ℕ, false, Some, Err, IfOk, IfErr, OnErr};
 ghost use Rattle.std.specs.FinMap as map;
-ghost use Rattle.eu_base.specs.declared.statuses.Status.{Status};
-ghost use Rattle.eu_model.specs.Kept.{kept_renew};
+ghost use Rattle.std.specs.Borrow.{Bor};
+ghost use Rattle.std.specs.Option.{option_copied, option_map};
+ghost use Rattle.eu_base.specs.declared.names.Key.{Key};
 ghost use Rattle.eu_model.specs.Answers.{Answers};
-ghost use Rattle.eu_model.specs.Owned.{owns_nothing};
-ghost use Rattle.eu_model.specs.Server.{is_for_peers};
-ghost use Rattle.eu_model.specs.Plain.{kept_instance};
-ghost use Rattle.eu_core.specs.Stepped.{AreOf, Acts, Steps, amends, copies_of, taken};
+ghost use Rattle.eu_model.specs.Server.{is_for_peers, key_of};
+ghost use Rattle.eu_core.specs.Decided.{Decides};
+ghost use Rattle.eu_core.specs.Stepped.{Acts, Steps};
 
-use crate::prepare::{Prepared, bring, copies, fill, repeated};
+use crate::decision::Decision;
 use crate::registry::Registry;
-use eu_base::{Config, Fault, Instance, Key, Moment, Stamp, Status};
+use crate::replies::{copies_left, fill, repeated};
+use eu_base::{Config, Fault, Instance, Key, Moment, Status};
 use eu_clock::Chooser;
 use eu_model::{Command, Reply};
-use std::alloc::{AllocError, Global};
+use eu_store::Held;
+use std::alloc::Global;
 
 /// What a step gives: so many equal replies, and so many copies of the instance that is held after it.
 #[derive(Debug, Drop)]
@@ -51,64 +53,85 @@ impl Registry {
         ensures unasked { OnErr result (chooser.new ≡ chooser.old) }
     {
         match command {
-            Command::Register {
-                instance,
-                replicated,
-            } => self.step_register(alloc, instance, *replicated, moment, replies, held),
-            Command::Adopt { instance } => self.step_adopt(alloc, instance, moment, replies, held),
-            Command::Cancel { key, .. } => self.step_cancel(alloc, key, replies),
             Command::Roll => self.step_roll(alloc, replies),
             Command::Update => self.step_update(alloc, replies),
             Command::Reconfigure { config } => self.step_reconfigure(alloc, config, replies),
             Command::Evict => self.step_evict(alloc, moment, replies, chooser),
-            command => self.step_on_lease(alloc, command, moment, replies, held),
+            command => match key_of(command) {
+                Some(key) => self.step_on_lease(alloc, command, key, moment, replies, held),
+                None => unreachable!(),
+            },
         }
     }
 
-    /// The step of a command that amends a lease: a renewal, or a status that is set or unset.
+    /// The step of a command on the lease of that key.
     fn step_on_lease(
         &mut self,
         alloc: Global,
         command: &Command,
+        key: &Key,
         moment: Moment,
         replies: u32,
         held: u32,
     ) -> Result<Stepped, Fault>
-        requires { amends command.now ≡ true }
+        requires { key_of command.now ≡ Some key.now }
         ensures ok { IfOk result (λ s. Acts self.old command.now moment replies held s.replies.items s.held.items self.new) }
         ensures refused { IfErr result (λ f. Answers self.old command.now moment (Err f) self.old) }
         ensures err { OnErr result (self.new ≡ self.old) }
     {
+        let (found, row) = self.find(key);
+        let decision = self.decide(alloc, command, key, found, row, moment)?;
+        let room = Vec::with_capacity(alloc, replies as usize)?;
+        let replies = repeated(alloc, room, &decision.reply, replies)?;
+        let held = copies_left(alloc, &decision.lease, found, held)?;
+        self.carry_out(alloc, key, row, decision)?;
+        Ok(Stepped { replies, held })
+    }
+
+    /// What a command does to the lease of its key, where that is held and its id has that row.
+    fn decide(
+        &self,
+        alloc: Global,
+        command: &Command,
+        key: &Key,
+        held: Option<&Held>,
+        row: Option<Status>,
+        moment: Moment,
+    ) -> Result<Decision, Fault>
+        requires key { key_of command.now ≡ Some key.now }
+        requires held { option_copied held ≡ map.get self.now.leases key.now }
+        requires row { row ≡ map.get self.now.rows key.now.id }
+        ensures decides { IfOk result (Decides self.now command.now moment key.now) }
+        ensures refused { IfErr result (λ f. Answers self.now command.now moment (Err f) self.now) }
+    {
         match command {
+            Command::Register {
+                instance,
+                replicated,
+            } => self.registration(alloc, instance, held, row, *replicated, moment),
             Command::Renew {
-                key,
                 dirty,
                 overridden,
                 replicated,
-            } => {
-                self.step_renew(
-                    alloc,
-                    key,
-                    *dirty,
-                    *overridden,
-                    *replicated,
-                    moment,
-                    replies,
-                    held,
-                )
-            }
-            Command::SetStatus {
-                key,
-                status,
-                dirty,
                 ..
-            } => self.step_set_status(alloc, key, *status, *dirty, moment, replies, held),
-            Command::UnsetStatus {
+            } => self.renewal(
+                alloc,
                 key,
-                status,
-                dirty,
-                ..
-            } => self.step_unset_status(alloc, key, *status, *dirty, moment, replies, held),
+                held,
+                row,
+                *dirty,
+                *overridden,
+                *replicated,
+                moment,
+            ),
+            Command::Cancel { .. } => Ok(self.cancellation(key, held, row)),
+            Command::SetStatus { status, dirty, .. } => Ok(self.status(
+                key, held, row, *status, *dirty, moment,
+            )),
+            Command::UnsetStatus { status, dirty, .. } => Ok(self.no_status(
+                key, held, row, *status, *dirty, moment,
+            )),
+            Command::Adopt { instance } => self.adoption(alloc, instance, held, row, moment),
             _ => unreachable!(),
         }
     }
@@ -175,218 +198,18 @@ impl Registry {
             held: Vec::new(alloc),
         })
     }
+}
 
-    fn step_cancel(&mut self, alloc: Global, key: &Key, replies: u32) -> Result<Stepped, Fault>
-        ensures ok { IfOk result (λ s. (replicated : Bool) (t m : ℕ) → Acts self.old (Command.Cancel key.now replicated) t replies m s.replies.items s.held.items self.new) }
-        ensures refused { IfErr result (λ f. (replicated : Bool) (t : ℕ) → Answers self.old (Command.Cancel key.now replicated) t (Err f) self.old) }
-        ensures err { OnErr result (self.new ≡ self.old) }
-    {
-        let room = Vec::with_capacity(alloc, replies as usize)?;
-        let reply = self.cancel(key);
-        Ok(Stepped {
-            replies: fill(alloc, room, &reply, replies),
-            held: Vec::new(alloc),
-        })
-    }
-
-    fn step_set_status(
-        &mut self,
-        alloc: Global,
-        key: &Key,
-        status: Status,
-        dirty: Option<Stamp>,
-        moment: Moment,
-        replies: u32,
-        held: u32,
-    ) -> Result<Stepped, Fault>
-        ensures ok { IfOk result (λ s. (replicated : Bool) → Acts self.old (Command.SetStatus key.now status dirty replicated) moment replies held s.replies.items s.held.items self.new) }
-        ensures refused { IfErr result (λ f. (replicated : Bool) → Answers self.old (Command.SetStatus key.now status dirty replicated) moment (Err f) self.old) }
-        ensures err { OnErr result (self.new ≡ self.old) }
-    {
-        let prepared = self.prepare(alloc, key, replies, held)?;
-        let reply = self.set_status(alloc, key, status, dirty, moment)?;
-        Ok(self.finish(alloc, key, prepared, &reply, replies, held))
-    }
-
-    fn step_unset_status(
-        &mut self,
-        alloc: Global,
-        key: &Key,
-        status: Option<Status>,
-        dirty: Option<Stamp>,
-        moment: Moment,
-        replies: u32,
-        held: u32,
-    ) -> Result<Stepped, Fault>
-        ensures ok { IfOk result (λ s. (replicated : Bool) → Acts self.old (Command.UnsetStatus key.now status dirty replicated) moment replies held s.replies.items s.held.items self.new) }
-        ensures refused { IfErr result (λ f. (replicated : Bool) → Answers self.old (Command.UnsetStatus key.now status dirty replicated) moment (Err f) self.old) }
-        ensures err { OnErr result (self.new ≡ self.old) }
-    {
-        let prepared = self.prepare(alloc, key, replies, held)?;
-        let reply = self.unset_status(key, status, dirty, moment);
-        Ok(self.finish(alloc, key, prepared, &reply, replies, held))
-    }
-
-    fn step_renew(
-        &mut self,
-        alloc: Global,
-        key: &Key,
-        dirty: Option<Stamp>,
-        overridden: Option<Status>,
-        replicated: bool,
-        moment: Moment,
-        replies: u32,
-        held: u32,
-    ) -> Result<Stepped, Fault>
-        ensures ok { IfOk result (λ s. Acts self.old (Command.Renew key.now dirty overridden replicated) moment replies held s.replies.items s.held.items self.new) }
-        ensures refused { IfErr result (λ f. Answers self.old (Command.Renew key.now dirty overridden replicated) moment (Err f) self.old) }
-        ensures err { OnErr result (self.new ≡ self.old) }
-    {
-        let before = self.prepare_renewal(alloc, key, dirty, replicated, replies, held)?;
-        self.renew(alloc, key, dirty, overridden, replicated, moment)?;
-        let held = self.as_held(key, before.held, held);
-        Ok(Stepped {
-            replies: before.replies,
-            held,
-        })
-    }
-
-    /// What a renewal is answered, if it isn't refused, and copies of what is held before it.
-    fn prepare_renewal(
-        &self,
-        alloc: Global,
-        key: &Key,
-        dirty: Option<Stamp>,
-        replicated: bool,
-        replies: u32,
-        held: u32,
-    ) -> Result<Stepped, Fault>
-        ensures replies { IfOk result (λ s. (overridden : Option Status) (t : ℕ) → s.replies.items ≡ replicate replies (kept_renew (map.get self.now.leases key.now) (map.get self.now.rows key.now.id) self.now.expected dirty overridden replicated t).reply) }
-        ensures copies { IfOk result (λ s. s.held.items ≡ copies_of held (kept_instance self.now key.now)) }
-        ensures refused { IfErr result (λ f. (overridden : Option Status) (t : ℕ) → Answers self.now (Command.Renew key.now dirty overridden replicated) t (Err f) self.now) }
-    {
-        let reply = self.renewal_reply(alloc, key, dirty, replicated)?;
-        let prepared = self.prepare(alloc, key, replies, held)?;
-        let replies = repeated(alloc, prepared.room, &reply, replies)?;
-        Ok(Stepped {
-            replies,
-            held: prepared.copies,
-        })
-    }
-
-    fn step_register(
-        &mut self,
-        alloc: Global,
-        instance: &Instance,
-        replicated: bool,
-        moment: Moment,
-        replies: u32,
-        held: u32,
-    ) -> Result<Stepped, Fault>
-        ensures ok { IfOk result (λ s. Acts self.old (Command.Register instance.now replicated) moment replies held s.replies.items s.held.items self.new) }
-        ensures refused { IfErr result (λ f. Answers self.old (Command.Register instance.now replicated) moment (Err f) self.old) }
-        ensures err { OnErr result (self.new ≡ self.old) }
-    {
-        self.check_join(&instance.key)?;
-        let prepared = self.prepare_join(alloc, instance, replies, held)?;
-        let own = instance.copy(alloc)?;
-        let reply = self.register(alloc, own, replicated, moment)?;
-        Ok(self.finish(alloc, &instance.key, prepared, &reply, replies, held))
-    }
-
-    fn step_adopt(
-        &mut self,
-        alloc: Global,
-        instance: &Instance,
-        moment: Moment,
-        replies: u32,
-        held: u32,
-    ) -> Result<Stepped, Fault>
-        ensures ok { IfOk result (λ s. Acts self.old (Command.Adopt instance.now) moment replies held s.replies.items s.held.items self.new) }
-        ensures refused { IfErr result (λ f. Answers self.old (Command.Adopt instance.now) moment (Err f) self.old) }
-        ensures err { OnErr result (self.new ≡ self.old) }
-    {
-        self.check_join(&instance.key)?;
-        let prepared = self.prepare_join(alloc, instance, replies, held)?;
-        let own = instance.copy(alloc)?;
-        let reply = self.adopt(alloc, own, moment)?;
-        Ok(self.finish(alloc, &instance.key, prepared, &reply, replies, held))
-    }
-
-    /// Room for the replies to a registration, and copies of the instance that it keeps.
-    fn prepare_join(
-        &self,
-        alloc: Global,
-        instance: &Instance,
-        replies: u32,
-        held: u32,
-    ) -> Result<Prepared, AllocError>
-        ensures empty { IfOk result (λ p. p.room.items ≡ []) }
-        ensures room { IfOk result (λ p. replies ≤ vec_capacity p.room) }
-        ensures copies { IfOk result (λ p. p.copies.items ≡ replicate held (taken (kept_instance self.now instance.now.key) instance.now)) }
-    {
-        let room = Vec::with_capacity(alloc, replies as usize)?;
-        let copies = match self.held(&instance.key) {
-            Some(own) if instance.dirty < own.dirty => copies(alloc, own, held)?,
-            _ => copies(alloc, instance, held)?,
-        };
-        Ok(Prepared { room, copies })
-    }
-
-    /// Room for the replies, and copies of what is held under the key.
-    fn prepare(
-        &self,
-        alloc: Global,
-        key: &Key,
-        replies: u32,
-        held: u32,
-    ) -> Result<Prepared, AllocError>
-        ensures empty { IfOk result (λ p. p.room.items ≡ []) }
-        ensures room { IfOk result (λ p. replies ≤ vec_capacity p.room) }
-        ensures copies { IfOk result (λ p. p.copies.items ≡ copies_of held (kept_instance self.now key.now)) }
-    {
-        let room = Vec::with_capacity(alloc, replies as usize)?;
-        let copies = match self.held(key) {
-            Some(instance) => copies(alloc, instance, held)?,
-            None => Vec::new(alloc),
-        };
-        Ok(Prepared { room, copies })
-    }
-
-    /// The replies, in their room, and the copies as what is held now. Takes no memory.
-    fn finish(
-        &self,
-        alloc: Global,
-        key: &Key,
-        prepared: Prepared,
-        reply: &Reply,
-        replies: u32,
-        held: u32,
-    ) -> Stepped
-        requires empty { prepared.room.items ≡ [] }
-        requires room { replies ≤ vec_capacity prepared.room }
-        requires plain { owns_nothing reply.now ≡ true }
-        requires own { AreOf held prepared.copies.items (kept_instance self.now key.now) }
-        ensures replies { result.replies.items ≡ replicate replies reply.now }
-        ensures held { result.held.items ≡ copies_of held (kept_instance self.now key.now) }
-    {
-        let Prepared { room, copies } = prepared;
-        let replies = fill(alloc, room, reply, replies);
-        Stepped {
-            replies,
-            held: self.as_held(key, copies, held),
-        }
-    }
-
-    /// The copies of the instance under that key, as it is held now. Takes no memory.
-    fn as_held(&self, key: &Key, mut copies: Vec<Instance>, number: u32) -> Vec<Instance>
-        requires { AreOf number copies.items (kept_instance self.now key.now) }
-        ensures { result.items ≡ copies_of number (kept_instance self.now key.now) }
-    {
-        match self.held(key) {
-            Some(instance) => bring(copies.as_mut_slice(), instance),
-            None => {}
-        }
-        copies
+/// The key of the lease that a command is on, if it is on one.
+fn key_of(command: &Command) -> Option<&Key>
+    ensures { option_map (λ (k : Bor Key). k.now) result ≡ key_of command.now }
+{
+    match command {
+        Command::Register { instance, .. } | Command::Adopt { instance } => Some(&instance.key),
+        Command::Renew { key, .. }
+        | Command::Cancel { key, .. }
+        | Command::SetStatus { key, .. }
+        | Command::UnsetStatus { key, .. } => Some(key),
+        _ => None,
     }
 }

@@ -87,7 +87,7 @@ fn join(
     now: Moment,
 ) -> Result<Reply, Fault> {
     let instance = instance(alloc, id, statuses, dirty, secs)?;
-    registry.register(alloc, instance, false, now)
+    registry.register(alloc, &instance, false, now)
 }
 
 fn adopt(
@@ -100,7 +100,7 @@ fn adopt(
     now: Moment,
 ) -> Result<Reply, Fault> {
     let instance = instance(alloc, id, (Status::Up, over), dirty, secs)?;
-    registry.adopt(alloc, instance, now)
+    registry.adopt(alloc, &instance, now)
 }
 
 fn renew(

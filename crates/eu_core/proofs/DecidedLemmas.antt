@@ -1,0 +1,79 @@
+-- What is decided is a change of the rule book, and carried out it is a step of the machine
+use Rattle.std.proofs.Common.{◌≡◌, ℕ, ◌+◌, Bool, true, false, true≢false, refl, sym, ◌∙◌, subst}
+use Rattle.std.specs.Prelude.{if◌then◌else◌, Option, Ok}
+use Rattle.std.specs.FinMap.{FinMap, get}
+use Rattle.eu_base.specs.declared.names.Key.{Key}
+use Rattle.eu_base.specs.Key.{key_cmp}
+use Rattle.eu_model.specs.declared.commands.Command.{Command}
+use Rattle.eu_model.specs.declared.views.Listed.{Listed}
+use Rattle.eu_model.specs.Answers.{Answers}
+use Rattle.eu_model.specs.Change.{Change}
+use Rattle.eu_model.specs.Kept.{after}
+use Rattle.eu_model.specs.Maps.{with_value}
+use Rattle.eu_model.specs.Plain.{Plain}
+use Rattle.eu_meter.specs.Meter.{Counted, Expectation}
+use Rattle.eu_core.specs.declared.decision.Decision.{Decision}
+use Rattle.eu_core.specs.declared.decision.LeaseChange.{LeaseChange}
+use Rattle.eu_core.specs.declared.decision.LeaseChange.TheVariants.{Stays, Renewed, Amended, Rejoined, Replaced, Begun, Ended}
+use Rattle.eu_core.specs.Decided.{begins, counted, expectation, is_in_place, left, IsChange, IsNew, IsOf}
+
+-- ---- changes in place
+
+pub in_place-of : (k : Key) (x : LeaseChange) → is_in_place x ≡ true → IsOf k x
+in_place-of k Stays e = tt
+in_place-of k (Renewed t) e = tt
+in_place-of k (Amended t status overridden dirty comes_up) e = tt
+in_place-of k (Rejoined n status overridden lease) e = absurd (true≢false (sym e))
+in_place-of k (Replaced by) e = absurd (true≢false (sym e))
+in_place-of k (Begun own begun) e = absurd (true≢false (sym e))
+in_place-of k Ended e = tt
+
+pub in_place-new : (leases : FinMap key_cmp Listed) (x : LeaseChange) → is_in_place x ≡ true → IsNew leases x
+in_place-new leases Stays e = tt
+in_place-new leases (Renewed t) e = tt
+in_place-new leases (Amended t status overridden dirty comes_up) e = tt
+in_place-new leases (Rejoined n status overridden lease) e = tt
+in_place-new leases (Replaced by) e = tt
+in_place-new leases (Begun own begun) e = absurd (true≢false (sym e))
+in_place-new leases Ended e = tt
+
+pub in_place-begins : (x : LeaseChange) → is_in_place x ≡ true → begins x ≡ false
+in_place-begins Stays e = refl
+in_place-begins (Renewed t) e = refl
+in_place-begins (Amended t status overridden dirty comes_up) e = refl
+in_place-begins (Rejoined n status overridden lease) e = refl
+in_place-begins (Replaced by) e = refl
+in_place-begins (Begun own begun) e = absurd (true≢false (sym e))
+in_place-begins Ended e = refl
+
+-- ---- a decision that is a change is a step
+
+counted_since : (b : Bool) (x : Counted) → (if b then (let more : Counted = record x { since = x.since + 1 } in more) else x) ≡ (let y : Counted = record x { since = if b then x.since + 1 else x.since } in y)
+counted_since true x = refl
+counted_since false x = refl
+
+is_after : (p : Plain) (k : Key) (d : Decision) (c : Change Listed) → IsChange d (get p.leases k) (expectation p) (counted p) c → left p k d ≡ after p k c
+is_after p k d c h =
+    let counts = h.counted_is ∙ counted_since c.counted (counted p) in
+    λ i. record p {
+      config = (h.expected_is i).config;
+      leases = with_value p.leases k (h.lease i);
+      rows = with_value p.rows k.id (h.row i);
+      expected = (h.expected_is i).expected;
+      last = (counts i).last;
+      since = (counts i).since;
+    }
+
+pub answered : (p : Plain) (command : Command) (t : ℕ) (k : Key) (d : Decision) (held : Option Listed) (c c' : Change Listed) → held ≡ get p.leases k
+    → IsChange d held (expectation p) (counted p) c → c ≡ c' → Answers p command t (Ok c'.reply) (after p k c') → Answers p command t (Ok d.reply) (left p k d)
+answered p command t k d held c c' at change same answers =
+    let h : IsChange d (get p.leases k) (expectation p) (counted p) c' = subst (λ o. IsChange d o (expectation p) (counted p) c') at (subst (λ x. IsChange d held (expectation p) (counted p) x) same change) in
+    subst (λ r. Answers p command t (Ok r) (left p k d)) (sym h.reply) (subst (λ q. Answers p command t (Ok c'.reply) q) (sym (is_after p k d c' h)) answers)
+
+-- the same, where a decision was made of what is known
+pub known : (p : Plain) (command : Command) (t : ℕ) (k : Key) (d : Decision) (held : Option Listed) (x : Expectation) (y : Counted) (change : ℕ → Change Listed) (c : Change Listed)
+    → held ≡ get p.leases k → x ≡ expectation p → y ≡ counted p → IsChange d held x y (change x.expected) → change p.expected ≡ c
+    → Answers p command t (Ok c.reply) (after p k c) → Answers p command t (Ok d.reply) (left p k d)
+known p command t k d held x y change c at ex counts h same answers =
+    let h' : IsChange d held (expectation p) (counted p) (change p.expected) = subst (λ z. IsChange d held (expectation p) z (change p.expected)) counts (subst (λ z. IsChange d held z y (change z.expected)) ex h) in
+    answered p command t k d held (change p.expected) c at h' same answers

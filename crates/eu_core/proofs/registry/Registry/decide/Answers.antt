@@ -1,0 +1,13 @@
+use Rattle.std.proofs.Common.{◌≡◌, Some, ap, sym, subst, ◌∙◌}
+use Rattle.eu_model.specs.declared.commands.Command.TheVariants.{SetStatus}
+use Rattle.eu_model.specs.Server.{key_of}
+use Rattle.eu_core.specs.Decided.{Decides}
+use Rattle.eu_core.proofs.registry.Registry.decide.Goals as goal
+
+pub returns-in-SetStatus-clause-decides : goal.returns-in-SetStatus-clause-decides
+returns-in-SetStatus-clause-decides c =
+    let i = c.in-SetStatus in
+    let keys : Some i.key ≡ Some c.args.key.now = sym (ap key_of i.is) ∙ c.requires.key in
+    let key : i.key ≡ c.args.key.now = cc in
+    subst (λ x. Decides c.args.self.now x c.args.moment c.args.key.now c.status.result)
+    (ap (λ k. SetStatus k i.status i.dirty i.replicated) (sym key) ∙ sym i.is) (c.status.ensures i.replicated)

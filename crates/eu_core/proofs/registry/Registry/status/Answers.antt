@@ -1,0 +1,30 @@
+use Rattle.std.proofs.Common.{ap, sym, refl, ◌∙◌}
+use Rattle.std.specs.FinMap.{get}
+use Rattle.std.specs.Option.{option_copied}
+use Rattle.eu_model.specs.declared.commands.Command.TheVariants.{SetStatus}
+use Rattle.eu_model.specs.Kept.{kept_seen, kept_set_status}
+use Rattle.eu_model.specs.Meter.{is_permitted}
+use Rattle.eu_model.proofs.StatusLemmas.{sets, set_answers, set_refused}
+use Rattle.eu_core.proofs.DecidedLemmas.{in_place-new, in_place-of, known}
+use Rattle.eu_core.proofs.LookLemmas.{seen_held}
+use Rattle.eu_core.proofs.registry.Registry.status.Goals as goal
+
+pub returns : goal.returns
+returns c replicated =
+    let a = c.args in
+    let p = a.self.now in
+    let k = a.key.now in
+    let t = a.moment in
+    let d = c.decide_status.result in
+    let held = get p.leases k in
+    let seen = c.seen-seen.ensures ∙ ap (kept_seen (is_permitted p.config p.expected p.last) t) c.requires.held in
+    let row = c.known.ensures.row ∙ c.requires.row in
+    record {
+      answers = known p (SetStatus k a.status a.dirty replicated) t k d held _ _ (λ e. kept_set_status (option_copied c.seen-seen.result) held c.known.result.row e a.status a.dirty t) (sets k a.status a.dirty t p)
+          refl c.known.ensures.threshold c.known.ensures.rate
+          (c.decide_status.ensures.change held (λ l e. seen_held _ t held l (sym e ∙ seen)))
+          (λ i. kept_set_status (seen i) held (row i) p.expected a.status a.dirty t) (set_answers k a.status a.dirty t replicated p);
+      memory = set_refused k a.status a.dirty t replicated p;
+      of = in_place-of k d.lease c.decide_status.ensures.in_place;
+      new = in_place-new p.leases d.lease c.decide_status.ensures.in_place;
+    }

@@ -1,0 +1,120 @@
+-- What is decided of a command on a lease, and what is left once that is carried out
+use Rattle.std.specs.Prelude.{◌≡◌, ℕ, ◌+◌, ◌^◌, ◌<◌, ◌==◌, ◌&&◌, ◌⊎◌, Bool, true, false, if◌then◌else◌, List, Option, Some, None, Ok, Err}
+use Rattle.std.specs.Option.{option_map}
+use Rattle.std.specs.FinMap.{FinMap, get, len, remove}
+use Rattle.eu_base.specs.declared.faults.Fault.{Fault}
+use Rattle.eu_base.specs.declared.faults.Fault.TheVariants.{Exhausted, OutOfMemory}
+use Rattle.eu_base.specs.declared.names.Key.{Key}
+use Rattle.eu_base.specs.declared.statuses.Status.{Status}
+use Rattle.eu_base.specs.Key.{key_cmp, name_cmp}
+use Rattle.eu_model.specs.declared.commands.Command.{Command}
+use Rattle.eu_model.specs.declared.commands.Reply.{Reply}
+use Rattle.eu_model.specs.declared.views.Listed.{Listed}
+use Rattle.eu_model.specs.Answers.{Answers}
+use Rattle.eu_model.specs.Change.{Change}
+use Rattle.eu_model.specs.Maps.{with_value}
+use Rattle.eu_model.specs.Plain.{Plain}
+use Rattle.eu_meter.specs.Meter.{Counted, Expectation}
+use Rattle.eu_store.specs.Stored.{renewed_at, amended, upped_at, rejoined}
+use Rattle.eu_eviction.specs.Rows.{with_put}
+use Rattle.eu_core.specs.declared.decision.Decision.{Decision}
+use Rattle.eu_core.specs.declared.decision.LeaseChange.{LeaseChange}
+use Rattle.eu_core.specs.declared.decision.LeaseChange.TheVariants.{Stays, Renewed, Amended, Rejoined, Replaced, Begun, Ended}
+use Rattle.eu_core.specs.declared.decision.RowChange.{RowChange}
+use Rattle.eu_core.specs.declared.decision.RowChange.TheVariants.{Put, Gone}
+
+-- ---- what becomes of a lease
+
+-- its instance up now, where it comes up
+abbrev pub marked : Bool → ℕ → Listed → Listed
+marked comes_up t l = if comes_up then upped_at t l else l
+
+-- what is held then, of what is held before
+abbrev pub lease_left : LeaseChange → Option Listed → Option Listed
+lease_left Stays held = held
+lease_left (Renewed t) held = option_map (renewed_at t) held
+lease_left (Amended t status overridden dirty comes_up) held =
+    option_map (λ l. marked comes_up t (amended status overridden dirty (renewed_at t l))) held
+lease_left (Rejoined n status overridden lease) held = option_map (rejoined n status overridden lease) held
+lease_left (Replaced by) held = option_map (λ l. by) held
+lease_left (Begun k begun) held = Some begun
+lease_left Ended held = None
+
+-- it can want no memory
+abbrev pub is_in_place : LeaseChange → Bool
+is_in_place (Rejoined n status overridden lease) = false
+is_in_place (Replaced by) = false
+is_in_place (Begun k begun) = false
+is_in_place _ = true
+
+abbrev pub begins : LeaseChange → Bool
+begins (Begun k begun) = true
+begins _ = false
+
+-- a change of the lease of that key
+abbrev pub IsOf : Key → LeaseChange → Type 0
+IsOf k (Rejoined n status overridden lease) = (n.key ≡ k) × (lease.secs ≡ n.secs)
+IsOf k (Replaced by) = by.instance.key ≡ k
+IsOf k (Begun own begun) = own ≡ k
+IsOf k _ = Unit {0}
+
+-- a lease begins only where its key isn't held, and there may be one more
+abbrev pub IsNew : FinMap key_cmp Listed → LeaseChange → Type 0
+IsNew leases (Begun k begun) = (get leases k ≡ None) × (len leases < 65536)
+IsNew leases _ = Unit {0}
+
+-- ---- what becomes of the row of an id
+
+abbrev pub rows_left : RowChange → FinMap name_cmp Status → List ℕ → FinMap name_cmp Status
+rows_left (Put put) rows id = with_put rows put
+rows_left Gone rows id = remove rows id
+
+abbrev pub puts : RowChange → Bool
+puts (Put (Some row)) = true
+puts _ = false
+
+-- ---- decisions
+
+abbrev pub decided : LeaseChange → Option Status → Expectation → Counted → Reply → Decision
+decided lease row expected counted reply = record { lease = lease; row = row; threshold = expected; rate = counted; reply = reply }
+
+-- what is decided is that change of what is held, where so many are expected and counted
+pub record IsChange (d : Decision) (held : Option Listed) (expected : Expectation) (counted : Counted) (c : Change Listed) : Type 0 where
+  pub lease : lease_left d.lease held ≡ c.lease
+  pub row : d.row ≡ c.row
+  pub expected_is : d.threshold ≡ record expected { expected = c.expected }
+  pub counted_is : d.rate ≡ (if c.counted then (let more : Counted = record counted { since = counted.since + 1 } in more) else counted)
+  pub reply : d.reply ≡ c.reply
+
+-- why a renewal isn't counted
+abbrev pub count_fault : Bool → ℕ → Option Fault
+count_fault counts since = if counts && (since == 2 ^ 62) then Some Exhausted else None
+
+abbrev pub expectation : Plain → Expectation
+expectation p = record { config = p.config; expected = p.expected }
+
+abbrev pub counted : Plain → Counted
+counted p = record { last = p.last; since = p.since }
+
+-- the plain form that is left once a decision on the lease of a key is carried out
+abbrev pub left : Plain → Key → Decision → Plain
+left p k d = record p {
+  config = d.threshold.config;
+  leases = with_value p.leases k (lease_left d.lease (get p.leases k));
+  rows = with_value p.rows k.id d.row;
+  expected = d.threshold.expected;
+  last = d.rate.last;
+  since = d.rate.since;
+}
+
+-- a decision on the lease of a key is that of a command: carried out it is a step of the machine, and memory may be wanted for it
+pub record Decides (p : Plain) (c : Command) (t : ℕ) (k : Key) (d : Decision) : Type 0 where
+  pub answers : Answers p c t (Ok d.reply) (left p k d)
+  pub memory : Answers p c t (Err OutOfMemory) p
+  pub of : IsOf k d.lease
+  pub new : IsNew p.leases d.lease
+
+-- it wants no memory
+pub record IsFrugal (row : Option Status) (d : Decision) : Type 0 where
+  pub lease : is_in_place d.lease ≡ true
+  pub row_is : (d.row ≡ row) ⊎ (d.row ≡ None)

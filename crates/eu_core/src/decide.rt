@@ -1,0 +1,221 @@
+//! What each command on a lease does to it: a function for each equation of the rule book.
+ghost use Rattle.std.specs.Prelude.{◌≡◌, ◌≢◌, ◌⊎◌, false, true, Err, IfErr, IfOk, IsOk, None, OnOk, Option, Some};
+ghost use Rattle.std.specs.Option.{option_copied};
+ghost use Rattle.eu_base.specs.declared.statuses.Status.{Status};
+ghost use Rattle.eu_model.specs.declared.views.Listed.{Listed};
+ghost use Rattle.eu_model.specs.Answers.{IsRefusal};
+ghost use Rattle.eu_model.specs.Change.{renew_reply};
+ghost use Rattle.eu_model.specs.Kept.{kept_cancel, kept_register, kept_renew, kept_set_status, kept_unset_status};
+ghost use Rattle.eu_core.specs.Decided.{count_fault, decided, is_in_place, IsChange};
+
+use crate::decision::{Decision, LeaseChange};
+use crate::statuses::brought;
+use eu_base::{Fault, Instance, Moment, Stamp, Status};
+use eu_lease::{is_status, override_rule};
+use eu_meter::{Rate, Threshold};
+use eu_model::Reply;
+use eu_store::Held;
+use std::alloc::{AllocError, Global};
+
+/// What is known beside the lease when a command on it is decided.
+#[derive(Clone, Copy)]
+pub struct Known {
+    /// The override row of its id.
+    pub row: Option<Status>,
+    /// How many clients are expected.
+    pub threshold: Threshold,
+    /// The renewals that are counted.
+    pub rate: Rate,
+}
+
+/// A renewal (`AbstractInstanceRegistry.renew`, and `InstanceResource.renewLease` for the stamps).
+pub fn decide_renewal(
+    alloc: Global,
+    held: Option<&Held>,
+    known: Known,
+    dirty: Option<Stamp>,
+    overridden: Option<Status>,
+    replicated: bool,
+    moment: Moment,
+) -> Result<Decision, Fault>
+    ensures change { IfOk result (λ d. IsChange d (option_copied held.entry) known.threshold known.rate (kept_renew (option_copied held.entry) known.row known.threshold.expected dirty overridden replicated moment)) }
+    ensures counted { OnOk result (count_fault (kept_renew (option_copied held.entry) known.row known.threshold.expected dirty overridden replicated moment).counted known.rate.since ≡ None) }
+    ensures in_place { IfOk result (λ d. is_in_place d.lease ≡ true) }
+    ensures frugal { (dirty ≡ None) ⊎ (replicated ≡ false) → IfOk result (λ d. d.row ≡ known.row) }
+    ensures refused { IfErr result (λ f. IsRefusal (count_fault (kept_renew (option_copied held.entry) known.row known.threshold.expected dirty overridden replicated moment).counted known.rate.since) f) }
+    ensures memory { (dirty ≡ None) ⊎ (replicated ≡ false) → result ≢ Err Fault.OutOfMemory }
+{
+    let Some(held) = held else {
+        return Ok(unchanged(known, Reply::NotFound));
+    };
+    let instance = held.instance();
+    let own = instance.status;
+    let status = override_rule(own, known.row, Some(own), replicated);
+    if is_status(status, Status::Unknown) {
+        return Ok(unchanged(known, Reply::NotFound));
+    }
+    let mut rate = known.rate;
+    rate.count()?;
+    let reply = renew_reply(alloc, instance, status, dirty, replicated)?;
+    let brought = brought(&reply, overridden, known.row, replicated);
+    Ok(Decision {
+        lease: LeaseChange::Amended {
+            moment,
+            status,
+            overridden: brought.unwrap_or(instance.overridden),
+            dirty: None,
+            comes_up: false,
+        },
+        row: brought.or(known.row),
+        threshold: known.threshold,
+        rate,
+        reply,
+    })
+}
+
+/// The reply to a renewal that gives this instance this status, by the stamp that its sender knows. Takes memory for a
+/// `Conflict` alone, whose instance is a copy.
+fn renew_reply(
+    alloc: Global,
+    instance: &Instance,
+    status: Status,
+    dirty: Option<Stamp>,
+    replicated: bool,
+) -> Result<Reply, AllocError>
+    ensures reply { IfOk result (λ reply. reply ≡ renew_reply dirty (record instance.now { status = status }) replicated) }
+    ensures memory { dirty ≡ None → IsOk result }
+    ensures client { replicated ≡ false → IsOk result }
+{
+    let Some(stamp) = dirty else {
+        return Ok(Reply::Done);
+    };
+    if stamp.value > instance.dirty {
+        return Ok(Reply::Stale);
+    }
+    if stamp.value < instance.dirty && replicated {
+        let mut now = instance.copy(alloc)?;
+        now.status = status;
+        return Ok(Reply::Conflict(now));
+    }
+    Ok(Reply::Done)
+}
+
+/// A status that is set for a lease that is seen, if it is (`AbstractInstanceRegistry.statusUpdate`).
+pub fn decide_status(
+    seen: Option<&Held>,
+    known: Known,
+    status: Status,
+    dirty: Option<Stamp>,
+    moment: Moment,
+) -> Decision
+    ensures change { (held : Option Listed) → ((l : Listed) → option_copied seen.entry ≡ Some l → held ≡ Some l)
+        → IsChange result held known.threshold known.rate (kept_set_status (option_copied seen.entry) held known.row known.threshold.expected status dirty moment) }
+    ensures in_place { is_in_place result.lease ≡ true }
+{
+    let Some(seen) = seen else {
+        return unchanged(known, Reply::NotFound);
+    };
+    if is_status(seen.instance().status, status) {
+        return renewed(known, moment);
+    }
+    Decision {
+        lease: LeaseChange::Amended {
+            moment,
+            status,
+            overridden: status,
+            dirty,
+            comes_up: is_status(status, Status::Up),
+        },
+        row: Some(status),
+        threshold: known.threshold,
+        rate: known.rate,
+        reply: Reply::Done,
+    }
+}
+
+/// An override that is taken back from a lease that is seen, if it is (`AbstractInstanceRegistry.deleteStatusOverride`).
+pub fn decide_no_status(
+    seen: Option<&Held>,
+    known: Known,
+    status: Option<Status>,
+    dirty: Option<Stamp>,
+    moment: Moment,
+) -> Decision
+    ensures change { (held : Option Listed) → ((l : Listed) → option_copied seen.entry ≡ Some l → held ≡ Some l)
+        → IsChange result held known.threshold known.rate (kept_unset_status (option_copied seen.entry) held known.row known.threshold.expected status dirty moment) }
+    ensures in_place { is_in_place result.lease ≡ true }
+    ensures frugal { (result.row ≡ known.row) ⊎ (result.row ≡ None) }
+{
+    let Some(_seen) = seen else {
+        return unchanged(known, Reply::NotFound);
+    };
+    let Some(_row) = known.row else {
+        return renewed(known, moment);
+    };
+    Decision {
+        lease: LeaseChange::Amended {
+            moment,
+            status: status.unwrap_or(Status::Unknown),
+            overridden: Status::Unknown,
+            dirty,
+            comes_up: false,
+        },
+        row: None,
+        threshold: known.threshold,
+        rate: known.rate,
+        reply: Reply::Done,
+    }
+}
+
+/// A cancel (`AbstractInstanceRegistry.internalCancel`).
+pub fn decide_cancel(held: Option<&Held>, known: Known) -> Decision
+    ensures change { IsChange result (option_copied held.entry) known.threshold known.rate (kept_cancel (option_copied held.entry) known.threshold.expected) }
+    ensures in_place { is_in_place result.lease ≡ true }
+    ensures row { result.row ≡ None }
+{
+    let Some(_held) = held else {
+        return ended(known.threshold, known.rate, Reply::NotFound);
+    };
+    let mut threshold = known.threshold;
+    threshold.left();
+    ended(threshold, known.rate, Reply::Done)
+}
+
+/// The lease stays, if one is held, and so does all else.
+fn unchanged(known: Known, reply: Reply) -> Decision
+    ensures { result ≡ decided LeaseChange.Stays known.row known.threshold known.rate reply }
+{
+    Decision {
+        lease: LeaseChange::Stays,
+        row: known.row,
+        threshold: known.threshold,
+        rate: known.rate,
+        reply,
+    }
+}
+
+/// The lease is renewed, and not counted.
+fn renewed(known: Known, moment: Moment) -> Decision
+    ensures { result ≡ decided (LeaseChange.Renewed moment) known.row known.threshold known.rate Reply.Done }
+{
+    Decision {
+        lease: LeaseChange::Renewed { moment },
+        row: known.row,
+        threshold: known.threshold,
+        rate: known.rate,
+        reply: Reply::Done,
+    }
+}
+
+/// The lease ends, and the row of its id goes.
+fn ended(threshold: Threshold, rate: Rate, reply: Reply) -> Decision
+    ensures { result ≡ decided LeaseChange.Ended None threshold rate reply }
+{
+    Decision {
+        lease: LeaseChange::Ended,
+        row: None,
+        threshold,
+        rate,
+        reply,
+    }
+}

@@ -1,0 +1,198 @@
+//! What is decided of a command on a lease, and how it is carried out.
+ghost use Rattle.std.specs.Prelude.{◌≡◌, ◌<◌, ◌⊎◌, ℕ, List, true, false, None, IfOk, IfErr, IsOk, OnOk};
+ghost use Rattle.std.specs.FinMap as map;
+ghost use Rattle.std.specs.FinMap.{FinMap};
+ghost use Rattle.eu_base.specs.declared.statuses.Status.{Status};
+ghost use Rattle.eu_base.specs.Key.{name_cmp};
+ghost use Rattle.eu_model.specs.Maps.{with_value};
+ghost use Rattle.eu_core.specs.Decided.{begins, is_in_place, lease_left, marked, puts, rows_left, IsNew, IsOf};
+ghost use Rattle.eu_store.specs.Stored.{changed, renewed_at, amended};
+
+use eu_base::{Fault, Id, Instance, Key, Moment, Stamp, Status};
+use eu_eviction::Overrides;
+use eu_lease::Lease;
+use eu_meter::{Rate, Threshold};
+use eu_model::Reply;
+use eu_store::{Held, Leases};
+use std::alloc::{AllocError, Global};
+
+/// What becomes of the lease of a key.
+#[derive(Drop)]
+pub enum LeaseChange {
+    /// It stays, where one is held.
+    Stays,
+    /// It is renewed.
+    Renewed {
+        moment: Moment,
+    },
+    /// It is renewed, with its instance in these statuses; a greater stamp replaces the held one. Where its instance comes up, the
+    /// moment is kept, if it is the first.
+    Amended {
+        moment: Moment,
+        status: Status,
+        overridden: Status,
+        dirty: Option<Stamp>,
+        comes_up: bool,
+    },
+    /// It begins anew, and keeps its instance, but for these statuses and the newcomer's duration.
+    Rejoined {
+        newcomer: Instance,
+        status: Status,
+        overridden: Status,
+        lease: Lease,
+    },
+    /// This takes its place.
+    Replaced {
+        held: Held,
+    },
+    /// It begins.
+    Begun {
+        key: Key,
+        held: Held,
+    },
+    /// It ends.
+    Ended,
+}
+
+/// What a command on a lease does. The rule book calls it a change.
+#[derive(Drop)]
+pub struct Decision {
+    /// What becomes of the lease.
+    pub lease: LeaseChange,
+    /// The override row that its id has then.
+    pub row: Option<Status>,
+    /// How many clients are expected then.
+    pub threshold: Threshold,
+    /// The renewals that are counted then.
+    pub rate: Rate,
+    /// The reply.
+    pub reply: Reply,
+}
+
+/// What becomes of an override row, with the memory that it wants.
+#[derive(Drop)]
+pub enum RowChange {
+    /// This is put, if anything.
+    Put(Option<(Id, Status)>),
+    /// It goes.
+    Gone,
+}
+
+/// Makes room for a lease that begins. `OutOfMemory` alone refuses, which changes nothing.
+pub fn make_room(leases: &mut Leases, change: &LeaseChange) -> Result<(), Fault>
+    requires { IsNew leases.old.held change.now }
+    ensures held { leases.new.held ≡ leases.old.held }
+    ensures room { OnOk result (begins change.now ≡ true → 0 < leases.new.room) }
+    ensures no_other { IfErr result (λ f. f ≡ Fault.OutOfMemory) }
+    ensures memory { is_in_place change.now ≡ true → IsOk result }
+{
+    match change {
+        LeaseChange::Begun { key, .. } => leases.prepare_put(key),
+        _ => Ok(()),
+    }
+}
+
+/// Carries out what becomes of the lease of a key. Takes no memory.
+pub fn write_lease(leases: &mut Leases, key: &Key, change: LeaseChange)
+    requires of { IsOf key.now change }
+    requires room { begins change ≡ true → 0 < leases.old.room }
+    ensures { leases.new.held ≡ with_value leases.old.held key.now (lease_left change (map.get leases.old.held key.now)) }
+{
+    match change {
+        LeaseChange::Stays => {}
+        LeaseChange::Renewed { moment } => {
+            leases.renew(key, moment);
+        }
+        LeaseChange::Amended {
+            moment,
+            status,
+            overridden,
+            dirty,
+            comes_up,
+        } => {
+            amend(leases, key, moment, status, overridden, dirty, comes_up);
+        }
+        LeaseChange::Rejoined {
+            newcomer,
+            status,
+            overridden,
+            lease,
+        } => {
+            leases.rejoin(&newcomer, status, overridden, lease);
+        }
+        LeaseChange::Replaced { held } => {
+            leases.replace(held);
+        }
+        LeaseChange::Begun { key, held } => {
+            leases.put_prepared(key, held);
+        }
+        LeaseChange::Ended => {
+            leases.take(key);
+        }
+    }
+}
+
+/// Renews the lease of a key, if one is held, and amends its instance. Takes no memory.
+fn amend(
+    leases: &mut Leases,
+    key: &Key,
+    moment: Moment,
+    status: Status,
+    overridden: Status,
+    dirty: Option<Stamp>,
+    comes_up: bool,
+)
+    ensures { leases.new.held ≡ changed (λ l. marked comes_up moment (amended status overridden dirty (renewed_at moment l))) leases.old.held key.now }
+{
+    leases.renew_as(key, moment, status, overridden, dirty);
+    if comes_up {
+        leases.mark_up(key, moment);
+    }
+}
+
+/// Takes the memory that it wants that an id has this row, which had that one before. Where it is to have none, or the same, that is
+/// none.
+pub fn prepare_row(
+    rows: &mut Overrides,
+    alloc: Global,
+    id: &Id,
+    before: Option<Status>,
+    after: Option<Status>,
+) -> Result<RowChange, AllocError>
+    requires { before ≡ map.get rows.old.rows id.now }
+    ensures rows { rows.new.rows ≡ rows.old.rows }
+    ensures left { IfOk result (λ change. rows_left change rows.old.rows id.now ≡ with_value rows.old.rows id.now after) }
+    ensures room { IfOk result (λ change. puts change ≡ true → 0 < rows.new.room) }
+    ensures memory { (after ≡ before) ⊎ (after ≡ None) → IsOk result }
+{
+    if before == after || after.is_none() {
+        return Ok(without_memory(before, after));
+    }
+    Ok(RowChange::Put(rows.prepare(alloc, id, after)?))
+}
+
+/// What becomes of the row of an id that is to have none, or the one that it has. Takes no memory.
+pub fn without_memory(before: Option<Status>, after: Option<Status>) -> RowChange
+    requires { (after ≡ before) ⊎ (after ≡ None) }
+    ensures left { (rows : FinMap name_cmp Status) (id : List ℕ) → before ≡ map.get rows id → rows_left result rows id ≡ with_value rows id after }
+    ensures none { puts result ≡ false }
+{
+    if before == after {
+        RowChange::Put(None)
+    } else {
+        RowChange::Gone
+    }
+}
+
+/// Carries out what becomes of the row of an id. Takes no memory.
+pub fn write_row(rows: &mut Overrides, id: &Id, change: RowChange)
+    requires { puts change ≡ true → 0 < rows.old.room }
+    ensures { rows.new.rows ≡ rows_left change rows.old.rows id.now }
+{
+    match change {
+        RowChange::Put(put) => rows.put(put),
+        RowChange::Gone => {
+            rows.take(id);
+        }
+    }
+}

@@ -1,7 +1,8 @@
 -- Tasks of which no two have one name
-use Rattle.std.proofs.Common.{◌≡◌, ℕ, zero, suc, ◌+◌, ◌<◌, Bool, true, false, true≢false, cond, not, ◌&&◌, ◌||◌, List, [], ◌∷◌, ◌++◌, length, map, filter, take, drop, get_or, ◌==◌, is_some, refl, sym, ap, ◌∙◌, arith}
+use Rattle.std.proofs.Common.{◌≡◌, ℕ, zero, suc, ◌+◌, ◌<◌, ◌≤◌, Bool, true, false, true≢false, cond, not, ◌&&◌, ◌||◌, List, [], ◌∷◌, ◌++◌, length, map, filter, take, drop, get_or, ◌==◌, is_some, refl, sym, ap, ◌∙◌, arith}
 use Rattle.std.proofs.lemmas.Bool.{and_parts, and_from, or_parts, or_from, not-true, not_from_false, false_from_ne_true, ne_eqb}
-use Rattle.std.proofs.lemmas.List.{take_more}
+use Rattle.std.specs.List.{list_all}
+use Rattle.std.proofs.lemmas.List.{drop-append-le, take_more}
 use Rattle.std.proofs.lemmas.List.Folds.{list_any-append}
 use Rattle.eu_base.specs.declared.tasks.Task.{Task}
 use Rattle.eu_base.specs.Action.{same_name}
@@ -18,7 +19,7 @@ apart_first x xs h = not-true (waits x xs) (and_parts (not (waits x xs)) (are_ap
 pub apart_rest : (x : Task) (xs : List Task) → are_apart (x ∷ xs) ≡ true → are_apart xs ≡ true
 apart_rest x xs h = (and_parts (not (waits x xs)) (are_apart xs) h).1
 
-apart_cons : (x : Task) (xs : List Task) → waits x xs ≡ false → are_apart xs ≡ true → are_apart (x ∷ xs) ≡ true
+pub apart_cons : (x : Task) (xs : List Task) → waits x xs ≡ false → are_apart xs ≡ true → are_apart (x ∷ xs) ≡ true
 apart_cons x xs none h = and_from (not (waits x xs)) (are_apart xs) (not_from_false (waits x xs) none) h
 
 waits_push : (x t : Task) (xs : List Task) → waits x (xs ++ t ∷ []) ≡ (waits x xs || (same_name x t || false))
@@ -96,6 +97,17 @@ apart_before (x ∷ xs) waiting h w = by (waits x waiting) refl (apart_before xs
         apart_cons x (rest ++ waiting)
         (list_any-append (same_name x) rest waiting ∙ or_from (waits x rest) (waits x waiting) (waits_filter x (λ t. not (waits t waiting)) xs (apart_first x xs h)) e) r
 
+-- and but for the first of those
+pub apart_back : (n : ℕ) (ts waiting : List Task) → n ≤ length (filter (λ t. not (waits t waiting)) ts) → are_apart ts ≡ true → are_apart waiting ≡ true → are_apart (drop n (filter (λ t. not (waits t waiting)) ts) ++ waiting) ≡ true
+apart_back n ts waiting few h w =
+    let back = filter (λ t. not (waits t waiting)) ts in
+    ap are_apart (sym (drop-append-le n back waiting few)) ∙ apart_drop n (back ++ waiting) (apart_before ts waiting h w)
+
+-- the last of them
+pub apart_last : (xs ys : List Task) → are_apart (xs ++ ys) ≡ true → are_apart ys ≡ true
+apart_last [] ys h = h
+apart_last (x ∷ xs) ys h = apart_last xs ys (apart_rest x (xs ++ ys) h)
+
 -- a task in the place of the one of its name
 pub apart_for : (t : Task) (ts : List Task) → are_apart (map (for_same t) ts) ≡ are_apart ts
 apart_for t [] = refl
@@ -139,3 +151,8 @@ pub any_live : (m : ℕ) (ts : List Task) (i : ℕ) (x : Task) → i < length ts
 any_live m ts i x below here young =
     let some = has_live m ts i x below here young in
     sym (ap not (ne_eqb (length (live m ts)) 0 (λ none. omega arith)))
+
+-- where all are worth sending none is dropped
+pub all_kept : (m : ℕ) (ts : List Task) → list_all (λ t. not (is_old m t)) ts ≡ true → live m ts ≡ ts
+all_kept m [] h = refl
+all_kept m (x ∷ xs) h = let p = and_parts (not (is_old m x)) (list_all (λ t. not (is_old m t)) xs) h in λ i. cond (p.0 i) (x ∷ all_kept m xs p.1 i) (live m xs)

@@ -61,6 +61,10 @@ place_of-pop q p x xs h = by (names_eq q (name_of x)) refl
         ∙ sym (ap (λ c. cond c None (Some p)) (names_equiv.symm (name_of x) q ∙ e))
     by false e = sym (ap (λ c. cond c None (place_of q (p + 1) xs)) (names_equiv.symm (name_of x) q ∙ e))
 
+-- one more at the front
+pub place_of-cons : (q : TaskName) (p : ℕ) (x : Task) (xs : List Task) → place_of q p (x ∷ xs) ≡ cond (names_eq (name_of x) q) (Some p) (place_of q (p + 1) xs)
+place_of-cons q p x xs = λ i. cond (names_equiv.symm q (name_of x) i) (Some p) (place_of q (p + 1) xs)
+
 -- a place is one of the list's
 pub place_of-from : (q : TaskName) (p : ℕ) (ts : List Task) (k : ℕ) → place_of q p ts ≡ Some k → p ≤ k
 place_of-from q p [] k h = absurd (cc)
@@ -160,3 +164,8 @@ module _ (m n : HashMap TaskName ℕ (BuildHasherDefault FoldHasher)) where
   -- the first is taken out of it
   pub placed_pop : (p : ℕ) (x : Task) (xs : List Task) (k : TaskName) → k ≡ name_of x → waits x xs ≡ false → Updates names_eq m n k None → IsPlaced p m (x ∷ xs) → IsPlaced (p + 1) n xs
   placed_pop p x xs k named none updates h = λ q. updates.0 q ∙ (λ i. cond (names_eq (named i) q) None (h q i)) ∙ sym (place_of-pop q p x xs none)
+
+  -- a task of a new name at the front is put into it
+  pub placed_front : (x : Task) (xs : List Task) (k : TaskName) (v first : ℕ) → k ≡ name_of x → first ≡ v + 1 → Updates names_eq m n k (Some v) → IsPlaced first m xs → IsPlaced v n (x ∷ xs)
+  placed_front x xs k v first named next updates h =
+      λ q. updates.0 q ∙ (λ i. cond (names_eq (named i) q) (Some v) (h q i)) ∙ ap (λ l. cond (names_eq (name_of x) q) (Some v) (place_of q l xs)) next ∙ sym (place_of-cons q v x xs)

@@ -1,12 +1,13 @@
 //! The tasks that wait.
-ghost use Rattle.std.specs.Prelude.{◌≡◌, ◌==◌, ◌≤◌, ◌<◌, ◌↔◌, ◌&&◌, ◌∷◌, ◌++◌, [], not, drop, take, filter, length, map, true, false, vec_len, nat_le, if◌then◌else◌, Some, None, IfOk, OnOk, IsTrue};
+ghost use Rattle.std.specs.Prelude.{◌≡◌, ◌==◌, ◌+◌, ◌≤◌, ◌<◌, ◌↔◌, ◌&&◌, ◌∷◌, ◌++◌, [], not, drop, take, filter, length, map, option_to_list, true, false, vec_len, nat_le, if◌then◌else◌, Some, None, IfNone, IfOk, OnOk, IsTrue};
+ghost use Rattle.std.specs.List.{list_all};
 ghost use Rattle.std.specs.VecDeque.{deque_len};
 ghost use Rattle.eu_base.specs.Action.{same_name};
 ghost use Rattle.eu_model.specs.Queue.{again, all_answered, answered, bounded, is_old, live, put, waits};
 ghost use Rattle.eu_audit_queue.specs.PlainQueue.{are_apart};
 ghost use Rattle.eu_audit_queue.specs.Places.{name_of, place_of};
 
-use crate::table::{Table, into_name, name_of, table_of};
+use crate::table::{START, Table, name_of, table_of, take_out};
 use eu_base::{Action, Moment, Task, TaskName};
 use eu_model::Tasks;
 use std::alloc::{AllocError, Global};
@@ -26,7 +27,7 @@ const TASK_AGE: u64 = 30_000;
 /// The code of an answer to a heartbeat that found no lease.
 const NOT_FOUND: u16 = 404;
 
-/// Where the place of the first task has come so far, places are counted from 0 anew.
+/// Where the place of the first task has come so far, places are counted anew.
 const FARTHEST: usize = 1_000_000;
 
 /// The tasks that wait, in their order, and where each of them stands, by its name. Contracts see the tasks.
@@ -63,7 +64,7 @@ impl Waiting {
         Waiting {
             tasks: VecDeque::new(alloc),
             table: HashMap::new(alloc),
-            first: 0,
+            first: START,
         }
     }
 
@@ -76,7 +77,7 @@ impl Waiting {
             Some(table) => Ok(Some(Waiting {
                 tasks: VecDeque::from_vec(tasks),
                 table,
-                first: 0,
+                first: START,
             })),
             None => Ok(None),
         }
@@ -187,27 +188,80 @@ impl Waiting {
         Ok(())
     }
 
-    /// Drops the first task.
+    /// Takes out the first task. `AllocError` where no memory is left.
+    fn pop_first(&mut self, alloc: Global) -> Result<Option<Task>, AllocError>
+        ensures items { IfOk result (λ first. self.old ≡ option_to_list first ++ self.new) }
+        ensures none { IfOk result (λ first. IfNone first (self.old ≡ [])) }
+    {
+        if self.first >= FARTHEST {
+            return self.pop_anew(alloc);
+        }
+        match self.tasks.pop_front() {
+            Some(task) => {
+                self.first += 1;
+                Ok(Some(take_out(&mut self.table, task)))
+            }
+            None => Ok(None),
+        }
+    }
+
+    /// Takes out the first task, and counts places anew. `AllocError` where no memory is left.
+    fn pop_anew(&mut self, alloc: Global) -> Result<Option<Task>, AllocError>
+        ensures items { IfOk result (λ first. self.old ≡ option_to_list first ++ self.new) }
+        ensures none { IfOk result (λ first. IfNone first (self.old ≡ [])) }
+    {
+        let mut tasks = self.take_all(alloc);
+        let first = tasks.pop_front();
+        self.refill(alloc, tasks)?;
+        Ok(first)
+    }
+
+    /// Drops the first task. `AllocError` where no memory is left.
     fn drop_first(&mut self, alloc: Global) -> Result<(), AllocError>
         ensures { OnOk result (self.new ≡ drop 1 self.old) }
     {
-        if self.first >= FARTHEST {
-            return self.drop_anew(alloc);
-        }
-        if let Some(task) = self.tasks.pop_front() {
-            self.table.remove(&into_name(task));
-            self.first += 1;
-        }
+        self.pop_first(alloc)?;
         Ok(())
     }
 
-    /// Drops the first task, and counts places from 0 anew.
-    fn drop_anew(&mut self, alloc: Global) -> Result<(), AllocError>
-        ensures { OnOk result (self.new ≡ drop 1 self.old) }
+    /// Puts a task of a name of which none waits first. `AllocError` where no memory is left.
+    fn push_first(&mut self, alloc: Global, task: Task) -> Result<(), AllocError>
+        requires new { waits task self.old ≡ false }
+        requires few { length self.old < 10000 }
+        ensures { OnOk result (self.new ≡ task ∷ self.old) }
+    {
+        if self.first == 0 {
+            return self.push_anew(alloc, task);
+        }
+        let name = name_of(alloc, &task)?;
+        self.tasks.reserve(1)?;
+        self.table.insert(name, self.first - 1)?;
+        self.tasks.push_front_reserved(task);
+        self.first -= 1;
+        Ok(())
+    }
+
+    /// Puts a task of a name of which none waits first, and counts places anew. `AllocError` where no memory is left.
+    fn push_anew(&mut self, alloc: Global, task: Task) -> Result<(), AllocError>
+        requires new { waits task self.old ≡ false }
+        requires few { length self.old < 10000 }
+        ensures { OnOk result (self.new ≡ task ∷ self.old) }
     {
         let mut tasks = self.take_all(alloc);
-        tasks.pop_front();
+        tasks.push_front(task)?;
         self.refill(alloc, tasks)
+    }
+
+    /// Puts tasks before the others. `AllocError` where no memory is left.
+    fn push_all_first(&mut self, alloc: Global, mut tasks: VecDeque<Task>) -> Result<(), AllocError>
+        requires apart { are_apart (tasks.items ++ self.old) ≡ true }
+        requires few { deque_len tasks + length self.old ≤ 10000 }
+        ensures { OnOk result (self.new ≡ tasks.items ++ self.old) }
+    {
+        while let Some(task) = tasks.pop_back() {
+            self.push_first(alloc, task)?;
+        }
+        Ok(())
     }
 
     /// Whether a task waits that is still worth sending at the moment. Takes no memory.
@@ -222,6 +276,18 @@ impl Waiting {
         false
     }
 
+    /// Whether every task that waits is still worth sending at the moment. Takes no memory.
+    fn all_live(&self, moment: Moment) -> bool
+        ensures { result ≡ list_all (λ task. not (is_old moment task)) self.now }
+    {
+        for place in 0..self.tasks.len() {
+            if !is_live(&self.tasks[place], moment) {
+                return false;
+            }
+        }
+        true
+    }
+
     /// Takes out the first 250 tasks that are still worth sending at the moment, and drops those that aren't. `AllocError` where no
     /// memory is left.
     pub(crate) fn send(&mut self, alloc: Global, moment: Moment) -> Result<Vec<Task>, AllocError>
@@ -229,11 +295,36 @@ impl Waiting {
         ensures batch { IfOk result (λ batch. batch.items ≡ take 250 (live moment self.old)) }
         ensures apart { IfOk result (λ batch. are_apart batch.items ≡ true) }
     {
+        self.drop_old(alloc, moment)?;
+        self.pop_batch(alloc)
+    }
+
+    /// Drops the tasks that aren't worth sending any more at the moment. `AllocError` where no memory is left.
+    fn drop_old(&mut self, alloc: Global, moment: Moment) -> Result<(), AllocError>
+        ensures { OnOk result (self.new ≡ live moment self.old) }
+    {
+        if self.all_live(moment) {
+            return Ok(());
+        }
         let mut tasks = self.take_all(alloc);
         keep_live(&mut tasks, moment);
-        let rest = tasks.split_off(MOST_SENT.min(tasks.len()))?;
-        self.refill(alloc, rest)?;
-        Ok(tasks.into_vec())
+        self.refill(alloc, tasks)
+    }
+
+    /// Takes out the first 250 tasks. `AllocError` where no memory is left.
+    fn pop_batch(&mut self, alloc: Global) -> Result<Vec<Task>, AllocError>
+        ensures rest { OnOk result (self.new ≡ drop 250 self.old) }
+        ensures batch { IfOk result (λ batch. batch.items ≡ take 250 self.old) }
+        ensures apart { IfOk result (λ batch. are_apart batch.items ≡ true) }
+    {
+        let mut batch = Vec::with_capacity(alloc, MOST_SENT.min(self.tasks.len()))?;
+        'tasks: while batch.len() < MOST_SENT {
+            match self.pop_first(alloc)? {
+                Some(task) => batch.push(task)?,
+                None => return Ok(batch),
+            }
+        }
+        Ok(batch)
     }
 
     /// Puts those tasks of a batch that come back before the others, and drops the first until 10,000 wait. `AllocError` where no
@@ -248,10 +339,9 @@ impl Waiting {
         ensures { OnOk result (self.new ≡ bounded (filter (λ task. not (waits task self.old)) (live moment batch.now) ++ self.old)) }
     {
         let mut tasks = self.returning(alloc, batch, moment)?;
-        tasks.append(&mut self.take_all(alloc))?;
-        let surplus = tasks.len().saturating_sub(MOST_WAITING);
-        let rest = tasks.split_off(surplus)?;
-        self.refill(alloc, rest)
+        let surplus = (tasks.len() + self.tasks.len()).saturating_sub(MOST_WAITING);
+        let kept = tasks.split_off(surplus)?;
+        self.push_all_first(alloc, kept)
     }
 
     /// Copies of those tasks of a batch that are still worth sending at the moment, and of whose name none waits. `AllocError` where

@@ -4,8 +4,8 @@ use Rattle.eu_audit_queue.specs.Places.{IsPlaced}
 use Rattle.eu_audit_queue.proofs.table.table_of.Given as goal
 
 -- the places of those so far, of which no two have one name
-abbrev pub invariant-loop-place : goal.invariant-loop-place
-invariant-loop-place l = record {
-  apart : are_apart (take l.place l.tasks) ≡ true;
-  placed : IsPlaced 0 l.table (take l.place l.tasks);
+abbrev pub invariant-loop-index : goal.invariant-loop-index
+invariant-loop-index l = record {
+  apart : are_apart (take l.index l.tasks) ≡ true;
+  placed : IsPlaced 500000 l.table (take l.index l.tasks);
 }

@@ -1,6 +1,7 @@
 #!/usr/bin/env bash
 # Entries a second of the auditor: 65,536 by the processor time of `eureka audit` less that of `eureka script` over the same lines, for journals
-# that have 65,536 entries of one kind over so many leases. The first word may name the program; else it is this repository's.
+# that have 65,536 entries of one kind over so many leases, and for turns of a peer's queue. The first word may name the program; else it is
+# this repository's.
 set -euo pipefail
 top=$(cd "$(dirname "${BASH_SOURCE[0]}")/.." && pwd)
 if [ $# -eq 0 ]; then
@@ -55,4 +56,15 @@ for leases in 1000 65000; do
         found=$(rate --preservation off --percent 0)
         echo "$kind passes over $leases leases: $found"
     done
+done
+
+# Turns of a peer's queue: 10,000 tasks wait, or 1,000, and a batch of 250 goes in flight and is lost, until the journal has 65,536 entries.
+for tasks in 1000 10000; do
+    awk -v tasks="$tasks" 'BEGIN {
+        print "open 1 1"
+        for (i = 0; i < tasks; i++) printf "register 0 A%d host-%d 2147483 UP UNKNOWN 0 c\n", i % 100, i
+        for (n = tasks; n < 131072; n += 2) print "drain 1 0\nlost 1 0"
+    }' > "$work/script"
+    found=$(rate)
+    echo "turns of a queue of $tasks tasks: $found"
 done

@@ -1,5 +1,6 @@
 //! The tests.
 mod changed;
+mod failures;
 mod journal;
 mod memory;
 mod reading;

@@ -1,0 +1,486 @@
+//! Journals whose reader fails at each place in turn, and audits whose writer does.
+ghost use Rattle.std.specs.Prelude.{None, ◌≤◌, length};
+
+use crate::tests::reading::{LINES, text_of};
+use eu_journal_audit::{AuditFault, answer_journal_audit, run_journal_audit};
+use eu_stream::{ReadFault, Sink, Source, WriteFault};
+use std::alloc::{AllocError, Global};
+use std::io::{self, Error, ErrorKind, Read, Write};
+use std::test::Fail;
+
+/// The audit of the journal: a run of three entries.
+const VERDICT: &[u8] = b"audit yes 3\n";
+
+/// Gives a text in pieces of a size. The read of one number, counted from 0, fails so often by an error of that kind, and no other does.
+#[derive(Drop)]
+struct Torn<'a> {
+    text: &'a [u8],
+    size: usize,
+    reads: usize,
+    fails_at: usize,
+    failures: usize,
+    kind: ErrorKind,
+    has_failed: bool,
+}
+
+impl<'a> Torn<'a> {
+    /// It fails once.
+    fn new(text: &'a [u8], size: usize, fails_at: usize, kind: ErrorKind) -> Torn<'a> {
+        Torn {
+            text,
+            size,
+            reads: 0,
+            fails_at,
+            failures: 1,
+            kind,
+            has_failed: false,
+        }
+    }
+
+    /// Whether the next read fails.
+    fn fails(&mut self) -> bool {
+        if self.reads != self.fails_at || self.failures == 0 {
+            return false;
+        }
+        self.failures -= 1;
+        self.has_failed = true;
+        true
+    }
+
+    /// Gives the next piece.
+    fn give(&mut self, buffer: &mut [u8]) -> usize
+        ensures { result ≤ length buffer.new }
+    {
+        let count = self.text.len().min(self.size).min(buffer.len());
+        buffer[..count].copy_from_slice(&self.text[..count]);
+        self.text = &self.text[count..];
+        self.reads = self.reads.saturating_add(1);
+        count
+    }
+}
+
+impl Read for Torn<'_> {
+    ghost remaining = { λ _. None };
+
+    fn read(&mut self, buffer: &mut [u8]) -> io::Result<usize> {
+        if self.fails() {
+            return Err(Error::from(self.kind));
+        }
+        Ok(self.give(buffer))
+    }
+}
+
+impl Source for Torn<'_> {
+    ghost stream = { λ _. 0 };
+
+    ghost remaining = { λ _. None };
+
+    ghost failed = { λ s. s.has_failed };
+
+    fn read_some(&mut self, buffer: &mut [u8]) -> Result<usize, ReadFault> {
+        if self.fails() {
+            return Err(ReadFault);
+        }
+        Ok(self.give(buffer))
+    }
+}
+
+/// Takes so many bytes at a time. The write or flush of one number, counted from 0, fails, and no other does: by an error of that kind, or, where
+/// there is none, as the write takes nothing.
+#[derive(Drop)]
+struct Brittle {
+    held: Vec<u8>,
+    size: usize,
+    calls: usize,
+    fails_at: usize,
+    kind: Option<ErrorKind>,
+    has_failed: bool,
+}
+
+impl Brittle {
+    fn new(alloc: Global, size: usize, fails_at: usize, kind: Option<ErrorKind>) -> Brittle {
+        Brittle {
+            held: Vec::new(alloc),
+            size,
+            calls: 0,
+            fails_at,
+            kind,
+            has_failed: false,
+        }
+    }
+
+    /// It never fails.
+    fn steady(alloc: Global) -> Brittle {
+        Brittle::new(alloc, usize::MAX, usize::MAX, None)
+    }
+
+    /// Whether this call fails.
+    fn fails(&mut self) -> bool {
+        let number = self.calls;
+        self.calls = number.saturating_add(1);
+        number == self.fails_at
+    }
+
+    /// Whether it was asked for so many writes and flushes, and holds this.
+    fn is(&self, calls: usize, held: &[u8]) -> bool {
+        self.calls == calls && self.held.as_slice() == held
+    }
+}
+
+impl Write for Brittle {
+    fn write(&mut self, bytes: &[u8]) -> io::Result<usize> {
+        if self.fails() {
+            return match self.kind {
+                Some(kind) => Err(Error::from(kind)),
+                None => Ok(0),
+            };
+        }
+        let count = bytes.len().min(self.size);
+        self.held.extend_from_slice(&bytes[..count])?;
+        Ok(count)
+    }
+
+    fn flush(&mut self) -> io::Result<()> {
+        let fails = self.fails();
+        match self.kind {
+            Some(kind) if fails => Err(Error::from(kind)),
+            _ => Ok(()),
+        }
+    }
+}
+
+impl Sink for Brittle {
+    ghost stream = { λ _. 0 };
+
+    ghost contents = { λ _. None };
+
+    ghost failed = { λ s. s.has_failed };
+
+    fn write_some(&mut self, bytes: &[u8]) -> Result<usize, WriteFault> {
+        let most = if self.fails() { 0 } else { self.size };
+        let count = bytes.len().min(most);
+        let is_taken = self.held.extend_from_slice(&bytes[..count]).is_ok();
+        if !is_taken || (count == 0 && !bytes.is_empty()) {
+            self.has_failed = true;
+            return Err(WriteFault);
+        }
+        Ok(count)
+    }
+
+    fn flush(&mut self) -> Result<(), WriteFault> {
+        if self.fails() {
+            self.has_failed = true;
+            return Err(WriteFault);
+        }
+        Ok(())
+    }
+}
+
+/// Kinds of errors of a read or a write, those among them that sound as if they were something else.
+const KINDS: [ErrorKind; 9] = [
+    ErrorKind::OutOfMemory,
+    ErrorKind::UnexpectedEof,
+    ErrorKind::InvalidData,
+    ErrorKind::WriteZero,
+    ErrorKind::WouldBlock,
+    ErrorKind::TimedOut,
+    ErrorKind::BrokenPipe,
+    ErrorKind::ConnectionReset,
+    ErrorKind::Other,
+];
+
+/// How many reads a text of so many bytes takes by pieces of a size, with the one that finds its end.
+fn reads_of(len: usize, size: usize) -> usize {
+    len.div_ceil(size.max(1)).saturating_add(1)
+}
+
+/// Whether an audit over std's readers ends so, and nothing is asked of its writer.
+fn stays_silent(alloc: Global, mut reader: Torn<'_>, wanted: AuditFault) -> bool {
+    let mut writer = Brittle::steady(alloc);
+    let ended = run_journal_audit(alloc, &mut reader, &mut writer);
+    ended == Err(wanted) && writer.is(0, b"")
+}
+
+/// Whether an audit over std's readers tells the verdict.
+fn is_told(alloc: Global, mut reader: Torn<'_>) -> bool {
+    let mut writer = Brittle::steady(alloc);
+    let ended = run_journal_audit(alloc, &mut reader, &mut writer);
+    ended == Ok(true) && writer.is(2, VERDICT)
+}
+
+/// The first read whose failure, by an error of that kind, isn't told as one before anything is written; none also where the audit goes on
+/// whole once no read fails.
+fn wrong_read(alloc: Global, text: &[u8], size: usize, kind: ErrorKind) -> Option<usize> {
+    let reads = reads_of(text.len(), size);
+    for fails_at in 0..reads {
+        let reader = Torn::new(text, size, fails_at, kind);
+        if !stays_silent(alloc, reader, AuditFault::Read) {
+            return Some(fails_at);
+        }
+    }
+    if is_told(alloc, Torn::new(text, size, reads, kind)) {
+        None
+    } else {
+        Some(reads)
+    }
+}
+
+#[test]
+fn a_failed_read_of_a_journal_is_told(rt: HostRuntime) -> Result<(), Fail> {
+    let text = text_of(rt.alloc(), LINES.as_slice())?;
+    for size in [16, 300, 4_096] {
+        let wrong = wrong_read(rt.alloc(), text.as_bytes(), size, ErrorKind::BrokenPipe);
+        assert!(rt; wrong.is_none(), "by {size}");
+    }
+    Ok(())
+}
+
+#[test]
+fn each_failed_read_of_a_journal_is_told_alike(rt: HostRuntime) -> Result<(), Fail> {
+    let text = text_of(rt.alloc(), LINES.as_slice())?;
+    for kind in KINDS {
+        assert!(rt; wrong_read(rt.alloc(), text.as_bytes(), 300, kind).is_none());
+    }
+    Ok(())
+}
+
+/// Whether a read that is interrupted so often is tried again, whichever it is.
+fn goes_on(alloc: Global, text: &[u8], failures: usize) -> bool {
+    for fails_at in 0..reads_of(text.len(), 300) {
+        let mut reader = Torn::new(text, 300, fails_at, ErrorKind::Interrupted);
+        reader.failures = failures;
+        if !is_told(alloc, reader) {
+            return false;
+        }
+    }
+    true
+}
+
+/// Whether a read that is interrupted sixteen times is told as one that failed, whichever it is.
+fn gives_up(alloc: Global, text: &[u8]) -> bool {
+    for fails_at in 0..reads_of(text.len(), 300) {
+        let mut reader = Torn::new(text, 300, fails_at, ErrorKind::Interrupted);
+        reader.failures = 16;
+        if !stays_silent(alloc, reader, AuditFault::Read) {
+            return false;
+        }
+    }
+    true
+}
+
+#[test]
+fn an_interrupted_read_of_a_journal_is_tried_again(rt: HostRuntime) -> Result<(), Fail> {
+    let text = text_of(rt.alloc(), LINES.as_slice())?;
+    assert!(rt; goes_on(rt.alloc(), text.as_bytes(), 1));
+    assert!(rt; goes_on(rt.alloc(), text.as_bytes(), 15));
+    assert!(rt; gives_up(rt.alloc(), text.as_bytes()));
+    Ok(())
+}
+
+/// The text whose line of this number, from 0, says nothing, and where that line ends.
+fn spoiled(alloc: Global, number: usize) -> Result<(String, usize), AllocError> {
+    let lines = LINES.as_slice();
+    let number = number.min(lines.len());
+    let mut text = text_of(alloc, &lines[..number])?;
+    text.push_str("{}\n")?;
+    let end = text.len();
+    let behind = text_of(alloc, &lines[number.saturating_add(1).min(lines.len())..])?;
+    text.push_str(behind.as_str())?;
+    Ok((text, end))
+}
+
+/// What an audit is to tell that fails at a read, where so many bytes come before, and the line of this number, from 0, is bad and ends there.
+fn fault_behind(bytes: usize, end: usize, number: usize) -> AuditFault {
+    if bytes < end {
+        AuditFault::Read
+    } else {
+        AuditFault::BadLine(number as u64 + 1)
+    }
+}
+
+/// The first read whose failure is told otherwise, by pieces of a size, of a text whose line of this number is bad.
+fn wrong_fault(alloc: Global, number: usize, size: usize) -> Result<Option<usize>, AllocError> {
+    let (text, end) = spoiled(alloc, number)?;
+    for fails_at in 0..=reads_of(text.len(), size) {
+        let wanted = fault_behind(size.saturating_mul(fails_at), end, number);
+        let reader = Torn::new(text.as_bytes(), size, fails_at, ErrorKind::InvalidData);
+        if !stays_silent(alloc, reader, wanted) {
+            return Ok(Some(fails_at));
+        }
+    }
+    Ok(None)
+}
+
+#[test]
+fn a_bad_line_of_a_journal_comes_before_a_later_read(rt: HostRuntime) -> Result<(), Fail> {
+    for number in 0..LINES.len() {
+        assert!(rt; wrong_fault(rt.alloc(), number, 100)?.is_none(), "{number}");
+    }
+    assert!(rt; wrong_fault(rt.alloc(), 3, 16)?.is_none());
+    Ok(())
+}
+
+/// The first read whose failure is told otherwise than as one, of a journal that isn't whole; none also where that it isn't is told once no
+/// read fails.
+fn wrong_end(alloc: Global, text: &[u8], size: usize) -> Option<usize> {
+    let reads = reads_of(text.len(), size);
+    for fails_at in 0..=reads {
+        let wanted = if fails_at < reads {
+            AuditFault::Read
+        } else {
+            AuditFault::EndsEarly
+        };
+        let reader = Torn::new(text, size, fails_at, ErrorKind::UnexpectedEof);
+        if !stays_silent(alloc, reader, wanted) {
+            return Some(fails_at);
+        }
+    }
+    None
+}
+
+#[test]
+fn a_failed_read_is_no_end_of_a_journal(rt: HostRuntime) -> Result<(), Fail> {
+    let lines = LINES.as_slice();
+    for count in 0..lines.len() {
+        let text = text_of(rt.alloc(), &lines[..count])?;
+        assert!(rt;
+            wrong_end(rt.alloc(), text.as_bytes(), 300).is_none(),
+            "{count}"
+        );
+    }
+    Ok(())
+}
+
+/// Whether an audit over a source and a sink ends so, and its sink was asked for so many writes and flushes, and holds this.
+fn answers(
+    alloc: Global,
+    mut reader: Torn<'_>,
+    mut writer: Brittle,
+    wanted: Result<bool, AuditFault>,
+    calls: usize,
+    held: &[u8],
+) -> bool {
+    let ended = answer_journal_audit(alloc, &mut reader, &mut writer);
+    ended == wanted && writer.is(calls, held)
+}
+
+/// The first read of a source whose failure isn't told as one before anything is written, also where the first write would fail.
+fn wrong_source(alloc: Global, text: &[u8], size: usize) -> Option<usize> {
+    for fails_at in 0..reads_of(text.len(), size) {
+        let reader = Torn::new(text, size, fails_at, ErrorKind::Other);
+        let writer = Brittle::new(alloc, 1, 0, None);
+        if !answers(alloc, reader, writer, Err(AuditFault::Read), 0, b"") {
+            return Some(fails_at);
+        }
+    }
+    None
+}
+
+#[test]
+fn a_failed_source_of_a_journal_is_told(rt: HostRuntime) -> Result<(), Fail> {
+    let text = text_of(rt.alloc(), LINES.as_slice())?;
+    for size in [16, 300, 4_096] {
+        let wrong = wrong_source(rt.alloc(), text.as_bytes(), size);
+        assert!(rt; wrong.is_none(), "by {size}");
+    }
+    Ok(())
+}
+
+/// How many bytes a writer takes at once, with the number of writes and flushes of an audit: the line has twelve bytes, and is flushed once.
+const WRITES: [(usize, usize); 3] = [(1, 13), (5, 4), (100, 2)];
+
+/// How many bytes of the line are written before the write of this number, from 0, by so many at once.
+fn written_before(size: usize, number: usize) -> &'static [u8] {
+    &VERDICT[..size.saturating_mul(number).min(VERDICT.len())]
+}
+
+/// The first write or flush of a sink whose failure is told otherwise, of so many.
+fn wrong_sink(alloc: Global, text: &[u8], size: usize, calls: usize) -> Option<usize> {
+    for fails_at in 0..calls {
+        let reader = Torn::new(text, 1_000, usize::MAX, ErrorKind::Other);
+        let writer = Brittle::new(alloc, size, fails_at, None);
+        let (calls, held) = (fails_at.saturating_add(1), written_before(size, fails_at));
+        if !answers(alloc, reader, writer, Err(AuditFault::Write), calls, held) {
+            return Some(fails_at);
+        }
+    }
+    let reader = Torn::new(text, 1_000, usize::MAX, ErrorKind::Other);
+    let writer = Brittle::new(alloc, size, calls, None);
+    if answers(alloc, reader, writer, Ok(true), calls, VERDICT) {
+        None
+    } else {
+        Some(calls)
+    }
+}
+
+#[test]
+fn a_failed_sink_of_an_audit_is_told(rt: HostRuntime) -> Result<(), Fail> {
+    let text = text_of(rt.alloc(), LINES.as_slice())?;
+    for (size, calls) in WRITES {
+        let wrong = wrong_sink(rt.alloc(), text.as_bytes(), size, calls);
+        assert!(rt; wrong.is_none(), "by {size}");
+    }
+    Ok(())
+}
+
+/// Whether an audit over std's readers and writers ends at the write or flush of that number, with a front of the line written.
+fn ends_at(alloc: Global, text: &[u8], mut writer: Brittle, size: usize, fails_at: usize) -> bool {
+    let mut reader = text;
+    let ended = run_journal_audit(alloc, &mut reader, &mut writer);
+    ended == Err(AuditFault::Write)
+        && writer.is(fails_at.saturating_add(1), written_before(size, fails_at))
+}
+
+/// The first write or flush of std's writers, of so many, that doesn't end an audit where it fails so.
+fn wrong_write(
+    alloc: Global,
+    text: &[u8],
+    size: usize,
+    calls: usize,
+    kind: Option<ErrorKind>,
+) -> Option<usize> {
+    for fails_at in 0..calls {
+        let writer = Brittle::new(alloc, size, fails_at, kind);
+        if !ends_at(alloc, text, writer, size, fails_at) {
+            return Some(fails_at);
+        }
+    }
+    None
+}
+
+#[test]
+fn a_failed_write_of_an_audit_is_told(rt: HostRuntime) -> Result<(), Fail> {
+    let text = text_of(rt.alloc(), LINES.as_slice())?;
+    for (size, calls) in WRITES {
+        let wrong = wrong_write(
+            rt.alloc(),
+            text.as_bytes(),
+            size,
+            calls,
+            Some(ErrorKind::Other),
+        );
+        assert!(rt; wrong.is_none(), "by {size}");
+    }
+    for kind in KINDS {
+        let wrong = wrong_write(rt.alloc(), text.as_bytes(), 5, 4, Some(kind));
+        assert!(rt; wrong.is_none());
+    }
+    Ok(())
+}
+
+/// A flush takes nothing, so the writes alone can do that.
+#[test]
+fn a_write_of_an_audit_that_takes_nothing_is_told(rt: HostRuntime) -> Result<(), Fail> {
+    let text = text_of(rt.alloc(), LINES.as_slice())?;
+    for (size, calls) in WRITES {
+        let wrong = wrong_write(
+            rt.alloc(),
+            text.as_bytes(),
+            size,
+            calls.saturating_sub(1),
+            None,
+        );
+        assert!(rt; wrong.is_none(), "by {size}");
+    }
+    Ok(())
+}

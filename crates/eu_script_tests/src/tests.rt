@@ -1,5 +1,6 @@
 //! The tests, by what they are of.
 mod examples;
+mod failures;
 mod journals;
 mod lines;
 mod memory;

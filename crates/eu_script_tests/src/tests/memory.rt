@@ -7,7 +7,7 @@ use std::alloc::{AllocError, Global};
 
 /// A script, with what each line prints: one peer is told of a client, and loses what it is told then; an instance is adopted; the settings are changed,
 /// and a pass evicts.
-const LINES: [(&str, &str); 20] = [
+pub const LINES: [(&str, &str); 20] = [
     ("open 0 1", "opened"),
     ("register 0 A i1 90 UP UNKNOWN 5 c", "204"),
     ("renew 1 A i1 - - c", "200"),
@@ -40,9 +40,9 @@ const LINES: [(&str, &str); 20] = [
 ];
 
 /// What is told of the 16 lines that are steps.
-const VERDICT: &[u8] = b"audit yes 16\n";
+pub const VERDICT: &[u8] = b"audit yes 16\n";
 
-fn script(alloc: Global) -> Result<String, AllocError> {
+pub fn script(alloc: Global) -> Result<String, AllocError> {
     let mut text = String::new(alloc);
     for (line, _) in LINES {
         text.push_str(line)?;
@@ -70,7 +70,7 @@ fn printed(out: &[u8]) -> Option<usize> {
     lines(str::from_utf8(out).unwrap_or("?"))
 }
 
-fn settings() -> Result<Config, Fault> {
+pub fn settings() -> Result<Config, Fault> {
     Config::new(true, 85, 30, 60_000)
 }
 

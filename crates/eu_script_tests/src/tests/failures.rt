@@ -1,0 +1,434 @@
+//! Scripts whose reader fails at each place in turn, and whose writer does.
+ghost use Rattle.std.specs.Prelude.{None, ◌≤◌, length};
+
+use crate::tests::memory::{LINES, VERDICT, script, settings};
+use eu_base::Fault;
+use eu_clock::FirstChooser;
+use eu_lines::ScriptFault;
+use eu_server::{
+    answer_audit, answer_script, answer_script_with_journal, run_audit, run_script,
+    run_script_with_journal,
+};
+use eu_stream::{ReadFault, Sink, Source, WriteFault};
+use std::alloc::{AllocError, Global};
+use std::io::{self, Error, ErrorKind, Read, Write};
+use std::test::Fail;
+
+/// Gives a text in pieces of a size. The read of one number, counted from 0, fails so often by an error of that kind, and no other does.
+#[derive(Drop)]
+struct Torn<'a> {
+    text: &'a [u8],
+    size: usize,
+    reads: usize,
+    fails_at: usize,
+    failures: usize,
+    kind: ErrorKind,
+    has_failed: bool,
+}
+
+impl<'a> Torn<'a> {
+    /// It fails once.
+    fn new(text: &'a [u8], size: usize, fails_at: usize, kind: ErrorKind) -> Torn<'a> {
+        Torn {
+            text,
+            size,
+            reads: 0,
+            fails_at,
+            failures: 1,
+            kind,
+            has_failed: false,
+        }
+    }
+
+    /// Whether the next read fails.
+    fn fails(&mut self) -> bool {
+        if self.reads != self.fails_at || self.failures == 0 {
+            return false;
+        }
+        self.failures -= 1;
+        self.has_failed = true;
+        true
+    }
+
+    /// Gives the next piece.
+    fn give(&mut self, buffer: &mut [u8]) -> usize
+        ensures { result ≤ length buffer.new }
+    {
+        let count = self.text.len().min(self.size).min(buffer.len());
+        buffer[..count].copy_from_slice(&self.text[..count]);
+        self.text = &self.text[count..];
+        self.reads = self.reads.saturating_add(1);
+        count
+    }
+}
+
+impl Read for Torn<'_> {
+    ghost remaining = { λ _. None };
+
+    fn read(&mut self, buffer: &mut [u8]) -> io::Result<usize> {
+        if self.fails() {
+            return Err(Error::from(self.kind));
+        }
+        Ok(self.give(buffer))
+    }
+}
+
+impl Source for Torn<'_> {
+    ghost stream = { λ _. 0 };
+
+    ghost remaining = { λ _. None };
+
+    ghost failed = { λ s. s.has_failed };
+
+    fn read_some(&mut self, buffer: &mut [u8]) -> Result<usize, ReadFault> {
+        if self.fails() {
+            return Err(ReadFault);
+        }
+        Ok(self.give(buffer))
+    }
+}
+
+/// Takes so many bytes at a time. The write or flush of one number, counted from 0, fails, and no other does: by an error of that kind, or, where
+/// there is none, as the write takes nothing.
+#[derive(Drop)]
+struct Brittle {
+    held: Vec<u8>,
+    size: usize,
+    calls: usize,
+    fails_at: usize,
+    kind: Option<ErrorKind>,
+    has_failed: bool,
+}
+
+impl Brittle {
+    fn new(alloc: Global, size: usize, fails_at: usize, kind: Option<ErrorKind>) -> Brittle {
+        Brittle {
+            held: Vec::new(alloc),
+            size,
+            calls: 0,
+            fails_at,
+            kind,
+            has_failed: false,
+        }
+    }
+
+    /// It never fails.
+    fn steady(alloc: Global) -> Brittle {
+        Brittle::new(alloc, usize::MAX, usize::MAX, None)
+    }
+
+    /// Whether this call fails.
+    fn fails(&mut self) -> bool {
+        let number = self.calls;
+        self.calls = number.saturating_add(1);
+        number == self.fails_at
+    }
+
+    /// Whether it was asked for so many writes and flushes, and holds this.
+    fn is(&self, calls: usize, held: &[u8]) -> bool {
+        self.calls == calls && self.held.as_slice() == held
+    }
+}
+
+impl Write for Brittle {
+    fn write(&mut self, bytes: &[u8]) -> io::Result<usize> {
+        if self.fails() {
+            self.has_failed = true;
+            return match self.kind {
+                Some(kind) => Err(Error::from(kind)),
+                None => Ok(0),
+            };
+        }
+        let count = bytes.len().min(self.size);
+        self.held.extend_from_slice(&bytes[..count])?;
+        Ok(count)
+    }
+
+    fn flush(&mut self) -> io::Result<()> {
+        let fails = self.fails();
+        match self.kind {
+            Some(kind) if fails => {
+                self.has_failed = true;
+                Err(Error::from(kind))
+            }
+            _ => Ok(()),
+        }
+    }
+}
+
+impl Sink for Brittle {
+    ghost stream = { λ _. 0 };
+
+    ghost contents = { λ _. None };
+
+    ghost failed = { λ s. s.has_failed };
+
+    fn write_some(&mut self, bytes: &[u8]) -> Result<usize, WriteFault> {
+        let most = if self.fails() { 0 } else { self.size };
+        let count = bytes.len().min(most);
+        let is_taken = self.held.extend_from_slice(&bytes[..count]).is_ok();
+        if !is_taken || (count == 0 && !bytes.is_empty()) {
+            self.has_failed = true;
+            return Err(WriteFault);
+        }
+        Ok(count)
+    }
+
+    fn flush(&mut self) -> Result<(), WriteFault> {
+        if self.fails() {
+            self.has_failed = true;
+            return Err(WriteFault);
+        }
+        Ok(())
+    }
+}
+
+/// Kinds of errors of a read or a write, those among them that sound as if they were something else.
+const KINDS: [ErrorKind; 9] = [
+    ErrorKind::OutOfMemory,
+    ErrorKind::UnexpectedEof,
+    ErrorKind::InvalidData,
+    ErrorKind::WriteZero,
+    ErrorKind::WouldBlock,
+    ErrorKind::TimedOut,
+    ErrorKind::BrokenPipe,
+    ErrorKind::ConnectionReset,
+    ErrorKind::Other,
+];
+
+/// How many reads a text of so many bytes takes by pieces of a size, with the one that finds its end.
+fn reads_of(len: usize, size: usize) -> usize {
+    len.div_ceil(size.max(1)).saturating_add(1)
+}
+
+/// Which call runs the script, or audits it.
+#[derive(Clone, Copy, PartialEq, Eq)]
+enum Call {
+    Run,
+    RunWithJournal,
+    Answer,
+    AnswerWithJournal,
+    RunAudit,
+    AnswerAudit,
+}
+
+/// All of them.
+const CALLS: [Call; 6] = [
+    Call::Run,
+    Call::RunWithJournal,
+    Call::Answer,
+    Call::AnswerWithJournal,
+    Call::RunAudit,
+    Call::AnswerAudit,
+];
+
+/// How a script or its audit ended, and what its writers hold. An audit ends with its answer, a script with yes.
+#[derive(Drop)]
+struct Came {
+    ended: Result<bool, ScriptFault>,
+    writer: Brittle,
+    journal: Brittle,
+}
+
+impl Came {
+    /// Whether it ended by a fault, with this printed and nothing asked of the journal.
+    fn has_ended_by(&self, fault: ScriptFault, printed: &[u8]) -> bool {
+        self.ended == Err(fault)
+            && self.writer.held.as_slice() == printed
+            && self.journal.is(0, b"")
+    }
+}
+
+/// What comes of a script by that call.
+fn came_of(
+    alloc: Global,
+    call: Call,
+    mut reader: Torn<'_>,
+    mut writer: Brittle,
+) -> Result<Came, Fault> {
+    let config = settings()?;
+    let mut journal = Brittle::steady(alloc);
+    let (r, w, j) = (&mut reader, &mut writer, &mut journal);
+    let mut first = FirstChooser;
+    let c = &mut first;
+    let ended = match call {
+        Call::Run => run_script(alloc, r, w, config, c).map(|()| true),
+        Call::RunWithJournal => run_script_with_journal(alloc, r, w, j, config, c).map(|()| true),
+        Call::Answer => answer_script(alloc, r, w, config, c).map(|()| true),
+        Call::AnswerWithJournal => {
+            answer_script_with_journal(alloc, r, w, j, config, c).map(|()| true)
+        }
+        Call::RunAudit => run_audit(alloc, r, w, config, c),
+        Call::AnswerAudit => answer_audit(alloc, r, w, config, c),
+    };
+    Ok(Came {
+        ended,
+        writer,
+        journal,
+    })
+}
+
+/// What the lines print that end in these bytes of the script.
+fn printed_by(alloc: Global, bytes: &[u8]) -> Result<String, AllocError> {
+    let count = bytes.iter().filter(|byte| **byte == b'\n').count();
+    let mut text = String::new(alloc);
+    for (_, printed) in &LINES[..count.min(LINES.len())] {
+        text.push_str(printed)?;
+        text.push_str("\n")?;
+    }
+    Ok(text)
+}
+
+/// What a call has written once all of these bytes of the script have come, but not its end.
+fn written_by(alloc: Global, call: Call, bytes: &[u8]) -> Result<String, AllocError> {
+    match call {
+        Call::RunAudit | Call::AnswerAudit => Ok(String::new(alloc)),
+        _ => printed_by(alloc, bytes),
+    }
+}
+
+/// Whether a call tells that a read failed, and has answered just the lines that had come.
+fn is_told(
+    alloc: Global,
+    call: Call,
+    text: &str,
+    size: usize,
+    fails_at: usize,
+    kind: ErrorKind,
+) -> Result<bool, Fault> {
+    let bytes = text.as_bytes();
+    let come = &bytes[..size.saturating_mul(fails_at).min(bytes.len())];
+    let written = written_by(alloc, call, come)?;
+    let reader = Torn::new(bytes, size, fails_at, kind);
+    let came = came_of(alloc, call, reader, Brittle::steady(alloc))?;
+    let is_told = came.has_ended_by(ScriptFault::Read, written.as_bytes());
+    drop(came);
+    Ok(is_told)
+}
+
+/// The first read whose failure is told otherwise, or as anything but a failed read.
+fn wrong_read(
+    alloc: Global,
+    call: Call,
+    size: usize,
+    kind: ErrorKind,
+) -> Result<Option<usize>, Fault> {
+    let text = script(alloc)?;
+    for fails_at in 0..reads_of(text.len(), size) {
+        if !is_told(alloc, call, &text, size, fails_at, kind)? {
+            return Ok(Some(fails_at));
+        }
+    }
+    Ok(None)
+}
+
+#[test]
+fn a_failed_read_of_a_script_is_told(rt: HostRuntime) -> Result<(), Fail> {
+    for call in CALLS {
+        for size in [7, 4_096] {
+            let wrong = wrong_read(rt.alloc(), call, size, ErrorKind::BrokenPipe)?;
+            assert!(rt; wrong.is_none(), "by {size}");
+        }
+    }
+    Ok(())
+}
+
+#[test]
+fn each_failed_read_of_a_script_is_told_alike(rt: HostRuntime) -> Result<(), Fail> {
+    for kind in KINDS {
+        for call in CALLS {
+            assert!(rt; wrong_read(rt.alloc(), call, 100, kind)?.is_none());
+        }
+    }
+    Ok(())
+}
+
+/// All that a call writes that ends well.
+fn all_written(alloc: Global, call: Call, text: &str) -> Result<String, AllocError> {
+    match call {
+        Call::RunAudit | Call::AnswerAudit => {
+            String::from_str(alloc, str::from_utf8(VERDICT).unwrap_or("?"))
+        }
+        _ => printed_by(alloc, text.as_bytes()),
+    }
+}
+
+/// What comes of a script that is read by a hundred bytes, and written by so many, where the write or flush of a number fails.
+fn came_of_writes(
+    alloc: Global,
+    call: Call,
+    text: &str,
+    size: usize,
+    fails_at: usize,
+    kind: Option<ErrorKind>,
+) -> Result<Came, Fault> {
+    let reader = Torn::new(text.as_bytes(), 100, usize::MAX, ErrorKind::Other);
+    let writer = Brittle::new(alloc, size, fails_at, kind);
+    came_of(alloc, call, reader, writer)
+}
+
+/// Whether a call has told that its writer failed at its last call, where it did, and has written a front of that; else whether it has
+/// written all of it.
+fn is_written(came: &Came, all: &str, fails_at: usize) -> bool {
+    let held = came.writer.held.as_slice();
+    if came.writer.has_failed {
+        came.ended == Err(ScriptFault::Write)
+            && came.writer.calls == fails_at.saturating_add(1)
+            && all.as_bytes().starts_with(held)
+            && came.journal.is(0, b"")
+    } else {
+        came.ended == Ok(true) && held == all.as_bytes()
+    }
+}
+
+/// The first write or flush whose failure is told otherwise, up to the first number that none has.
+fn wrong_write(
+    alloc: Global,
+    call: Call,
+    size: usize,
+    kind: Option<ErrorKind>,
+) -> Result<Option<usize>, Fault> {
+    let text = script(alloc)?;
+    let all = all_written(alloc, call, &text)?;
+    for fails_at in 0..=all.len().saturating_add(text.len()) {
+        let came = came_of_writes(alloc, call, &text, size, fails_at, kind)?;
+        let (is_so, calls) = (is_written(&came, &all, fails_at), came.writer.calls);
+        drop(came);
+        if !is_so {
+            return Ok(Some(fails_at));
+        }
+        if calls <= fails_at {
+            return Ok(None);
+        }
+    }
+    Ok(Some(usize::MAX))
+}
+
+#[test]
+fn a_failed_write_of_a_script_is_told(rt: HostRuntime) -> Result<(), Fail> {
+    for call in CALLS {
+        for size in [5, 1_000] {
+            let wrong = wrong_write(rt.alloc(), call, size, Some(ErrorKind::BrokenPipe))?;
+            assert!(rt; wrong.is_none(), "by {size}");
+        }
+    }
+    Ok(())
+}
+
+#[test]
+fn a_write_of_a_script_that_takes_nothing_is_told(rt: HostRuntime) -> Result<(), Fail> {
+    for call in [Call::Run, Call::RunWithJournal, Call::RunAudit] {
+        assert!(rt; wrong_write(rt.alloc(), call, 20, None)?.is_none());
+    }
+    Ok(())
+}
+
+#[test]
+fn each_failed_write_of_a_script_is_told_alike(rt: HostRuntime) -> Result<(), Fail> {
+    for kind in KINDS {
+        for call in [Call::Run, Call::RunWithJournal, Call::RunAudit] {
+            assert!(rt; wrong_write(rt.alloc(), call, 100, Some(kind))?.is_none());
+        }
+    }
+    Ok(())
+}

@@ -8,7 +8,7 @@ use eu_stream::{ReadFault, Source};
 use std::alloc::Global;
 
 /// A text that ends with the last byte of a request, or of a fault, and the fault.
-type End = (&'static [u8], Option<Fault>);
+pub type End = (&'static [u8], Option<Fault>);
 
 const HEADS: [End; 9] = [
     (b"GET /a HTTP/1.1\nHost: x\n\n", None),
@@ -161,7 +161,7 @@ fn is_answered_by_any_cut(alloc: Global, text: &[u8], fault: Option<Fault>) -> b
 }
 
 /// Whether each of these texts is answered at its last byte, and no later.
-fn end_each(alloc: Global, ends: &[End]) -> bool {
+pub fn end_each(alloc: Global, ends: &[End]) -> bool {
     for (text, fault) in ends {
         let ends = waits(alloc, text) && fault_of(alloc, text, text.len()) == *fault;
         if !ends || !is_answered_by_any_cut(alloc, text, *fault) {

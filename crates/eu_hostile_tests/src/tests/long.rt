@@ -5,7 +5,7 @@ use std::alloc::{AllocError, Global};
 use std::test::Fail;
 
 /// A text between two others that is repeated so often.
-fn repeated(
+pub fn repeated(
     alloc: Global,
     before: &str,
     part: &str,

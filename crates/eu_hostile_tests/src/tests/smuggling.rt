@@ -22,7 +22,7 @@ const LAST_MISSING: &str =
     "HTTP/1.1 404 Not Found\r\nContent-Length: 0\r\nConnection: close\r\n\r\n";
 
 /// The status of a fault, and its phrase.
-fn status_of(fault: Fault) -> (&'static str, &'static str) {
+pub fn status_of(fault: Fault) -> (&'static str, &'static str) {
     match fault {
         Fault::HeadTooLong => ("431", "Request Header Fields Too Large"),
         Fault::BodyTooLong => ("413", "Payload Too Large"),

@@ -294,7 +294,7 @@ fn fault_behind(bytes: usize, end: usize, number: usize) -> AuditFault {
     if bytes < end {
         AuditFault::Read
     } else {
-        AuditFault::BadLine(number as u64 + 1)
+        AuditFault::BadLine((number as u64).saturating_add(1))
     }
 }
 

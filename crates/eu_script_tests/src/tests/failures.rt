@@ -245,9 +245,9 @@ fn came_of(
     call: Call,
     mut reader: Torn<'_>,
     mut writer: Brittle,
+    mut journal: Brittle,
 ) -> Result<Came, Fault> {
     let config = settings()?;
-    let mut journal = Brittle::steady(alloc);
     let (r, w, j) = (&mut reader, &mut writer, &mut journal);
     let mut first = FirstChooser;
     let c = &mut first;
@@ -300,7 +300,13 @@ fn is_told(
     let come = &bytes[..size.saturating_mul(fails_at).min(bytes.len())];
     let written = written_by(alloc, call, come)?;
     let reader = Torn::new(bytes, size, fails_at, kind);
-    let came = came_of(alloc, call, reader, Brittle::steady(alloc))?;
+    let came = came_of(
+        alloc,
+        call,
+        reader,
+        Brittle::steady(alloc),
+        Brittle::steady(alloc),
+    )?;
     let is_told = came.has_ended_by(ScriptFault::Read, written.as_bytes());
     drop(came);
     Ok(is_told)
@@ -364,7 +370,7 @@ fn came_of_writes(
 ) -> Result<Came, Fault> {
     let reader = Torn::new(text.as_bytes(), 100, usize::MAX, ErrorKind::Other);
     let writer = Brittle::new(alloc, size, fails_at, kind);
-    came_of(alloc, call, reader, writer)
+    came_of(alloc, call, reader, writer, Brittle::steady(alloc))
 }
 
 /// Whether a call has told that its writer failed at its last call, where it did, and has written a front of that; else whether it has
@@ -430,5 +436,67 @@ fn each_failed_write_of_a_script_is_told_alike(rt: HostRuntime) -> Result<(), Fa
             assert!(rt; wrong_write(rt.alloc(), call, 100, Some(kind))?.is_none());
         }
     }
+    Ok(())
+}
+
+/// What comes of a script that is read and printed at once, and whose journal is written by so many bytes, where the write or flush of a number
+/// fails.
+fn came_of_journal(
+    alloc: Global,
+    call: Call,
+    text: &str,
+    size: usize,
+    fails_at: usize,
+    kind: Option<ErrorKind>,
+) -> Result<Came, Fault> {
+    let reader = Torn::new(text.as_bytes(), 4_096, usize::MAX, ErrorKind::Other);
+    let journal = Brittle::new(alloc, size, fails_at, kind);
+    came_of(alloc, call, reader, Brittle::steady(alloc), journal)
+}
+
+/// Whether a call has told that its journal's writer failed at its last call, where it did, all lines being printed and a front of the journal
+/// written; else whether all of this is written.
+fn is_kept(came: &Came, whole: &Came, fails_at: usize) -> bool {
+    let held = came.journal.held.as_slice();
+    let is_front = if came.journal.has_failed {
+        came.ended == Err(ScriptFault::Write)
+            && came.journal.calls == fails_at.saturating_add(1)
+            && whole.journal.held.starts_with(held)
+    } else {
+        came.ended == Ok(true) && held == whole.journal.held.as_slice()
+    };
+    is_front && came.writer.held.as_slice() == whole.writer.held.as_slice()
+}
+
+/// The first write or flush of a journal whose failure is told otherwise, of those that a whole one takes.
+fn wrong_journal(
+    alloc: Global,
+    call: Call,
+    size: usize,
+    kind: Option<ErrorKind>,
+) -> Result<Option<usize>, Fault> {
+    let text = script(alloc)?;
+    let whole = came_of_journal(alloc, call, &text, size, usize::MAX, None)?;
+    for fails_at in 0..=whole.journal.calls {
+        let came = came_of_journal(alloc, call, &text, size, fails_at, kind)?;
+        let is_so = is_kept(&came, &whole, fails_at);
+        drop(came);
+        if !is_so {
+            return Ok(Some(fails_at));
+        }
+    }
+    if whole.journal.calls > 2 && whole.ended == Ok(true) {
+        Ok(None)
+    } else {
+        Ok(Some(usize::MAX))
+    }
+}
+
+#[test]
+fn a_failed_write_of_a_journal_is_told(rt: HostRuntime) -> Result<(), Fail> {
+    let kind = Some(ErrorKind::StorageFull);
+    assert!(rt; wrong_journal(rt.alloc(), Call::RunWithJournal, 300, kind)?.is_none());
+    assert!(rt; wrong_journal(rt.alloc(), Call::AnswerWithJournal, 300, kind)?.is_none());
+    assert!(rt; wrong_journal(rt.alloc(), Call::RunWithJournal, 300, None)?.is_none());
     Ok(())
 }

@@ -33,7 +33,7 @@ pub values_other : (name : List ℕ) (hs : List Header) (h : Header) → is_same
 unfolding values_of
 values_other name hs h other = rw filter-append (rw map-append (rw other (append-nil _)))
 
-or_false : (b : Bool) → (b || false) ≡ b
+pub or_false : (b : Bool) → (b || false) ≡ b
 or_false true = refl
 or_false false = refl
 

@@ -1,4 +1,5 @@
 pub mod FieldLemmas
+pub mod ListLemmas
 pub mod ReadingLemmas
 pub mod HeadLemmas
 pub mod BodyLemmas

@@ -1,8 +1,10 @@
 -- What the fields of a head say, from the list of their names and values.
 use Rattle.std.specs.Prelude.{ℕ, ◌≤◌, Bool, not, ◌&&◌, ◌||◌, List, [], ◌∷◌, map, filter, length, Result, Ok, Err, if◌then◌else◌, nat_lt, nat_le, ◌==◌, codes, bytes_eq, ⊤}
-use Rattle.std.specs.List.{list_all, list_any}
+use Rattle.std.specs.List.{list_all, list_any, slice_split}
 use Rattle.std.specs.Char.{is_ascii_digit, to_ascii_lowercase}
 use Rattle.std.specs.Str.Parse.{digits_value}
+use Rattle.httparse.specs.Ascii.{comma}
+use Rattle.httparse.specs.Grammar.{trim_ows}
 use Rattle.eu_base.specs.declared.faults.Fault.{Fault}
 use Rattle.eu_base.specs.declared.faults.Fault.TheVariants as faults
 use Rattle.eu_framing.specs.declared.fields.Framing.{Framing}
@@ -72,9 +74,22 @@ framing_of minor headers =
     (stated_by minor (values_of (codes "content-length") headers) (values_of (codes "transfer-encoding") headers))
     else Err faults.BadHead
 
--- the connection ends after the request: HTTP/1.0, or a field says so (RFC 9112, section 9.3)
+-- the members of a list: what stands between its commas, without the white space around each (RFC 9110, section 5.6.1)
+abbrev pub members : List ℕ → List (List ℕ)
+members list = map trim_ows (slice_split (λ b. b == comma) list)
+
+-- the list has that member, whatever the case of its ASCII letters
+abbrev pub has_member : List ℕ → List ℕ → Bool
+has_member list name = list_any (λ m. is_same_text m name) (members list)
+
+-- some Connection field has that option (RFC 9110, section 7.6.1)
+abbrev pub has_option : List ℕ → List Header → Bool
+has_option option headers = list_any (λ v. has_member v option) (values_of (codes "connection") headers)
+
+-- Whether the connection ends after the request (RFC 9112, section 9.3). The option `close` decides first, whatever other options there are
+-- (section 9.6); without it a connection of HTTP/1.0 ends, also where the option `keep-alive` asks otherwise, and one of HTTP/1.1 goes on.
 abbrev pub closes : ℕ → List Header → Bool
-closes minor headers = (minor == 0) || list_any (λ v. is_same_text v (codes "close")) (values_of (codes "connection") headers)
+closes minor headers = has_option (codes "close") headers || (minor == 0)
 
 -- another server sent the request on
 abbrev pub is_replicated : List Header → Bool

@@ -8,6 +8,7 @@ pub mod Steps
 pub mod HeadSteps
 pub mod ChunkSteps
 pub mod Said
+pub mod Lists
 pub mod Law
 pub mod Target
 pub mod Scanning

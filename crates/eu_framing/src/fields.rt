@@ -3,10 +3,11 @@ ghost use Rattle.std.specs.Prelude.{◌≡◌, ◌∷◌, ◌++◌, [], ◌≤�
 ghost use Rattle.std.specs.List.{list_all, list_any};
 ghost use Rattle.std.specs.Str.Parse.{digits_value};
 ghost use Rattle.httparse.specs.Spans.{IsHeaderWithin, header_bytes};
-ghost use Rattle.eu_framing.specs.Fields.{values_of, is_length, one_length, one_coding, is_same_text, stated_by, has_host, within_limit, framing_of, closes, is_replicated, IsWithin};
+ghost use Rattle.eu_framing.specs.Fields.{values_of, is_length, one_length, one_coding, has_member, is_same_text, stated_by, has_host, within_limit, framing_of, closes, is_replicated, IsWithin};
 ghost use Rattle.eu_framing.specs.Said.{IsSaid};
 
 use crate::MAX_BODY;
+use crate::lists::has_member;
 use eu_base::Fault;
 use httparse::spans::HeaderSpan;
 
@@ -43,7 +44,7 @@ impl<'b> Said<'b> {
 }
 
 /// Whether the two texts are one, whatever the case of their ASCII letters.
-fn is_same_text(a: &[u8], b: &[u8]) -> bool
+pub fn is_same_text(a: &[u8], b: &[u8]) -> bool
     ensures { result ≡ is_same_text a.now b.now }
 {
     a.eq_ignore_ascii_case(b)
@@ -63,15 +64,15 @@ fn find_said<'b>(text: &'b [u8], headers: &[HeaderSpan], name: &[u8]) -> Said<'b
     found
 }
 
-/// Whether some field of a name has that value, whatever the case of its ASCII letters.
-fn has_word(text: &[u8], headers: &[HeaderSpan], name: &[u8], word: &[u8]) -> bool
+/// Whether some field of a name is a list with that member, whatever the case of its ASCII letters.
+fn is_listed(text: &[u8], headers: &[HeaderSpan], name: &[u8], member: &[u8]) -> bool
     requires { All (IsHeaderWithin (length text.now)) headers.now }
-    ensures { result ≡ list_any (λ v. is_same_text v word.now) (values_of name.now (map (header_bytes text.now) headers.now)) }
+    ensures { result ≡ list_any (λ v. has_member v member.now) (values_of name.now (map (header_bytes text.now) headers.now)) }
 {
     let mut found = false;
     for header in headers {
         if is_same_text(header.name.of(text), name) {
-            found |= is_same_text(header.value.of(text), word);
+            found |= has_member(header.value.of(text), member);
         }
     }
     found
@@ -199,7 +200,7 @@ pub fn find_closes(minor: u8, text: &[u8], headers: &[HeaderSpan]) -> bool
     requires { All (IsHeaderWithin (length text.now)) headers.now }
     ensures { result ≡ closes minor (map (header_bytes text.now) headers.now) }
 {
-    minor == 0 || has_word(text, headers, b"connection", b"close")
+    is_listed(text, headers, b"connection", b"close") || minor == 0
 }
 
 /// Whether another server sent the request on.

@@ -12,6 +12,7 @@ mod chunks;
 mod fields;
 mod head;
 mod law;
+mod lists;
 mod request;
 mod scan;
 mod trailer;

@@ -31,7 +31,7 @@ pub struct Request {
     pub target: String,
     /// The version is HTTP/1.0 or HTTP/1.1 by this number.
     pub minor: u8,
-    /// The connection is to end after the request: it is of HTTP/1.0, or a `Connection` field says `close`.
+    /// The connection is to end after the request: a `Connection` field has the option `close`, or it is of HTTP/1.0.
     pub closes: bool,
     /// Another server sent the request on: a field `x-netflix-discovery-replication` says `true`.
     pub replicated: bool,

@@ -1,6 +1,8 @@
 //! Messages on which readers of HTTP are known to differ: what is made of each, request by request and by a session.
 use crate::tests::fakes::{Brittle, Noting, Shaky, serve};
-use crate::tests::tables::{CHUNKS, CODINGS, DIFFERENCES, FIELDS, LENGTHS, LINES, Row, TARGETS};
+use crate::tests::tables::{
+    CHUNKS, CODINGS, CONNECTIONS, DIFFERENCES, FIELDS, LENGTHS, LINES, Row, TARGETS,
+};
 use eu_base::Fault;
 use eu_framing::{EMPTY_PIECE, Piece, Request, read_request};
 use eu_routes::Routes;
@@ -222,6 +224,13 @@ fn targets_and_hosts_are_read_as_the_standard_asks(rt: HostRuntime) -> Result<()
 #[test]
 fn fields_are_read_as_the_standard_asks(rt: HostRuntime) -> Result<(), Fail> {
     let wrong = wrong_rows(rt.alloc(), &FIELDS, false)?;
+    assert_eq!(rt; wrong.as_str(), "");
+    Ok(())
+}
+
+#[test]
+fn connections_end_as_the_standard_asks(rt: HostRuntime) -> Result<(), Fail> {
+    let wrong = wrong_rows(rt.alloc(), &CONNECTIONS, false)?;
     assert_eq!(rt; wrong.as_str(), "");
     Ok(())
 }

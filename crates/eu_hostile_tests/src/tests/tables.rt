@@ -207,7 +207,7 @@ pub const TARGETS: [Row; 15] = [
 ];
 
 /// Fields (RFC 9112, sections 2.2, 5 and 9.3; RFC 9110, sections 5.5, 7.6.1 and 10.1.1).
-pub const FIELDS: [Row; 21] = [
+pub const FIELDS: [Row; 18] = [
     (
         b"GET /a HTTP/1.1\r\nHost: x\r\nX\r\n\r\n",
         &["400"],
@@ -284,21 +284,6 @@ pub const FIELDS: [Row; 21] = [
         "400 (32)",
     ),
     (
-        b"GET /a HTTP/1.1\r\nHost: x\r\nConnection: close\r\n\r\nGET /b HTTP/1.1\r\nHost: x\r\n\r\n",
-        &["GET /a ; close"],
-        "GET /a ; close",
-    ),
-    (
-        b"GET /a HTTP/1.1\r\nHost: x\r\nconnection:\tCLOSE \r\n\r\nGET /b HTTP/1.1\r\nHost: x\r\n\r\n",
-        &["GET /a ; close"],
-        "GET /a ; close",
-    ),
-    (
-        b"GET /a HTTP/1.1\r\nHost: x\r\nConnection: Upgrade, HTTP2-Settings\r\nUpgrade: h2c\r\nHTTP2-Settings: AAMAAABk\r\n\r\nGET /b HTTP/1.1\r\nHost: x\r\n\r\n",
-        &["GET /a ; GET /b ; end"],
-        "GET /a ; GET /b ; end",
-    ),
-    (
         b"POST /a HTTP/1.1\r\nHost: x\r\nX-HTTP-Method-Override: DELETE\r\n\r\n",
         &["POST /a ; end"],
         "POST /a ; end",
@@ -312,6 +297,95 @@ pub const FIELDS: [Row; 21] = [
         b"POST /a HTTP/1.1\r\nHost: x\r\nContent-Encoding: gzip\r\nContent-Length: 5\r\n\r\nhello",
         &["415", "POST /a hello; end"],
         "415 (42)",
+    ),
+];
+
+/// Options of connections (RFC 9112, sections 9.3 and 9.6; RFC 9110, section 7.6.1).
+pub const CONNECTIONS: [Row; 17] = [
+    (
+        b"GET /a HTTP/1.1\r\nHost: x\r\nConnection: close\r\n\r\nGET /b HTTP/1.1\r\nHost: x\r\n\r\n",
+        &["GET /a ; close"],
+        "GET /a ; close",
+    ),
+    (
+        b"GET /a HTTP/1.1\r\nHost: x\r\nconnection:\tCLOSE \r\n\r\nGET /b HTTP/1.1\r\nHost: x\r\n\r\n",
+        &["GET /a ; close"],
+        "GET /a ; close",
+    ),
+    (
+        b"GET /a HTTP/1.1\r\nHost: x\r\nConnection: keep-alive, close\r\n\r\nGET /b HTTP/1.1\r\nHost: x\r\n\r\n",
+        &["GET /a ; close"],
+        "GET /a ; close",
+    ),
+    (
+        b"GET /a HTTP/1.1\r\nHost: x\r\nConnection: close, keep-alive\r\n\r\nGET /b HTTP/1.1\r\nHost: x\r\n\r\n",
+        &["GET /a ; close"],
+        "GET /a ; close",
+    ),
+    (
+        b"GET /a HTTP/1.1\r\nHost: x\r\nConnection: Keep-Alive ,\tClOsE\t,x\r\n\r\nGET /b HTTP/1.1\r\nHost: x\r\n\r\n",
+        &["GET /a ; close"],
+        "GET /a ; close",
+    ),
+    (
+        b"GET /a HTTP/1.1\r\nHost: x\r\nConnection: , close,,\r\n\r\nGET /b HTTP/1.1\r\nHost: x\r\n\r\n",
+        &["GET /a ; close"],
+        "GET /a ; close",
+    ),
+    (
+        b"GET /a HTTP/1.1\r\nHost: x\r\nConnection: keep-alive\r\nConnection: close\r\n\r\nGET /b HTTP/1.1\r\nHost: x\r\n\r\n",
+        &["GET /a ; close"],
+        "GET /a ; close",
+    ),
+    (
+        b"GET /a HTTP/1.1\r\nHost: x\r\nConnection: close\r\nconnection: keep-alive\r\n\r\nGET /b HTTP/1.1\r\nHost: x\r\n\r\n",
+        &["GET /a ; close"],
+        "GET /a ; close",
+    ),
+    (
+        b"GET /a HTTP/1.0\r\nConnection: keep-alive, close\r\n\r\nGET /b HTTP/1.1\r\nHost: x\r\n\r\n",
+        &["GET /a ; close"],
+        "GET /a ; close",
+    ),
+    (
+        b"GET /a HTTP/1.1\r\nHost: x\r\nConnection: keep-alive\r\n\r\nGET /b HTTP/1.1\r\nHost: x\r\n\r\n",
+        &["GET /a ; GET /b ; end"],
+        "GET /a ; GET /b ; end",
+    ),
+    (
+        b"GET /a HTTP/1.1\r\nHost: x\r\nConnection: closed, not-close\r\n\r\nGET /b HTTP/1.1\r\nHost: x\r\n\r\n",
+        &["GET /a ; GET /b ; end"],
+        "GET /a ; GET /b ; end",
+    ),
+    (
+        b"GET /a HTTP/1.1\r\nHost: x\r\nConnection:\r\n\r\nGET /b HTTP/1.1\r\nHost: x\r\n\r\n",
+        &["GET /a ; GET /b ; end"],
+        "GET /a ; GET /b ; end",
+    ),
+    (
+        b"GET /a HTTP/1.1\r\nHost: x\r\nX-Connection: close\r\n\r\nGET /b HTTP/1.1\r\nHost: x\r\n\r\n",
+        &["GET /a ; GET /b ; end"],
+        "GET /a ; GET /b ; end",
+    ),
+    (
+        b"GET /a HTTP/1.1\r\nHost: x\r\nConnection: close x\r\n\r\nGET /b HTTP/1.1\r\nHost: x\r\n\r\n",
+        &["400", "GET /a ; close", "GET /a ; GET /b ; end"],
+        "GET /a ; GET /b ; end",
+    ),
+    (
+        b"GET /a HTTP/1.1\r\nHost: x\r\nConnection: close;q=1\r\n\r\nGET /b HTTP/1.1\r\nHost: x\r\n\r\n",
+        &["400", "GET /a ; close", "GET /a ; GET /b ; end"],
+        "GET /a ; GET /b ; end",
+    ),
+    (
+        b"GET /a HTTP/1.1\r\nHost: x\r\nConnection: \"close\"\r\n\r\nGET /b HTTP/1.1\r\nHost: x\r\n\r\n",
+        &["400", "GET /a ; close", "GET /a ; GET /b ; end"],
+        "GET /a ; GET /b ; end",
+    ),
+    (
+        b"GET /a HTTP/1.1\r\nHost: x\r\nConnection: Upgrade, HTTP2-Settings\r\nUpgrade: h2c\r\nHTTP2-Settings: AAMAAABk\r\n\r\nGET /b HTTP/1.1\r\nHost: x\r\n\r\n",
+        &["GET /a ; GET /b ; end"],
+        "GET /a ; GET /b ; end",
     ),
 ];
 
@@ -913,7 +987,7 @@ pub const CHUNKS: [Row; 39] = [
 ];
 
 /// What is read otherwise than the standard asks; `docs/SMUGGLING.md` says why.
-pub const DIFFERENCES: [Row; 19] = [
+pub const DIFFERENCES: [Row; 18] = [
     (
         b"GET /a HTTP/1.2\r\nHost: x\r\n\r\n",
         &["GET /a ; end"],
@@ -958,11 +1032,6 @@ pub const DIFFERENCES: [Row; 19] = [
         b"GET /\xc3\xa9 HTTP/1.1\r\nHost: x\r\n\r\n",
         &["400"],
         "GET /é ; end",
-    ),
-    (
-        b"GET /a HTTP/1.1\r\nHost: x\r\nConnection: keep-alive, close\r\n\r\nGET /b HTTP/1.1\r\nHost: x\r\n\r\n",
-        &["GET /a ; close"],
-        "GET /a ; GET /b ; end",
     ),
     (
         b"POST /a HTTP/1.1\r\nHost: x\r\nTransfer-Encoding: gzip, chunked\r\n\r\n5\r\nhello\r\n0\r\n\r\n",

@@ -371,7 +371,7 @@ fn says(alloc: Global, text: &[u8]) -> Option<(u8, bool, bool)> {
 }
 
 /// Heads, with what their fields say.
-const HEADS: [(&[u8], u8, bool, bool); 5] = [
+const HEADS: [(&[u8], u8, bool, bool); 6] = [
     (
         b"GET / HTTP/1.1\r\nHost: x\r\nConnection: keep-alive\r\n\r\n",
         1,
@@ -380,6 +380,12 @@ const HEADS: [(&[u8], u8, bool, bool); 5] = [
     ),
     (
         b"GET / HTTP/1.1\r\nHost: x\r\nconnection: Close\r\n\r\n",
+        1,
+        true,
+        false,
+    ),
+    (
+        b"GET / HTTP/1.1\r\nHost: x\r\nConnection: keep-alive ,\tClose, x\r\n\r\n",
         1,
         true,
         false,

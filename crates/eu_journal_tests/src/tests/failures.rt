@@ -1,5 +1,5 @@
 //! Journals whose reader fails at each place in turn, and audits whose writer does.
-ghost use Rattle.std.specs.Prelude.{None, ◌≤◌, length};
+ghost use Rattle.std.specs.Prelude.{None, ◌≡◌, ◌≤◌, length, true, false};
 
 use crate::tests::reading::{LINES, text_of};
 use eu_journal_audit::{AuditFault, answer_journal_audit, run_journal_audit};
@@ -38,7 +38,10 @@ impl<'a> Torn<'a> {
     }
 
     /// Whether the next read fails.
-    fn fails(&mut self) -> bool {
+    fn fails(&mut self) -> bool
+        ensures told { result ≡ true → self.new.has_failed ≡ true }
+        ensures kept { result ≡ false → self.new.has_failed ≡ self.old.has_failed }
+    {
         if self.reads != self.fails_at || self.failures == 0 {
             return false;
         }
@@ -49,7 +52,8 @@ impl<'a> Torn<'a> {
 
     /// Gives the next piece.
     fn give(&mut self, buffer: &mut [u8]) -> usize
-        ensures { result ≤ length buffer.new }
+        ensures bound { result ≤ length buffer.new }
+        ensures kept { self.new.has_failed ≡ self.old.has_failed }
     {
         let count = self.text.len().min(self.size).min(buffer.len());
         buffer[..count].copy_from_slice(&self.text[..count]);
@@ -115,7 +119,9 @@ impl Brittle {
     }
 
     /// Whether this call fails.
-    fn fails(&mut self) -> bool {
+    fn fails(&mut self) -> bool
+        ensures { self.new.has_failed ≡ self.old.has_failed }
+    {
         let number = self.calls;
         self.calls = number.saturating_add(1);
         number == self.fails_at

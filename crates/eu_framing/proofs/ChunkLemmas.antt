@@ -1,8 +1,8 @@
 -- Chunk lines, chunks and lists of chunks, in the buffer and in all bytes.
-use Rattle.std.proofs.Common.{◌≡◌, ℕ, ◌+◌, ◌-◌, ◌<◌, ◌≤◌, inl, inr, true, false, min, List, [], ◌∷◌, ◌++◌, length, take, drop, Result, Ok, Err, IfOk, bytes_eq, refl, sym, ap, ◌∙◌, subst, append_assoc, append-nil, length-append, arith}
-use Rattle.std.proofs.lemmas.List.{length-take, length-drop, take-append-drop, take-append-le, drop-append-le, drop-drop}
+use Rattle.std.proofs.Common.{◌≡◌, ℕ, ◌+◌, ◌-◌, ◌<◌, ◌≤◌, inl, inr, ⊎_elim, true, false, min, get_or, List, [], ◌∷◌, ◌++◌, length, take, drop, Result, Ok, Err, IfOk, bytes_eq, refl, sym, ap, ◌∙◌, subst, append_assoc, append-nil, length-append, arith}
+use Rattle.std.proofs.lemmas.List.{length-take, length-drop, take-append-drop, take-append-le, drop-append-le, drop-drop, drop_more}
 use Rattle.std.proofs.lemmas.List.Concat.{flat_map-append}
-use Rattle.std.proofs.lemmas.Bool.{false≢true}
+use Rattle.std.proofs.lemmas.Bool.{false≢true, cases_lt}
 use Rattle.std.proofs.lemmas.Slice.Eq.{bytes_eq-Decides}
 use Rattle.std.specs.List.{AllByRecursion}
 use Rattle.httparse.specs.Ascii.{crlf_bytes}
@@ -79,6 +79,18 @@ data_open room size start b more fits long other =
     ap (take 2) at ∙ take-append-le 2 (drop (start + size) b) more (omega (arith, length-drop (start + size) b)) in
     let decides = bytes_eq-Decides (take 2 (drop (start + size) b)) crlf_bytes in
     inr (inr (refl, fits, omega (arith, length-drop start (b ++ more), length-append b more), λ e. false≢true (sym other ∙ decides.1 (sym two ∙ e))))
+
+-- the byte behind the data is no CR
+pub data_wrong : (room size start d : ℕ) (b more : List ℕ) → size + 2 ≤ room → start + size + 1 ≤ length b → (get_or b (start + size) d ≡ 13 → ⊥) → IsDataFault room size (drop start (b ++ more)) faults.BadChunk
+data_wrong room size start d b more fits long other =
+    let text = drop start (b ++ more) in
+    let at : drop size text ≡ drop (start + size) b ++ more = drop-drop size start (b ++ more) ∙ behind (start + size) b more (omega arith) in
+    let front : drop (start + size) b ≡ get_or b (start + size) d ∷ drop (start + size + 1) b = drop_more b (start + size) d (omega arith) in
+    let two : take 2 (drop size text) ≡ take 2 ((get_or b (start + size) d ∷ drop (start + size + 1) b) ++ more) = ap (take 2) (at ∙ ap (λ (t : List ℕ). t ++ more) front) in
+    ⊎_elim
+    (λ short. inl (refl, omega arith))
+    (λ whole. inr (inr (refl, fits, whole, λ e. other (ap (λ (t : List ℕ). get_or t 0 d) (sym two ∙ e)))))
+    (cases_lt (length text) (size + 2))
 
 pub data_stands : (size start : ℕ) (b : List ℕ) → start + size + 2 ≤ length b → bytes_eq (take 2 (drop (start + size) b)) crlf_bytes ≡ true → drop start b ≡ take size (drop start b) ++ (crlf_bytes ++ drop (start + size + 2) b)
 data_stands size start b long same =

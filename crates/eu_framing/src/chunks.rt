@@ -131,6 +131,35 @@ fn has_line_end(buffer: &[u8], at: usize) -> bool
     &buffer[at..at + 2] == b"\r\n".as_slice()
 }
 
+/// Reads the data that a chunk line before `start` announces, and the byte behind it, which the data's end begins with; else `BadChunk` comes at
+/// once.
+///
+/// `BadChunk` comes as the definition says, and the faults of `fill`.
+fn await_end<R: Source>(
+    reader: &mut R,
+    buffer: &mut Vec<u8>,
+    piece: &mut Piece,
+    start: usize,
+    room: usize,
+    size: usize,
+) -> Result<(), Fault>
+    requires within { start ≤ vec_len buffer.old }
+    requires near { start + room ≤ 4202496 }
+    requires short { size ≤ 1048576 }
+    ensures grows { OnOk result (Grows (R.remaining reader.old) (R.failed reader.old) buffer.old.items (R.remaining reader.new) (R.failed reader.new) buffer.new.items) }
+    ensures fault { IfErr result (λ fault. Blames (R.failed reader.new) (R.remaining reader.old) buffer.old.items (R.remaining reader.new) buffer.new.items fault (λ bytes f. IsDataFault room size (drop start bytes) f)) }
+    ensures told { IfErr result (λ fault. fault ≢ Fault.Read → R.failed reader.new ≡ R.failed reader.old) }
+    ensures same_stream { R.stream reader.new ≡ R.stream reader.old }
+{
+    if !fill_to(reader, buffer, piece, start + room.min(size + 1))? {
+        return Err(Fault::BadChunk);
+    }
+    if size + 2 <= room && buffer[start + size] != b'\r' {
+        return Err(Fault::BadChunk);
+    }
+    Ok(())
+}
+
 /// Reads the data that a chunk line before `start` announces, and its CR LF, and puts the data to the end of `body`.
 ///
 /// `BadChunk` and `BodyTooLong` come as the definition says, and the faults of `fill`.
@@ -154,6 +183,7 @@ fn take_data<R: Source>(
     ensures told { IfErr result (λ fault. fault ≢ Fault.Read → R.failed reader.new ≡ R.failed reader.old) }
     ensures same_stream { R.stream reader.new ≡ R.stream reader.old }
 {
+    await_end(reader, buffer, piece, start, room, size)?;
     if !fill_to(reader, buffer, piece, start + room.min(size + 2))? {
         return Err(Fault::BadChunk);
     }

@@ -73,7 +73,7 @@ const HEADS: [End; 17] = [
     ),
 ];
 
-/// Chunked bodies, up to the end of a chunk line, to two bytes behind a chunk's data, or to the empty line of a trailer.
+/// Chunked bodies, up to the end of a chunk line, to the first wrong byte behind a chunk's data, or to the empty line of a trailer.
 const CHUNKS: [End; 11] = [
     (
         b"POST /a HTTP/1.1\r\nHost: x\r\nTransfer-Encoding: chunked\r\n\r\n5g\r\n",
@@ -96,11 +96,11 @@ const CHUNKS: [End; 11] = [
         Some(Fault::BodyTooLong),
     ),
     (
-        b"POST /a HTTP/1.1\r\nHost: x\r\nTransfer-Encoding: chunked\r\n\r\n5\r\nhelloXY",
+        b"POST /a HTTP/1.1\r\nHost: x\r\nTransfer-Encoding: chunked\r\n\r\n5\r\nhelloX",
         Some(Fault::BadChunk),
     ),
     (
-        b"POST /a HTTP/1.1\r\nHost: x\r\nTransfer-Encoding: chunked\r\n\r\n5\r\nhello\n0",
+        b"POST /a HTTP/1.1\r\nHost: x\r\nTransfer-Encoding: chunked\r\n\r\n5\r\nhello\n",
         Some(Fault::BadChunk),
     ),
     (

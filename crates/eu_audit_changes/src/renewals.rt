@@ -8,7 +8,7 @@ ghost use Rattle.eu_model.specs.Record.{renewed};
 ghost use Rattle.eu_audit_changes.specs.Changed.{change_of};
 
 use crate::changes::{Changed, is_status, rule, under_row, up_after};
-use eu_base::{Instance, Moment, Stamp, Status};
+use eu_base::{BoxedInstance, Instance, Moment, Stamp, Status};
 use eu_model::{Listed, Reply, Times};
 use std::alloc::{AllocError, Global};
 
@@ -75,7 +75,8 @@ fn renew_reply(
     match dirty {
         Some(stamp) if instance.dirty < stamp.value => Ok(Reply::Stale),
         Some(stamp) if stamp.value < instance.dirty && replicated => {
-            Ok(Reply::Conflict(instance.copy(alloc)?))
+            let held = instance.copy(alloc)?;
+            Ok(Reply::Conflict(BoxedInstance::new(alloc, held)?))
         }
         _ => Ok(Reply::Done),
     }

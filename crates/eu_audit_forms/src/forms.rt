@@ -1,7 +1,8 @@
 //! States and entries, told in a few words. The application is A where an id alone names a lease, and each client is at the host h.
 use eu_audit::audit;
 use eu_base::{
-    Action, App, Codes, Config, Fault, Id, Instance, Key, Moment, Rest, Stamp, Status, Task,
+    Action, App, BoxedInstance, Codes, Config, Fault, Id, Instance, Key, Moment, Rest, Stamp,
+    Status, Task,
 };
 use eu_model::{
     Command, Entry, Keys, Listed, Listing, Queue, Queues, Reply, Rows, State, Tasks, Times,
@@ -302,7 +303,10 @@ pub fn reply(alloc: Global, answer: Answer) -> Result<Reply, Fault> {
         Answer::Done => Ok(Reply::Done),
         Answer::NotFound => Ok(Reply::NotFound),
         Answer::Stale => Ok(Reply::Stale),
-        Answer::Conflict(client) => Ok(Reply::Conflict(instance(alloc, client)?)),
+        Answer::Conflict(client) => {
+            let held = instance(alloc, client)?;
+            Ok(Reply::Conflict(BoxedInstance::new(alloc, held)?))
+        }
         Answer::Last(renewals) => Ok(Reply::Last(renewals)),
         Answer::Expected(clients) => Ok(Reply::Expected(clients)),
         Answer::Evicted(ids) => Ok(Reply::Evicted(keys(alloc, ids)?)),

@@ -3,10 +3,12 @@ use denote.Param.Send.{IsSend, sendable}
 use Rattle.std.proofs.Crossing as heap
 use Rattle.std.proofs.MapsCrossing as maps
 use Rattle.serde_json.proofs.value.Value.TheLaws.TheKnot as value
+use Rattle.eu_base.specs.contracts.boxed.BoxedInstance as boxed
 use Rattle.eu_base.specs.contracts.instances.Instance as instance
 use Rattle.eu_base.specs.contracts.rest.Kept as kept
 use Rattle.eu_base.specs.contracts.rest.Rest as rest
 use Rattle.eu_base.specs.contracts.tasks.Task as task
+use Rattle.eu_base.specs.contracts.tasks.TaskName as task_name
 
 Kept-send : IsSend kept.the_field.row
 Kept-send = search (sendable, heap.crosses, maps.crosses, value.send-Value, value.sync-Value) depth 40 fits 20000
@@ -16,6 +18,13 @@ Rest-send = search (Kept-send, sendable, heap.crosses, maps.crosses) depth 40 fi
 
 pub Instance-send : IsSend instance.the_field.row
 Instance-send = search (Rest-send, sendable, heap.crosses, maps.crosses) depth 40 fits 20000
+
+pub BoxedInstance-send : IsSend boxed.the_field.row
+BoxedInstance-send = search (Instance-send, sendable, heap.crosses, maps.crosses) depth 40 fits 20000
+
+-- as a key of a map
+pub TaskName-send : IsSend task_name.the_row
+TaskName-send = search (sendable, heap.crosses, maps.crosses) depth 40 fits 20000
 
 -- as an element of a list
 pub Task-send : IsSend task.the_row

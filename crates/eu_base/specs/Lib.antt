@@ -6,3 +6,4 @@ pub mod Rest
 pub mod Action
 pub mod Kept
 pub mod Settings
+pub mod Name

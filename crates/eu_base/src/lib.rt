@@ -1,6 +1,7 @@
 //! Names, moments, stamps, settings, instances, tasks and faults: the values that every layer speaks of.
 #![tactic(auto)]
 
+mod boxed;
 mod faults;
 mod instances;
 mod names;
@@ -13,6 +14,7 @@ mod times;
 mod trees;
 mod values;
 
+pub use boxed::BoxedInstance;
 pub use faults::Fault;
 pub use instances::Instance;
 pub use names::{App, Id, Key};

@@ -1,5 +1,5 @@
 //! Applications, instance ids, and the keys of leases.
-ghost use Rattle.std.specs.Prelude.{ℕ, List, ◌≡◌, ◌<◌, ◌≤◌, ◌↔◌, ◌⊎◌, refl, [], length, string_bytes, nat_eq, IfOk, IfErr};
+ghost use Rattle.std.specs.Prelude.{ℕ, List, ◌≡◌, ◌<◌, ◌≤◌, ◌↔◌, ◌⊎◌, refl, [], length, string_bytes, nat_eq, IfOk, IfErr, IfSome};
 ghost use Rattle.std.specs.Ordering.{nat_cmp, as_partial_cmp};
 ghost use Rattle.std.specs.Hash as fed;
 ghost use Rattle.std.specs.Cmp.Rules.{hashing};
@@ -7,28 +7,98 @@ ghost use Rattle.std.proofs.Common.{rules};
 ghost use Rattle.std.specs.Str.{str_to_ascii_uppercase};
 ghost use Rattle.std.specs.Cmp.{partial_equiv_from_equiv};
 ghost use Rattle.std.specs.Cmp.Lexicographic.{pointwise, slice_cmp, nat_list_eq_equiv, nat_list_cmp_total, texts_ties, texts_po};
+ghost use Rattle.eu_base.specs.Name.{bytes_of};
 
 use crate::faults::Fault;
+use arrayvec::ArrayString;
 use std::alloc::{AllocError, Global};
 use std::cmp::Ordering;
 use std::hash::{Hash, Hasher};
 use std::marker::Model;
+use std::str;
 
 /// The most bytes of a name.
 pub const LONGEST_NAME: usize = 255;
 
-/// A name: 1 to 255 bytes of UTF-8, ordered by its bytes. Contracts see the bytes.
+/// The most bytes of a name that wants no memory of its own.
+const SHORT_NAME: usize = 40;
+
+/// How the text of a name is kept.
 #[derive(Debug, Drop)]
+enum Text {
+    /// In the value.
+    Short(ArrayString<SHORT_NAME>),
+    /// On the heap.
+    Long(String),
+}
+
+impl Text {
+    /// A text as it is given. Takes memory for a long one alone.
+    fn new(alloc: Global, text: &str) -> Result<Text, AllocError>
+        ensures { IfOk result (λ t. bytes_of t ≡ text.now) }
+    {
+        match ArrayString::from(text) {
+            Ok(short) => Ok(Text::Short(short)),
+            Err(_) => Ok(Text::Long(String::from_str(alloc, text)?)),
+        }
+    }
+
+    /// A text in capitals: its ASCII letters are. Takes memory for a long one alone.
+    fn in_capitals(alloc: Global, text: &str) -> Result<Text, AllocError>
+        ensures { IfOk result (λ t. bytes_of t ≡ str_to_ascii_uppercase text.now) }
+    {
+        match short_capitals(text) {
+            Some(short) => Ok(Text::Short(short)),
+            None => Ok(Text::Long(text.to_ascii_uppercase(alloc)?)),
+        }
+    }
+
+    fn as_str(&self) -> &str
+        ensures { result.now ≡ bytes_of self.now }
+    {
+        match self {
+            Text::Short(text) => text.as_str(),
+            Text::Long(text) => text.as_str(),
+        }
+    }
+
+    /// The same text once more. Takes memory for a long one alone.
+    fn copy(&self, alloc: Global) -> Result<Text, AllocError>
+        ensures { IfOk result (λ t. bytes_of t ≡ bytes_of self.now) }
+    {
+        match self {
+            Text::Short(text) => Ok(Text::Short(*text)),
+            Text::Long(text) => Ok(Text::Long(String::from_str(alloc, text.as_str())?)),
+        }
+    }
+}
+
+/// A short text in capitals; none where it isn't short.
+fn short_capitals(text: &str) -> Option<ArrayString<SHORT_NAME>>
+    ensures { IfSome result (λ t. t.bytes ≡ str_to_ascii_uppercase text.now) }
+{
+    let mut bytes = [0; SHORT_NAME];
+    let capitals = bytes.get_mut(..text.len())?;
+    capitals.copy_from_slice(text.as_bytes());
+    capitals.make_ascii_uppercase();
+    ArrayString::from(str::from_utf8(capitals).ok()?).ok()
+}
+
+/// A name: 1 to 255 bytes of UTF-8, ordered by its bytes. Contracts see the bytes.
+#[derive(Debug)]
 struct Name {
-    text: String,
+    text: Text,
 }
 
 impl Model for Name {
+    ghost use Rattle.std.specs.Prelude.{ℕ, ◌<◌, ◌≤◌, List, length};
+    ghost use Rattle.eu_base.specs.Name.{bytes_of};
+
     ghost Value = { List ℕ };
 
-    ghost view = { λ n. string_bytes n.text };
+    ghost view = { λ n. bytes_of n.text };
 
-    ghost invariant = { λ n. (0 < length (string_bytes n.text)) × (length (string_bytes n.text) ≤ 255) };
+    ghost invariant = { λ n. (0 < length (bytes_of n.text)) × (length (bytes_of n.text) ≤ 255) };
 }
 
 impl Name {
@@ -43,8 +113,15 @@ impl Name {
     fn copy(&self, alloc: Global) -> Result<Name, AllocError>
         ensures { IfOk result (λ n. n ≡ self.now) }
     {
-        let text = String::from_str(alloc, self.as_str())?;
+        let text = self.text.copy(alloc)?;
         Ok(Name { text })
+    }
+}
+
+/// By a call, so that the proof of who lets a name go needn't ask how its text is kept.
+impl Drop for Name {
+    fn drop(self) {
+        let Name { text: _text } = self;
     }
 }
 
@@ -137,7 +214,7 @@ impl App {
         ensures no_other { IfErr result (λ f. (f ≡ Fault.Empty) ⊎ ((f ≡ Fault.TooLong) ⊎ (f ≡ Fault.OutOfMemory))) }
     {
         judge(text)?;
-        let text = text.to_ascii_uppercase(alloc)?;
+        let text = Text::in_capitals(alloc, text)?;
         let name = Name { text };
         Ok(App { name })
     }
@@ -185,7 +262,7 @@ impl Id {
         ensures no_other { IfErr result (λ f. (f ≡ Fault.Empty) ⊎ ((f ≡ Fault.TooLong) ⊎ (f ≡ Fault.OutOfMemory))) }
     {
         judge(text)?;
-        let text = String::from_str(alloc, text)?;
+        let text = Text::new(alloc, text)?;
         Ok(Id { id: Name { text } })
     }
 

@@ -23,27 +23,27 @@ pub in_place-of : (k : Key) (x : LeaseChange) → is_in_place x ≡ true → IsO
 in_place-of k Stays e = tt
 in_place-of k (Renewed t) e = tt
 in_place-of k (Amended t status overridden dirty comes_up) e = tt
-in_place-of k (Rejoined n status overridden lease) e = absurd (true≢false (sym e))
+in_place-of k (Rejoined by) e = absurd (true≢false (sym e))
 in_place-of k (Replaced by) e = absurd (true≢false (sym e))
-in_place-of k (Begun own begun) e = absurd (true≢false (sym e))
+in_place-of k (Begun begun) e = absurd (true≢false (sym e))
 in_place-of k Ended e = tt
 
 pub in_place-new : (leases : FinMap key_cmp Listed) (x : LeaseChange) → is_in_place x ≡ true → IsNew leases x
 in_place-new leases Stays e = tt
 in_place-new leases (Renewed t) e = tt
 in_place-new leases (Amended t status overridden dirty comes_up) e = tt
-in_place-new leases (Rejoined n status overridden lease) e = tt
+in_place-new leases (Rejoined by) e = tt
 in_place-new leases (Replaced by) e = tt
-in_place-new leases (Begun own begun) e = absurd (true≢false (sym e))
+in_place-new leases (Begun begun) e = absurd (true≢false (sym e))
 in_place-new leases Ended e = tt
 
 pub in_place-begins : (x : LeaseChange) → is_in_place x ≡ true → begins x ≡ false
 in_place-begins Stays e = refl
 in_place-begins (Renewed t) e = refl
 in_place-begins (Amended t status overridden dirty comes_up) e = refl
-in_place-begins (Rejoined n status overridden lease) e = refl
+in_place-begins (Rejoined by) e = refl
 in_place-begins (Replaced by) e = refl
-in_place-begins (Begun own begun) e = absurd (true≢false (sym e))
+in_place-begins (Begun begun) e = absurd (true≢false (sym e))
 in_place-begins Ended e = refl
 
 -- ---- a decision that is a change is a step

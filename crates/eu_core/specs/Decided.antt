@@ -35,32 +35,32 @@ lease_left Stays held = held
 lease_left (Renewed t) held = option_map (renewed_at t) held
 lease_left (Amended t status overridden dirty comes_up) held =
     option_map (λ l. marked comes_up t (amended status overridden dirty (renewed_at t l))) held
-lease_left (Rejoined n status overridden lease) held = option_map (rejoined n status overridden lease) held
-lease_left (Replaced by) held = option_map (λ l. by) held
-lease_left (Begun k begun) held = Some begun
+lease_left (Rejoined by) held = option_map (rejoined by.value.newcomer by.value.status by.value.overridden by.value.lease) held
+lease_left (Replaced by) held = option_map (λ l. by.value) held
+lease_left (Begun begun) held = Some begun.value.held
 lease_left Ended held = None
 
 -- it can want no memory
 abbrev pub is_in_place : LeaseChange → Bool
-is_in_place (Rejoined n status overridden lease) = false
+is_in_place (Rejoined by) = false
 is_in_place (Replaced by) = false
-is_in_place (Begun k begun) = false
+is_in_place (Begun begun) = false
 is_in_place _ = true
 
 abbrev pub begins : LeaseChange → Bool
-begins (Begun k begun) = true
+begins (Begun begun) = true
 begins _ = false
 
 -- a change of the lease of that key
 abbrev pub IsOf : Key → LeaseChange → Type 0
-IsOf k (Rejoined n status overridden lease) = (n.key ≡ k) × (lease.secs ≡ n.secs)
-IsOf k (Replaced by) = by.instance.key ≡ k
-IsOf k (Begun own begun) = own ≡ k
+IsOf k (Rejoined by) = (by.value.newcomer.key ≡ k) × (by.value.lease.secs ≡ by.value.newcomer.secs)
+IsOf k (Replaced by) = by.value.instance.key ≡ k
+IsOf k (Begun begun) = begun.value.key ≡ k
 IsOf k _ = Unit {0}
 
 -- a lease begins only where its key isn't held, and there may be one more
 abbrev pub IsNew : FinMap key_cmp Listed → LeaseChange → Type 0
-IsNew leases (Begun k begun) = (get leases k ≡ None) × (len leases < 65536)
+IsNew leases (Begun begun) = (get leases begun.value.key ≡ None) × (len leases < 65536)
 IsNew leases _ = Unit {0}
 
 -- ---- what becomes of the row of an id

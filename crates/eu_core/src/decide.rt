@@ -10,7 +10,7 @@ ghost use Rattle.eu_core.specs.Decided.{count_fault, decided, is_in_place, IsCha
 
 use crate::decision::{Decision, LeaseChange};
 use crate::statuses::brought;
-use eu_base::{Fault, Instance, Moment, Stamp, Status};
+use eu_base::{BoxedInstance, Fault, Instance, Moment, Stamp, Status};
 use eu_lease::{is_status, override_rule};
 use eu_meter::{Rate, Threshold};
 use eu_model::Reply;
@@ -95,7 +95,7 @@ fn renew_reply(
     if stamp.value < instance.dirty && replicated {
         let mut now = instance.copy(alloc)?;
         now.status = status;
-        return Ok(Reply::Conflict(now));
+        return Ok(Reply::Conflict(BoxedInstance::new(alloc, now)?));
     }
     Ok(Reply::Done)
 }

@@ -34,24 +34,36 @@ pub enum LeaseChange {
         dirty: Option<Stamp>,
         comes_up: bool,
     },
-    /// It begins anew, and keeps its instance, but for these statuses and the newcomer's duration.
-    Rejoined {
-        newcomer: Instance,
-        status: Status,
-        overridden: Status,
-        lease: Lease,
-    },
+    /// It begins anew, and keeps its instance, but for some statuses and a newcomer's duration.
+    Rejoined(Box<Rejoining>),
     /// This takes its place.
-    Replaced {
-        held: Held,
-    },
+    Replaced(Box<Held>),
     /// It begins.
-    Begun {
-        key: Key,
-        held: Held,
-    },
+    Begun(Box<Beginning>),
     /// It ends.
     Ended,
+}
+
+/// How a lease begins anew that keeps its instance.
+#[derive(Drop)]
+pub struct Rejoining {
+    /// Who came, and is not taken.
+    pub newcomer: Instance,
+    /// The status of the instance then.
+    pub status: Status,
+    /// Its overridden status then.
+    pub overridden: Status,
+    /// The new lease.
+    pub lease: Lease,
+}
+
+/// A lease that begins, with its key.
+#[derive(Drop)]
+pub struct Beginning {
+    /// The key.
+    pub key: Key,
+    /// The lease.
+    pub held: Held,
 }
 
 /// What a command on a lease does. The rule book calls it a change.
@@ -87,7 +99,7 @@ pub fn make_room(leases: &mut Leases, change: &LeaseChange) -> Result<(), Fault>
     ensures memory { is_in_place change.now ≡ true → IsOk result }
 {
     match change {
-        LeaseChange::Begun { key, .. } => leases.prepare_put(key),
+        LeaseChange::Begun(begun) => leases.prepare_put(&begun.key),
         _ => Ok(()),
     }
 }
@@ -112,18 +124,16 @@ pub fn write_lease(leases: &mut Leases, key: &Key, change: LeaseChange)
         } => {
             amend(leases, key, moment, status, overridden, dirty, comes_up);
         }
-        LeaseChange::Rejoined {
-            newcomer,
-            status,
-            overridden,
-            lease,
-        } => {
-            leases.rejoin(&newcomer, status, overridden, lease);
+        LeaseChange::Rejoined(by) => {
+            let by = Box::into_inner(by);
+            leases.rejoin(&by.newcomer, by.status, by.overridden, by.lease);
         }
-        LeaseChange::Replaced { held } => {
+        LeaseChange::Replaced(held) => {
+            let held = Box::into_inner(held);
             leases.replace(held);
         }
-        LeaseChange::Begun { key, held } => {
+        LeaseChange::Begun(begun) => {
+            let Beginning { key, held } = Box::into_inner(begun);
             leases.put_prepared(key, held);
         }
         LeaseChange::Ended => {

@@ -10,7 +10,7 @@ ghost use Rattle.eu_core.specs.Decided.{IsNew, IsOf};
 ghost use Rattle.eu_core.specs.Joins.{Joins};
 
 use crate::decide::Known;
-use crate::decision::{Decision, LeaseChange};
+use crate::decision::{Beginning, Decision, LeaseChange, Rejoining};
 use crate::statuses::settle;
 use eu_base::{Instance, Moment, Status};
 use eu_lease::Lease;
@@ -47,9 +47,9 @@ pub fn decide_join(
     match held {
         None => join_new(alloc, instance, known, replicated, moment),
         Some(held) if instance.dirty < held.instance().dirty => {
-            Ok(join_under(instance, held, known, replicated, moment))
+            join_under(alloc, instance, held, known, replicated, moment)
         }
-        Some(held) => Ok(join_over(instance, held, known, replicated, moment)),
+        Some(held) => join_over(alloc, instance, held, known, replicated, moment),
     }
 }
 
@@ -79,7 +79,7 @@ fn join_new(
     instance.overridden = settled.overridden;
     let held = Held::new(instance, lease);
     Ok(Decision {
-        lease: LeaseChange::Begun { key, held },
+        lease: LeaseChange::Begun(Box::new(alloc, Beginning { key, held })?),
         row: settled.row,
         threshold: known.threshold,
         rate: known.rate,
@@ -87,18 +87,19 @@ fn join_new(
     })
 }
 
-/// The registration of an instance whose key is held with a stamp that isn't greater.
+/// The registration of an instance whose key is held with a stamp that isn't greater. `AllocError` where no memory is left.
 fn join_over(
+    alloc: Global,
     mut instance: Instance,
     held: &Held,
     known: Known,
     replicated: bool,
     moment: Moment,
-) -> Decision
+) -> Result<Decision, AllocError>
     requires { held.now.instance.dirty ≤ instance.dirty }
-    ensures joins { Joins result (Some held.now) known.row known.threshold known.rate instance replicated moment }
-    ensures of { IsOf instance.key result.lease }
-    ensures new { (leases : FinMap key_cmp Listed) → IsNew leases result.lease }
+    ensures joins { IfOk result (λ d. Joins d (Some held.now) known.row known.threshold known.rate instance replicated moment) }
+    ensures of { IfOk result (λ d. IsOf instance.key d.lease) }
+    ensures new { IfOk result (λ d. (leases : FinMap key_cmp Listed) → IsNew leases d.lease) }
 {
     let settled = settle(
         instance.status,
@@ -112,27 +113,28 @@ fn join_over(
     instance.status = settled.status;
     instance.overridden = settled.overridden;
     let held = Held::new(instance, lease);
-    Decision {
-        lease: LeaseChange::Replaced { held },
+    Ok(Decision {
+        lease: LeaseChange::Replaced(Box::new(alloc, held)?),
         row: settled.row,
         threshold: known.threshold,
         rate: known.rate,
         reply: Reply::Registered { fresh: false },
-    }
+    })
 }
 
-/// The registration of an instance whose key is held with a greater stamp: the held one stays.
+/// The registration of an instance whose key is held with a greater stamp: the held one stays. `AllocError` where no memory is left.
 fn join_under(
+    alloc: Global,
     newcomer: Instance,
     held: &Held,
     known: Known,
     replicated: bool,
     moment: Moment,
-) -> Decision
+) -> Result<Decision, AllocError>
     requires { newcomer.dirty < held.now.instance.dirty }
-    ensures joins { Joins result (Some held.now) known.row known.threshold known.rate newcomer replicated moment }
-    ensures of { IsOf newcomer.key result.lease }
-    ensures new { (leases : FinMap key_cmp Listed) → IsNew leases result.lease }
+    ensures joins { IfOk result (λ d. Joins d (Some held.now) known.row known.threshold known.rate newcomer replicated moment) }
+    ensures of { IfOk result (λ d. IsOf newcomer.key d.lease) }
+    ensures new { IfOk result (λ d. (leases : FinMap key_cmp Listed) → IsNew leases d.lease) }
 {
     let own = held.instance();
     let settled = settle(
@@ -144,16 +146,17 @@ fn join_under(
     );
     let anew = held.lease().anew(moment, newcomer.secs);
     let lease = begun(anew, settled.status, moment);
-    Decision {
-        lease: LeaseChange::Rejoined {
-            newcomer,
-            status: settled.status,
-            overridden: settled.overridden,
-            lease,
-        },
+    let rejoining = Rejoining {
+        newcomer,
+        status: settled.status,
+        overridden: settled.overridden,
+        lease,
+    };
+    Ok(Decision {
+        lease: LeaseChange::Rejoined(Box::new(alloc, rejoining)?),
         row: settled.row,
         threshold: known.threshold,
         rate: known.rate,
         reply: Reply::Registered { fresh: false },
-    }
+    })
 }

@@ -78,17 +78,14 @@ fn instance_left(
             dirty,
             ..
         } => amended_copy(alloc, held, *status, *overridden, *dirty),
-        LeaseChange::Rejoined {
-            newcomer,
-            status,
-            overridden,
-            ..
-        } => rejoined_copy(alloc, held, newcomer, *status, *overridden),
-        LeaseChange::Replaced { held: by } => match held {
+        LeaseChange::Rejoined(by) => {
+            rejoined_copy(alloc, held, &by.newcomer, by.status, by.overridden)
+        }
+        LeaseChange::Replaced(by) => match held {
             Some(_) => same_copy(alloc, Some(by)),
             None => Ok(None),
         },
-        LeaseChange::Begun { held: begun, .. } => same_copy(alloc, Some(begun)),
+        LeaseChange::Begun(begun) => same_copy(alloc, Some(&begun.held)),
         LeaseChange::Ended => Ok(None),
     }
 }

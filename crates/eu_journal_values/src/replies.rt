@@ -9,7 +9,7 @@ use crate::faults::LineFault;
 use crate::members::{number_in, text_in, truth_in};
 use crate::read::instance_in;
 use crate::write::instance_value;
-use eu_base::Instance;
+use eu_base::{BoxedInstance, Instance};
 use eu_model::{Keys, Reply, Tasks};
 use serde_json::{Value, json};
 use std::alloc::{AllocError, Global};
@@ -58,7 +58,7 @@ fn conflict_of(alloc: Global, rest: &Value, object: &Value) -> Result<Reply, Lin
     ensures { Gives result (conflict_of (view rest.now) (view object.now)) }
 {
     let held = instance_in(alloc, rest, object)?;
-    Ok(Reply::Conflict(held))
+    Ok(Reply::Conflict(BoxedInstance::new(alloc, held)?))
 }
 
 /// The answer to the end of a minute. `NotALine` where it is none.

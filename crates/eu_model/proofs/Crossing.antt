@@ -2,7 +2,7 @@
 use denote.Param.Send.{IsSend, sendable}
 use Rattle.std.proofs.Crossing as heap
 use Rattle.std.proofs.MapsCrossing as maps
-use Rattle.eu_base.proofs.Crossing.{Instance-send, Task-send}
+use Rattle.eu_base.proofs.Crossing.{BoxedInstance-send, Instance-send, Task-send}
 use Rattle.eu_model.specs.contracts.commands.Command as command
 use Rattle.eu_model.specs.contracts.commands.Entry as entry
 use Rattle.eu_model.specs.contracts.commands.Reply as reply
@@ -22,7 +22,7 @@ pub Command-send : IsSend command.the_field.row
 Command-send = search (Instance-send, sendable, heap.crosses, maps.crosses) depth 60 fits 60000
 
 pub Reply-send : IsSend reply.the_field.row
-Reply-send = search (Instance-send, Keys-send, Tasks-send, sendable) depth 60 fits 60000
+Reply-send = search (BoxedInstance-send, Keys-send, Tasks-send, sendable) depth 60 fits 60000
 
 -- as an element of a journal
 pub Entry-send : IsSend entry.the_row

@@ -3,7 +3,7 @@ ghost use Rattle.std.specs.Prelude.{◌≡◌, ◌↔◌, true, IfOk, IsOk, IsTr
 ghost use Rattle.eu_model.specs.Owned.{names_nothing, owns_nothing};
 
 use crate::{Keys, Tasks};
-use eu_base::{Codes, Config, Instance, Key, Moment, Stamp, Status};
+use eu_base::{BoxedInstance, Codes, Config, Instance, Key, Moment, Stamp, Status};
 use std::alloc::{AllocError, Global};
 
 /// What changes a registry, or a server with peers. Each is one step of the lease machine, but for `Drain`, `Landed` and `Lost`, which
@@ -416,7 +416,7 @@ pub enum Reply {
     /// The sender knows a newer instance than the registry, and is to register it.
     Stale,
     /// The registry holds a newer instance than the peer that asks: this one.
-    Conflict(Instance),
+    Conflict(BoxedInstance),
     /// The renewals of the minute that ended.
     Last(u64),
     /// The number of clients that are expected now.
@@ -461,7 +461,7 @@ impl Reply {
             Reply::Stale => Ok(Reply::Stale),
             Reply::Conflict(held) => {
                 let held = held.copy(alloc)?;
-                Ok(Reply::Conflict(held))
+                Ok(Reply::Conflict(BoxedInstance::new(alloc, held)?))
             }
             Reply::Last(renewals) => Ok(Reply::Last(*renewals)),
             Reply::Expected(clients) => Ok(Reply::Expected(*clients)),

@@ -1,6 +1,6 @@
 //! Requests as clients send them, and responses byte for byte.
 use crate::tests::instances::push_each;
-use eu_base::{App, Config, Fault, Instance, Key, Moment, Stamp, Status};
+use eu_base::{App, BoxedInstance, Config, Fault, Instance, Key, Moment, Stamp, Status};
 use eu_framing::{EMPTY_PIECE, Request, read_request};
 use eu_http::{Answer, Ask, Asked, Outcome, answer, asks};
 use eu_json::read_instance;
@@ -392,7 +392,7 @@ fn replies_are_written(rt: HostRuntime) {
 
 /// The answer that an instance conflicts with one that is held.
 pub fn conflict(alloc: Global) -> Result<Answer, Fault> {
-    let held = instance(alloc)?;
+    let held = BoxedInstance::new(alloc, instance(alloc)?)?;
     Ok(Answer::Did(Reply::Conflict(held)))
 }
 

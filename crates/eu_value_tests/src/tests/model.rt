@@ -1,5 +1,7 @@
 //! Lists of keys and of leases.
-use eu_base::{Action, App, Config, Fault, Id, Instance, Key, Moment, Rest, Stamp, Status, Task};
+use eu_base::{
+    Action, App, BoxedInstance, Config, Fault, Id, Instance, Key, Moment, Rest, Stamp, Status, Task,
+};
 use eu_model::{Command, Keys, Listed, Listing, Reply, Rows, Tally, Tasks, Times};
 use std::alloc::Global;
 
@@ -148,7 +150,7 @@ fn is_reply_copied(alloc: Global, reply: &Reply, short: (&str, u64)) -> Result<b
 
 /// Whether a conflict is copied, with an instance of that stamp.
 fn is_conflict_copied(alloc: Global, dirty: u64) -> Result<bool, Fault> {
-    let conflict = Reply::Conflict(instance(alloc)?);
+    let conflict = Reply::Conflict(BoxedInstance::new(alloc, instance(alloc)?)?);
     let copied = is_reply_copied(alloc, &conflict, ("conflict", dirty));
     drop(conflict);
     copied

@@ -1,7 +1,9 @@
 use Rattle.std.proofs.Common.{refl, ap, sym, subst, ◌∙◌}
 use Rattle.std.specs.FinMap.{get}
+use Rattle.eu_model.specs.declared.views.Listed.{Listed}
 use Rattle.eu_model.specs.Maps.{with_value}
 use Rattle.eu_store.specs.Stored.{amended, changed, rejoined, renewed_at}
+use Rattle.eu_core.specs.declared.decision.Rejoining.{Rejoining}
 use Rattle.eu_core.specs.Decided.{lease_left, marked, IsOf}
 use Rattle.eu_core.proofs.RowLemmas.{changed_value, with_lease-same}
 use Rattle.eu_core.proofs.decision.write_lease.Goals as goal
@@ -31,14 +33,18 @@ returns-in-Rejoined c =
     let m = c.args.leases.now.held in
     let k = c.args.key.now in
     let i = c.in-Rejoined in
-    let f = rejoined i.newcomer i.status i.overridden i.lease in
+    let by = i.by.value in
+    let f = rejoined by.newcomer by.status by.overridden by.lease in
     let of = subst (IsOf k) i.is c.requires.of in
-    c.rejoin.ensures.held ∙ ap (changed f m) of.0 ∙ changed_value f m k ∙ ap (λ x. with_value m k (lease_left x (get m k))) (sym i.is)
+    c.rejoin.ensures.held ∙ ap (λ (b : Rejoining). changed (rejoined b.newcomer b.status b.overridden b.lease) m b.newcomer.key) c.into_inner-by.ensures
+    ∙ ap (changed f m) of.0 ∙ changed_value f m k ∙ ap (λ x. with_value m k (lease_left x (get m k))) (sym i.is)
 
 pub returns-in-Replaced : goal.returns-in-Replaced
 returns-in-Replaced c =
     let m = c.args.leases.now.held in
     let k = c.args.key.now in
     let i = c.in-Replaced in
+    let by = i.held.value in
     let of = subst (IsOf k) i.is c.requires.of in
-    c.replace.ensures.held ∙ ap (changed (λ _. i.held) m) of ∙ changed_value (λ _. i.held) m k ∙ ap (λ x. with_value m k (lease_left x (get m k))) (sym i.is)
+    c.replace.ensures.held ∙ ap (λ (l : Listed). changed (λ _. l) m l.instance.key) c.into_inner-held.ensures
+    ∙ ap (changed (λ _. by) m) of ∙ changed_value (λ _. by) m k ∙ ap (λ x. with_value m k (lease_left x (get m k))) (sym i.is)

@@ -1,9 +1,10 @@
 use Rattle.std.proofs.Common.{refl, ap, ◌∙◌}
-use Rattle.std.specs.Prelude.{None}
+use Rattle.std.specs.Prelude.{None, Some}
 use Rattle.eu_base.proofs.InstanceLemmas.{data_of}
 use Rattle.eu_model.specs.declared.views.Listed.{Listed}
 use Rattle.eu_model.specs.Change.{up_after}
 use Rattle.eu_lease.specs.Term.{Term, times_of}
+use Rattle.eu_core.specs.declared.decision.Beginning.{Beginning}
 use Rattle.eu_core.proofs.JoinLemmas.{joins_from}
 use Rattle.eu_core.proofs.joins.join_new.Goals as goal
 
@@ -11,7 +12,7 @@ pub returns-clause-joins : goal.returns-clause-joins
 returns-clause-joins c =
     let s = c.settle-settled.ensures in
     joins_from _ _ _ c.args.instance c.args.instance c.args.replicated c.args.moment None c.new-held.result c.args.known.row _ _
-    refl refl refl refl refl
+    (ap (λ (b : Beginning). Some b.held) c.in_ok-new.ensures.ok) refl refl refl refl
     s.row s.overridden s.status
     (ap (λ (y : Listed). data_of y.instance) c.new-held.ensures)
     (ap (λ (y : Listed). y.times) c.new-held.ensures

@@ -16,7 +16,7 @@ returns-clause-joins c =
     let row = c.args.known.row in
     let s = c.settle-settled.ensures in
     joins_from _ _ _ n n c.args.replicated c.args.moment (Some l) c.new-held.result row _ _
-    refl refl refl refl
+    (ap Some c.in_ok-new.ensures.ok) refl refl refl
     (chosen_over l n c.requires)
     s.row s.overridden
     (s.status ∙ ap (λ (i : Instance). rule n.status (row_after row n.overridden) (Some i.status) c.args.replicated) c.instance.ensures)

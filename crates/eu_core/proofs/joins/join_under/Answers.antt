@@ -5,6 +5,7 @@ use Rattle.eu_model.specs.Override.{rule}
 use Rattle.eu_model.specs.Change.{row_after, up_after}
 use Rattle.eu_lease.specs.Term.{Term, times_of, anew}
 use Rattle.eu_store.specs.Stored.{rejoined}
+use Rattle.eu_core.specs.declared.decision.Rejoining.{Rejoining}
 use Rattle.eu_core.proofs.JoinLemmas.{joins_from, chosen_under}
 use Rattle.eu_core.proofs.joins.join_under.Goals as goal
 
@@ -17,7 +18,7 @@ returns-clause-joins c =
     let s = c.settle-settled.ensures in
     let own = c.instance-own.ensures in
     joins_from _ _ _ n j c.args.replicated c.args.moment (Some l) (rejoined n c.settle-settled.result.status c.settle-settled.result.overridden c.begun-lease.result l) row _ _
-    refl refl refl refl
+    (ap (λ (b : Rejoining). Some (rejoined b.newcomer b.status b.overridden b.lease l)) c.in_ok-new.ensures.ok) refl refl refl
     (chosen_under l n c.requires)
     (s.row ∙ ap (λ (i : Instance). row_after row i.overridden) own)
     (s.overridden ∙ ap (λ (i : Instance). unwrap_or (row_after row i.overridden) i.overridden) own)

@@ -79,10 +79,16 @@ fn nobody_is_renewed_in_an_empty_registry(rt: HostRuntime) {
     assert!(rt; renews_nobody(rt.alloc()) == Ok(true));
 }
 
-/// A list of 250 times the same item.
-fn repeated(alloc: Global, before: &str, item: &str, after: &str) -> Result<String, AllocError> {
+/// A list of so many times the same item, and one at least.
+fn repeated(
+    alloc: Global,
+    before: &str,
+    item: &str,
+    count: u64,
+    after: &str,
+) -> Result<String, AllocError> {
     let mut text = joined(alloc, &[before, item])?;
-    for _ in 1..250 {
+    for _ in 1..count {
         text.push(',')?;
         text.push_str(item)?;
     }
@@ -90,22 +96,41 @@ fn repeated(alloc: Global, before: &str, item: &str, after: &str) -> Result<Stri
     Ok(text)
 }
 
-/// Whether a book that is just opened answers a batch of that renewal, 250 times, in as many steps.
-fn renews_as_often_as_can_be(alloc: Global) -> Result<bool, Fault> {
+/// What a batch of so many such renewals is answered, by a body of that length.
+fn nobodies(alloc: Global, count: u64, length: &str) -> Result<String, AllocError> {
+    let head = joined(
+        alloc,
+        &[
+            "HTTP/1.1 200 OK\r\nContent-Type: application/json\r\nContent-Length: ",
+            length,
+            "\r\n\r\n{\"responseList\":[",
+        ],
+    )?;
+    repeated(alloc, &head, r#"{"statusCode":404}"#, count, "]}")
+}
+
+/// Whether a book that is just opened answers a batch of so many such renewals, in as many steps.
+fn renews_each(alloc: Global, count: u64, length: &str) -> Result<bool, Fault> {
     let item = r#"{"action":"Heartbeat","appName":"A","id":"zz"}"#;
-    let body = repeated(alloc, r#"{"replicationList":["#, item, "]}")?;
-    let head =
-        "HTTP/1.1 200 OK\r\nContent-Type: application/json\r\nContent-Length: 4768\r\n\r\n{\"responseList\":[";
-    let response = repeated(alloc, head, r#"{"statusCode":404}"#, "]}")?;
+    let body = repeated(alloc, r#"{"replicationList":["#, item, count, "]}")?;
+    let response = nobodies(alloc, count, length)?;
     let mut book = opened(alloc)?;
-    let replies = replies_by(alloc, &mut book, &body, &response, 250);
+    let replies = replies_by(alloc, &mut book, &body, &response, count);
     drop(book);
     replies
 }
 
+/// How many items a batch has, and the length of its answer: 18 for each item, a comma between two of them, and 19.
+const SIZES: [(u64, &str); 4] = [(101, "1937"), (200, "3818"), (249, "4749"), (250, "4768")];
+
 #[test]
-fn a_full_batch_is_answered_item_by_item(rt: HostRuntime) {
-    assert!(rt; renews_as_often_as_can_be(rt.alloc()) == Ok(true));
+fn large_batches_are_answered_item_by_item(rt: HostRuntime) {
+    for (count, length) in SIZES {
+        assert!(rt;
+            renews_each(rt.alloc(), count, length) == Ok(true),
+            "at {count}"
+        );
+    }
 }
 
 #[test]

@@ -178,30 +178,52 @@ const LONG: [Text; 7] = [
     ),
 ];
 
-/// How many chunks of 1,024 bytes, with one byte of data each, a body has; what stands behind them, and a part behind that with how often it
-/// stands there.
-type Raw = (usize, &'static str, &'static str, usize);
+/// How many chunks of 1,024 bytes, with one byte of data each, a body has; what stands behind them, a part behind that with how often it
+/// stands there, and what stands behind that; and the fault that the last byte of all that decides.
+type Raw = (
+    usize,
+    &'static str,
+    &'static str,
+    usize,
+    &'static str,
+    Fault,
+);
 
-/// Chunked bodies of 4,194,304 bytes that aren't whole: the bound cuts a chunk line, the data of a chunk or a trailer, or comes behind a chunk.
-const RAW: [Raw; 4] = [
+/// Chunked bodies of 4,194,304 bytes that aren't whole.
+const RAW: [Raw; 7] = [
+    // the bound cuts a chunk line, or the data of a chunk
     (
         0,
         "5;aaaaaaaaaaaaaaaaaaaaaaaaaaaaaaaaaaaaaaaaaaaaaaaaaaaaaaaaaaaaaa",
         "aaaaaaaaaaaaaaaaaaaaaaaaaaaaaaaaaaaaaaaaaaaaaaaaaaaaaaaaaaaaaaaa",
         65_535,
+        "",
+        Fault::BodyTooLong,
     ),
-    (4_095, "400\r\n", "x", 1_019),
-    (4_095, "0\r\nX: ", "y", 1_018),
-    (4_096, "", "", 0),
+    (4_095, "400\r\n", "x", 1_019, "", Fault::BodyTooLong),
+    // it cuts a trailer, or comes behind a chunk
+    (4_095, "0\r\nX: ", "y", 1_018, "", Fault::BodyTooLong),
+    (4_096, "", "", 0, "", Fault::BodyTooLong),
+    // it comes behind the data of a chunk
+    (4_095, "3fb\r\n", "x", 1_019, "", Fault::BodyTooLong),
+    // it comes behind the byte after the data, which is its CR, or isn't
+    (4_095, "3fa\r\n", "x", 1_018, "\r", Fault::BodyTooLong),
+    (4_095, "3fa\r\n", "x", 1_018, "X", Fault::BodyTooLong),
+];
+
+/// Chunked bodies with room for a chunk and its end, which isn't CR LF: the first of the two bytes is another, or the second, at the bound.
+const BAD_ENDS: [Raw; 2] = [
+    (4_095, "3f9\r\n", "x", 1_017, "X", Fault::BadChunk),
+    (4_095, "3f9\r\n", "x", 1_017, "\rX", Fault::BadChunk),
 ];
 
 /// A request with such a body.
 fn chunked(alloc: Global, raw: &Raw) -> Result<String, AllocError> {
-    let (chunks, before, part, times) = *raw;
+    let (chunks, before, part, times, behind, _) = *raw;
     let chunk = repeated(alloc, "1;", "a", 1_017, "\r\nx\r\n")?;
     let head = "POST /a HTTP/1.1\r\nHost: x\r\nTransfer-Encoding: chunked\r\n\r\n";
     let front = repeated(alloc, head, &chunk, chunks, before)?;
-    repeated(alloc, &front, part, times, "")
+    repeated(alloc, &front, part, times, behind)
 }
 
 /// What a session tells that was refused by that fault before its next read.
@@ -283,7 +305,7 @@ fn sessions_refuse_what_is_too_long_before_the_next_read(rt: HostRuntime) -> Res
 /// Whether such a request is refused so.
 fn is_cut(alloc: Global, raw: &Raw) -> Result<bool, Fault> {
     let text = chunked(alloc, raw)?;
-    is_refused(alloc, text.as_bytes(), Fault::BodyTooLong)
+    is_refused(alloc, text.as_bytes(), raw.5)
 }
 
 #[test]
@@ -301,5 +323,24 @@ fn sessions_refuse_a_trailer_or_its_lack_at_their_bound_before_the_next_read(
 ) -> Result<(), Fail> {
     assert!(rt; is_cut(rt.alloc(), &RAW[2])?);
     assert!(rt; is_cut(rt.alloc(), &RAW[3])?);
+    Ok(())
+}
+
+#[test]
+fn sessions_refuse_data_without_its_end_at_their_bound_before_the_next_read(
+    rt: HostRuntime,
+) -> Result<(), Fail> {
+    assert!(rt; is_cut(rt.alloc(), &RAW[4])?);
+    assert!(rt; is_cut(rt.alloc(), &RAW[5])?);
+    assert!(rt; is_cut(rt.alloc(), &RAW[6])?);
+    Ok(())
+}
+
+#[test]
+fn sessions_refuse_a_wrong_end_of_data_up_to_the_bound_before_the_next_read(
+    rt: HostRuntime,
+) -> Result<(), Fail> {
+    assert!(rt; is_cut(rt.alloc(), &BAD_ENDS[0])?);
+    assert!(rt; is_cut(rt.alloc(), &BAD_ENDS[1])?);
     Ok(())
 }

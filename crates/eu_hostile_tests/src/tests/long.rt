@@ -1,4 +1,4 @@
-//! Heads and bodies that are too long.
+//! Heads, trailers and bodies that are too long, and those that are just short enough.
 use crate::tests::fakes::{Shaky, joined, told};
 use eu_base::Fault;
 use std::alloc::{AllocError, Global};
@@ -134,20 +134,95 @@ fn what_is_too_long_is_refused(rt: HostRuntime) -> Result<(), Fail> {
     Ok(())
 }
 
-/// Request lines of 8,000 bytes are to be taken (RFC 9112, section 3).
+/// What stands before a part of a message that is repeated, the part and how often it stands there, and what stands behind it.
+type Taken = (&'static str, &'static str, usize, &'static str);
+
+/// Request lines and trailers that are just short enough.
+const TAKEN: [Taken; 3] = [
+    // a request line of 8,000 bytes, which is to be taken (RFC 9112, section 3)
+    ("GET /", "a", 7_986, " HTTP/1.1\r\nHost: x\r\n\r\n"),
+    // trailers of 64 fields and of 8,192 bytes
+    (
+        "POST /a HTTP/1.1\r\nHost: x\r\nTransfer-Encoding: chunked\r\n\r\n0\r\n",
+        "X: y\r\n",
+        64,
+        "\r\n",
+    ),
+    (
+        "POST /a HTTP/1.1\r\nHost: x\r\nTransfer-Encoding: chunked\r\n\r\n0\r\nX: ",
+        "y",
+        8_185,
+        "\r\n\r\n",
+    ),
+];
+
+/// A part of a long body.
+const BYTES: &str = "xxxxxxxxxxxxxxxxxxxxxxxxxxxxxxxxxxxxxxxxxxxxxxxxxxxxxxxxxxxxxxxx";
+
+/// Bodies that are just short enough.
+const BODIES: [Taken; 4] = [
+    // 1,048,576 bytes with a length, in one chunk, and in chunks of 64 bytes
+    (
+        "POST /a HTTP/1.1\r\nHost: x\r\nContent-Length: 1048576\r\n\r\n",
+        BYTES,
+        16_384,
+        "",
+    ),
+    (
+        "POST /a HTTP/1.1\r\nHost: x\r\nTransfer-Encoding: chunked\r\n\r\n100000\r\n",
+        BYTES,
+        16_384,
+        "\r\n0\r\n\r\n",
+    ),
+    (
+        "POST /a HTTP/1.1\r\nHost: x\r\nTransfer-Encoding: chunked\r\n\r\n",
+        "40\r\nxxxxxxxxxxxxxxxxxxxxxxxxxxxxxxxxxxxxxxxxxxxxxxxxxxxxxxxxxxxxxxxx\r\n",
+        16_384,
+        "0\r\n\r\n",
+    ),
+    // chunks of 4,194,304 bytes as they are sent: the last line has an extension of 4,194,298 bytes
+    (
+        "POST /a HTTP/1.1\r\nHost: x\r\nTransfer-Encoding: chunked\r\n\r\n0;xxxxxxxxxxxxxxxxxxxxxxxxxxxxxxxxxxxxxxxxxxxxxxxxxxxxxxxxxx",
+        BYTES,
+        65_535,
+        "\r\n\r\n",
+    ),
+];
+
+/// What a session tells that has taken such a message, and the request behind it: no route has either path.
+const BOTH_TAKEN: &str =
+    "requests 2 asks 0 next 1002 HTTP/1.1 404 Not Found\r\nContent-Length: 0\r\n\r\nHTTP/1.1 404 Not Found\r\nContent-Length: 0\r\n\r\n";
+
+/// Whether a session of such a message tells that, read in pieces of a size.
+fn is_taken(alloc: Global, message: &Taken, size: usize) -> Result<bool, Fault> {
+    let (before, part, times, behind) = *message;
+    let mut text = repeated(alloc, before, part, times, behind)?;
+    text.push_str("GET /b HTTP/1.1\r\nHost: x\r\n\r\n")?;
+    let told = told(alloc, Shaky::steady(text.as_bytes(), size))?;
+    Ok(told.as_str() == BOTH_TAKEN)
+}
+
 #[test]
-fn a_long_request_line_is_taken(rt: HostRuntime) -> Result<(), Fail> {
-    let text = repeated(
-        rt.alloc(),
-        "GET /",
-        "a",
-        7_986,
-        " HTTP/1.1\r\nHost: x\r\n\r\n",
-    )?;
-    let told = told(rt.alloc(), text.as_bytes())?;
-    assert_eq!(rt;
-        told.as_str(),
-        "requests 1 asks 0 next 1001 HTTP/1.1 404 Not Found\r\nContent-Length: 0\r\n\r\n"
-    );
+fn what_is_just_short_enough_is_taken(rt: HostRuntime) -> Result<(), Fail> {
+    for message in &TAKEN {
+        let (before, _, times, _) = *message;
+        assert!(rt;
+            is_taken(rt.alloc(), message, usize::MAX)?,
+            "{before} {times}"
+        );
+        assert!(rt; is_taken(rt.alloc(), message, 1)?, "{before} {times}");
+    }
+    Ok(())
+}
+
+#[test]
+fn a_body_that_is_just_short_enough_is_taken(rt: HostRuntime) -> Result<(), Fail> {
+    for message in &BODIES {
+        let (before, _, times, _) = *message;
+        assert!(rt;
+            is_taken(rt.alloc(), message, usize::MAX)?,
+            "{before} {times}"
+        );
+    }
     Ok(())
 }

@@ -1,5 +1,5 @@
 //! Messages on which readers of HTTP are known to differ: what is made of each, request by request and by a session.
-use crate::tests::fakes::{Brittle, Noting, Shaky, serve};
+use crate::tests::fakes::{Brittle, Noting, Shaky, joined, serve, told};
 use crate::tests::tables::{
     CHUNKS, CODINGS, CONNECTIONS, DIFFERENCES, FIELDS, LENGTHS, LINES, Row, TARGETS,
 };
@@ -260,6 +260,35 @@ fn chunks_are_read_as_the_standard_asks(rt: HostRuntime) -> Result<(), Fail> {
 fn these_are_read_otherwise_than_the_standard_asks(rt: HostRuntime) -> Result<(), Fail> {
     let wrong = wrong_rows(rt.alloc(), &DIFFERENCES, true)?;
     assert_eq!(rt; wrong.as_str(), "");
+    Ok(())
+}
+
+/// Heads whose bodies are held back until the server says `100`, with the bodies.
+const HELD_BACK: [(&str, &str); 2] = [
+    (
+        "POST /a HTTP/1.1\r\nHost: x\r\nExpect: 100-continue\r\nContent-Length: 5\r\n\r\n",
+        "hello",
+    ),
+    (
+        "POST /a HTTP/1.1\r\nHost: x\r\nExpect: 100-continue\r\nTransfer-Encoding: chunked\r\n\r\n",
+        "5\r\nhello\r\n0\r\n\r\n",
+    ),
+];
+
+/// Whether nothing is written before a body that is held back comes, and one response once it has; the read behind each fails.
+fn is_awaited(alloc: Global, head: &str, body: &str) -> Result<bool, Fault> {
+    let text = joined(alloc, &[head, body])?;
+    let answered = joined(alloc, &["fault 40 asks 0 next 1001 ", MISSING])?;
+    let before = told(alloc, Shaky::new(text.as_bytes(), head.len(), 1))?;
+    let behind = told(alloc, Shaky::new(text.as_bytes(), head.len(), 2))?;
+    Ok(before.as_str() == "fault 40 asks 0 next 1000 " && behind == answered)
+}
+
+#[test]
+fn nothing_is_answered_before_a_body_that_is_held_back(rt: HostRuntime) -> Result<(), Fail> {
+    for (head, body) in &HELD_BACK {
+        assert!(rt; is_awaited(rt.alloc(), head, body)?, "{head}");
+    }
     Ok(())
 }
 

@@ -788,9 +788,14 @@ pub const CODINGS: [Row; 35] = [
 ];
 
 /// Chunks and trailers (RFC 9112, section 7.1; RFC 9110, section 6.5).
-pub const CHUNKS: [Row; 39] = [
+pub const CHUNKS: [Row; 40] = [
     (
         b"POST /a HTTP/1.1\r\nHost: x\r\nTransfer-Encoding: chunked\r\n\r\nA\r\nhelloworld\r\n0\r\n\r\nGET /b HTTP/1.1\r\nHost: x\r\n\r\n",
+        &["POST /a helloworld; GET /b ; end"],
+        "POST /a helloworld; GET /b ; end",
+    ),
+    (
+        b"POST /a HTTP/1.1\r\nHost: x\r\nTransfer-Encoding: chunked\r\n\r\na\r\nhelloworld\r\n0\r\n\r\nGET /b HTTP/1.1\r\nHost: x\r\n\r\n",
         &["POST /a helloworld; GET /b ; end"],
         "POST /a helloworld; GET /b ; end",
     ),
@@ -987,7 +992,7 @@ pub const CHUNKS: [Row; 39] = [
 ];
 
 /// What is read otherwise than the standard asks; `docs/SMUGGLING.md` says why.
-pub const DIFFERENCES: [Row; 18] = [
+pub const DIFFERENCES: [Row; 19] = [
     (
         b"GET /a HTTP/1.2\r\nHost: x\r\n\r\n",
         &["GET /a ; end"],
@@ -1077,5 +1082,10 @@ pub const DIFFERENCES: [Row; 18] = [
         b"POST /a HTTP/1.1\r\nHost: x\r\nTransfer-Encoding: chunked\r\n\r\n5;\0\x7f\r\nhello\r\n0\r\n\r\n",
         &["400"],
         "POST /a hello; end",
+    ),
+    (
+        b"FOO /eureka/apps HTTP/1.1\r\nHost: x\r\n\r\n",
+        &["501", "405"],
+        "FOO /eureka/apps ; end",
     ),
 ];

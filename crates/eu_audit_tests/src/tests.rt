@@ -2,6 +2,8 @@
 mod books;
 mod closed;
 mod drawn;
+mod kept;
 mod memory;
 mod passes;
 mod replies;
+mod waves;

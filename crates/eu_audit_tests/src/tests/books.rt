@@ -35,7 +35,7 @@ pub fn tell<C: Chooser>(
 }
 
 /// The same of a step at a moment in milliseconds.
-fn tell_step<C: Chooser>(
+pub fn tell_step<C: Chooser>(
     alloc: Global,
     book: &mut Book,
     ms: u64,

@@ -1,13 +1,43 @@
 //! Books that are told drawn commands at drawn moments.
+ghost use Rattle.std.specs.Prelude.{◌<◌};
+
 use crate::tests::books::{audited, tell};
 use eu_audit_forms::{Client, at, instance, key};
 use eu_base::{Codes, Config, Fault, Instance, Key, Moment, Stamp, Status};
 use eu_book::{Book, Receipt};
 use eu_clock::{FirstChooser, RngChooser};
 use eu_model::{Command, Reply};
-use rand::{RngExt, SeedableRng};
+use rand::RngExt;
+use rand_core::SeedableRng;
+use rand_core::utils::NextWord;
 use rand_pcg::Pcg32;
 use std::alloc::Global;
+
+/// What numbers are drawn from.
+trait Draw {
+    /// A number below that bound.
+    fn below(&mut self, bound: u32) -> u32
+        requires { 0 < bound };
+}
+
+/// Has the next word of the generator, modulo the bound.
+impl Draw for Pcg32 {
+    fn below(&mut self, bound: u32) -> u32 {
+        self.next_word() % bound
+    }
+}
+
+/// Draws from the generator by the crate `rand`.
+#[derive(Drop)]
+struct Uniform {
+    generator: Pcg32,
+}
+
+impl Draw for Uniform {
+    fn below(&mut self, bound: u32) -> u32 {
+        self.generator.random_range(0u32..bound)
+    }
+}
 
 const IDS: [&str; 10] = ["i0", "i1", "i2", "i3", "i4", "i5", "i6", "i7", "i8", "i9"];
 
@@ -19,49 +49,49 @@ const STATUSES: [Status; 5] = [
     Status::Unknown,
 ];
 
-fn flip(rng: &mut Pcg32) -> bool {
-    rng.random_range(0u32..2) == 0
+fn flip<D: Draw>(rng: &mut D) -> bool {
+    rng.below(2) == 0
 }
 
-fn id(rng: &mut Pcg32) -> &'static str {
-    let place = rng.random_range(0u32..10) as usize;
+fn id<D: Draw>(rng: &mut D) -> &'static str {
+    let place = rng.below(10) as usize;
     IDS.get(place).copied().unwrap_or("i0")
 }
 
-fn status(rng: &mut Pcg32) -> Status {
-    let place = rng.random_range(0u32..5) as usize;
+fn status<D: Draw>(rng: &mut D) -> Status {
+    let place = rng.below(5) as usize;
     STATUSES.get(place).copied().unwrap_or(Status::Up)
 }
 
-fn status_or_none(rng: &mut Pcg32) -> Option<Status> {
+fn status_or_none<D: Draw>(rng: &mut D) -> Option<Status> {
     if flip(rng) { Some(status(rng)) } else { None }
 }
 
 /// A stamp below 8, or none.
-fn stamp(rng: &mut Pcg32) -> Option<Stamp> {
+fn stamp<D: Draw>(rng: &mut D) -> Option<Stamp> {
     if flip(rng) {
-        Stamp::new(rng.random_range(0u64..8))
+        Stamp::new(u64::from(rng.below(8)))
     } else {
         None
     }
 }
 
-fn drawn_key(alloc: Global, rng: &mut Pcg32) -> Result<Key, Fault> {
+fn drawn_key<D: Draw>(alloc: Global, rng: &mut D) -> Result<Key, Fault> {
     key(alloc, id(rng))
 }
 
 /// An instance with a stamp below 8 that lasts 1 to 20 s.
-fn drawn_instance(alloc: Global, rng: &mut Pcg32) -> Result<Instance, Fault> {
+fn drawn_instance<D: Draw>(alloc: Global, rng: &mut D) -> Result<Instance, Fault> {
     let client = Client {
         id: id(rng),
         statuses: (status(rng), status(rng)),
-        dirty: rng.random_range(0u64..8),
-        secs: rng.random_range(1u32..21),
+        dirty: u64::from(rng.below(8)),
+        secs: rng.below(20).saturating_add(1),
     };
     instance(alloc, client)
 }
 
-fn registration(alloc: Global, rng: &mut Pcg32) -> Result<Command, Fault> {
+fn registration<D: Draw>(alloc: Global, rng: &mut D) -> Result<Command, Fault> {
     let instance = drawn_instance(alloc, rng)?;
     Ok(Command::Register {
         instance,
@@ -69,7 +99,7 @@ fn registration(alloc: Global, rng: &mut Pcg32) -> Result<Command, Fault> {
     })
 }
 
-fn renewal(alloc: Global, rng: &mut Pcg32) -> Result<Command, Fault> {
+fn renewal<D: Draw>(alloc: Global, rng: &mut D) -> Result<Command, Fault> {
     let key = drawn_key(alloc, rng)?;
     Ok(Command::Renew {
         key,
@@ -79,7 +109,7 @@ fn renewal(alloc: Global, rng: &mut Pcg32) -> Result<Command, Fault> {
     })
 }
 
-fn cancel(alloc: Global, rng: &mut Pcg32) -> Result<Command, Fault> {
+fn cancel<D: Draw>(alloc: Global, rng: &mut D) -> Result<Command, Fault> {
     let key = drawn_key(alloc, rng)?;
     Ok(Command::Cancel {
         key,
@@ -87,7 +117,7 @@ fn cancel(alloc: Global, rng: &mut Pcg32) -> Result<Command, Fault> {
     })
 }
 
-fn setting(alloc: Global, rng: &mut Pcg32) -> Result<Command, Fault> {
+fn setting<D: Draw>(alloc: Global, rng: &mut D) -> Result<Command, Fault> {
     let key = drawn_key(alloc, rng)?;
     Ok(Command::SetStatus {
         key,
@@ -97,7 +127,7 @@ fn setting(alloc: Global, rng: &mut Pcg32) -> Result<Command, Fault> {
     })
 }
 
-fn unsetting(alloc: Global, rng: &mut Pcg32) -> Result<Command, Fault> {
+fn unsetting<D: Draw>(alloc: Global, rng: &mut D) -> Result<Command, Fault> {
     let key = drawn_key(alloc, rng)?;
     Ok(Command::UnsetStatus {
         key,
@@ -107,19 +137,19 @@ fn unsetting(alloc: Global, rng: &mut Pcg32) -> Result<Command, Fault> {
     })
 }
 
-fn reconfiguration(rng: &mut Pcg32) -> Result<Command, Fault> {
+fn reconfiguration<D: Draw>(rng: &mut D) -> Result<Command, Fault> {
     let preservation = flip(rng);
-    let percent = rng.random_range(0u32..101);
-    let interval = rng.random_range(1u32..61);
-    let evict_ms = rng.random_range(0u32..10_000);
+    let percent = rng.below(101);
+    let interval = rng.below(60).saturating_add(1);
+    let evict_ms = rng.below(10_000);
     Ok(Command::Reconfigure {
         config: Config::new(preservation, percent, interval, evict_ms)?,
     })
 }
 
 /// A command of each kind that doesn't speak of a peer; registrations and renewals come more often.
-fn drawn_command(alloc: Global, rng: &mut Pcg32) -> Result<Command, Fault> {
-    match rng.random_range(0u32..20) {
+fn drawn_command<D: Draw>(alloc: Global, rng: &mut D) -> Result<Command, Fault> {
+    match rng.below(20) {
         0 => cancel(alloc, rng),
         1 | 2 => setting(alloc, rng),
         3 => unsetting(alloc, rng),
@@ -136,15 +166,15 @@ fn drawn_command(alloc: Global, rng: &mut Pcg32) -> Result<Command, Fault> {
 }
 
 /// A moment up to 60 s after one, so that the moments of a run go up and down.
-fn drawn_moment(rng: &mut Pcg32, from: u64) -> Result<Moment, Fault> {
-    at(from.saturating_add(rng.random_range(0u64..60_000)))
+fn drawn_moment<D: Draw>(rng: &mut D, from: u64) -> Result<Moment, Fault> {
+    at(from.saturating_add(u64::from(rng.below(60_000))))
 }
 
 /// Tells a book so many drawn commands, and how many leases passes evict.
-fn tell_drawn(
+fn tell_drawn<D: Draw>(
     alloc: Global,
     book: &mut Book,
-    rng: &mut Pcg32,
+    rng: &mut D,
     chooser: &mut RngChooser,
     count: u32,
 ) -> Result<usize, Fault> {
@@ -164,7 +194,9 @@ type Run = (u64, bool, bool, bool);
 fn drawn_run(alloc: Global, seed: u64, count: u32) -> Result<Run, Fault> {
     let config = Config::new(false, 50, 30, 1_000)?;
     let mut book = Book::open(alloc, config, 3, 0)?;
-    let mut rng = Pcg32::seed_from_u64(seed);
+    let mut rng = Uniform {
+        generator: Pcg32::seed_from_u64(seed),
+    };
     let mut chooser = RngChooser::seeded(seed);
     let evicted = tell_drawn(alloc, &mut book, &mut rng, &mut chooser, count);
     let totals = book.totals();
@@ -182,7 +214,7 @@ fn drawn_commands_are_a_run(rt: HostRuntime) {
 }
 
 /// A batch that has landed, each of whose tasks was answered 200 or 404.
-fn landing(alloc: Global, rng: &mut Pcg32, peer: u32, count: usize) -> Result<Command, Fault> {
+fn landing<D: Draw>(alloc: Global, rng: &mut D, peer: u32, count: usize) -> Result<Command, Fault> {
     let mut codes = Vec::with_capacity(alloc, count)?;
     for _ in 0..count {
         codes.push(if flip(rng) { 200 } else { 404 })?;
@@ -212,13 +244,13 @@ fn batch_of(receipt: Receipt) -> usize {
 }
 
 /// Drains what waits for one of two peers, if something does; then the batch has landed or is lost. Tells how many tasks it had.
-fn serve_peer(
+fn serve_peer<D: Draw>(
     alloc: Global,
     book: &mut Book,
-    rng: &mut Pcg32,
+    rng: &mut D,
     moment: Moment,
 ) -> Result<usize, Fault> {
-    let peer = rng.random_range(0u32..2);
+    let peer = rng.below(2);
     let count = drained(alloc, book, peer, moment)?;
     if count > 0 {
         let ends = if flip(rng) {
@@ -232,10 +264,10 @@ fn serve_peer(
 }
 
 /// Tells a book so many drawn commands, each followed by a turn of a peer, and how many tasks went in flight.
-fn tell_peers(
+fn tell_peers<D: Draw>(
     alloc: Global,
     book: &mut Book,
-    rng: &mut Pcg32,
+    rng: &mut D,
     chooser: &mut RngChooser,
     count: u32,
 ) -> Result<usize, Fault> {
@@ -244,7 +276,7 @@ fn tell_peers(
         let command = drawn_command(alloc, rng)?;
         let moment = drawn_moment(rng, u64::from(number) * 100)?;
         tell(alloc, book, command, moment, chooser)?;
-        if rng.random_range(0u32..4) == 0 {
+        if rng.below(4) == 0 {
             sent = sent.saturating_add(serve_peer(alloc, book, rng, moment)?);
         }
     }

@@ -711,3 +711,15 @@ const FULL_PRINTED: &str =
 fn a_full_registry_refuses_and_the_script_goes_on(rt: HostRuntime) {
     assert!(rt; joined_prints(rt.alloc(), true, 0, 65_536, FULL, FULL_PRINTED) == Ok(true));
 }
+
+/// Whether so many lines that ask for the counts are each answered: for one client that is expected, 1.7 renewals, rounded down.
+fn counts_print(alloc: Global, times: usize) -> Result<bool, AllocError> {
+    let lines = "counts 0\n".repeat(alloc, times)?;
+    let replies = "held 0 expected 1 threshold 1 last 0 permitted no\n".repeat(alloc, times)?;
+    joined_prints(alloc, true, 1, 0, &lines, &replies)
+}
+
+#[test]
+fn a_long_script_is_answered_to_its_end(rt: HostRuntime) {
+    assert!(rt; counts_print(rt.alloc(), 20_000) == Ok(true));
+}

@@ -16,23 +16,23 @@ cd "$(dirname "${BASH_SOURCE[0]}")/.."
 
 # The crate, the test, the refusals that it meets at least.
 tests='
-eu_machine_tests memory::memory_store 250
-eu_registry_tests memory::memory_core 300
-eu_value_tests memory::memory_outbox 4500
-eu_book_tests memory::memory_book 650
-eu_shared_tests memory::memory_shared 70
-eu_shared_tests memory::memory_lock 85
+eu_machine_tests memory::memory_store 110
+eu_registry_tests memory::memory_core 160
+eu_value_tests memory::memory_outbox 600
+eu_book_tests memory::memory_book 420
+eu_shared_tests memory::memory_shared 30
+eu_shared_tests memory::memory_lock 40
 eu_request_tests memory::memory_request 40
-eu_request_tests memory::memory_routes 300
+eu_request_tests memory::memory_routes 270
 eu_http_tests memory::memory_json 950
 eu_session_tests memory::memory_http 480
-eu_session_tests memory::memory_requests 350
+eu_session_tests memory::memory_requests 340
 eu_peer_tests memory::memory_turn 300
-eu_script_tests memory::memory_script 370
-eu_script_tests memory::memory_run_audit 700
+eu_script_tests memory::memory_script 220
+eu_script_tests memory::memory_run_audit 310
 eu_script_tests memory::memory_journal 1900
 eu_journal_tests memory::memory_journal_audit 620
-eu_audit_tests memory::a_refused_allocation_is_no_verdict 310
+eu_audit_tests memory::a_refused_allocation_is_no_verdict 75
 '
 
 work=$(mktemp -d)

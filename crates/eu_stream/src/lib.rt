@@ -8,6 +8,7 @@
 
 mod sink;
 mod source;
+mod tries;
 
 pub use sink::{Discarding, Sink, WriteFault, Writing, write_whole};
 pub use source::{ReadFault, Reading, Source};

@@ -1,9 +1,11 @@
 //! Where bytes go.
-ghost use Rattle.std.specs.Prelude.{◌≡◌, ◌≤◌, ◌<◌, ℕ, List, Option, Bool, None, true, false, length, take, OnOk, OnErr, IfOk};
+ghost use Rattle.std.specs.Prelude.{◌≡◌, ◌≤◌, ◌<◌, ℕ, List, Option, Bool, None, Ok, true, false, length, take, OnOk, OnErr, IfOk, IsErr, IsOk};
 ghost use Rattle.std.specs.Io.KnownBytes.{Appends, Keeps};
 
 use crate::MOST_TRIES;
-use std::io::{ErrorKind, Write};
+use crate::tries::unless_interrupted;
+use std::io;
+use std::io::Write;
 use thiserror::Error;
 
 /// A write failed, or a flush.
@@ -90,6 +92,40 @@ impl<'a, W: Write> Writing<'a, W> {
     {
         self.has_failed
     }
+
+    /// Tells what a write of some bytes gave that isn't made again: how many it took, or that it failed, which is remembered. One that
+    /// took none has failed.
+    fn tell_write(&mut self, written: io::Result<usize>) -> Result<usize, WriteFault>
+        ensures count { IfOk written (λ n. 0 < n → result ≡ Ok n) }
+        ensures none { IfOk written (λ n. n ≡ 0 → IsErr result) }
+        ensures fault { OnErr written (IsErr result) }
+        ensures sound { OnOk result (self.new ≡ self.old) }
+        ensures failed { OnErr result (self.new ≡ record self.old { has_failed = true }) }
+    {
+        match written {
+            Ok(count) if count > 0 => Ok(count),
+            _ => {
+                self.has_failed = true;
+                Err(WriteFault)
+            }
+        }
+    }
+
+    /// Tells what a flush gave that isn't made again; a failure is remembered.
+    fn tell_flush(&mut self, flushed: io::Result<()>) -> Result<(), WriteFault>
+        ensures done { OnOk flushed (IsOk result) }
+        ensures fault { OnErr flushed (IsErr result) }
+        ensures sound { OnOk result (self.new ≡ self.old) }
+        ensures failed { OnErr result (self.new ≡ record self.old { has_failed = true }) }
+    {
+        match flushed {
+            Ok(()) => Ok(()),
+            Err(_) => {
+                self.has_failed = true;
+                Err(WriteFault)
+            }
+        }
+    }
 }
 
 /// A call that a signal interrupts is made again, until it was made `MOST_TRIES` times; then it has failed.
@@ -106,11 +142,8 @@ impl<'a, W: Write> Sink for Writing<'a, W> {
             return Ok(0);
         }
         'tries: for _try in 0..MOST_TRIES {
-            match self.writer.write(bytes) {
-                Ok(0) => break,
-                Ok(count) => return Ok(count),
-                Err(error) if error.kind() == ErrorKind::Interrupted => {}
-                Err(_) => break,
+            if let Some(written) = unless_interrupted(self.writer.write(bytes)) {
+                return self.tell_write(written);
             }
         }
         self.has_failed = true;
@@ -119,10 +152,8 @@ impl<'a, W: Write> Sink for Writing<'a, W> {
 
     fn flush(&mut self) -> Result<(), WriteFault> {
         'tries: for _try in 0..MOST_TRIES {
-            match self.writer.flush() {
-                Ok(()) => return Ok(()),
-                Err(error) if error.kind() == ErrorKind::Interrupted => {}
-                Err(_) => break,
+            if let Some(flushed) = unless_interrupted(self.writer.flush()) {
+                return self.tell_flush(flushed);
             }
         }
         self.has_failed = true;

@@ -1,9 +1,11 @@
 //! Where bytes come from.
-ghost use Rattle.std.specs.Prelude.{◌≡◌, ◌≤◌, ◌<◌, ℕ, List, Option, Bool, Some, true, false, length, take, OnOk, OnErr, IfOk};
+ghost use Rattle.std.specs.Prelude.{◌≡◌, ◌≤◌, ◌<◌, ℕ, List, Option, Bool, Some, Ok, true, false, length, take, OnOk, OnErr, IfOk, IsErr};
 ghost use Rattle.std.specs.Io.KnownBytes.{Consumes, Keeps, IsAtEnd};
 
 use crate::MOST_TRIES;
-use std::io::{ErrorKind, Read};
+use crate::tries::unless_interrupted;
+use std::io;
+use std::io::Read;
 use thiserror::Error;
 
 /// A read failed.
@@ -75,6 +77,22 @@ impl<'a, R: Read> Reading<'a, R> {
     {
         self.has_failed
     }
+
+    /// Tells what a read gave that isn't made again: as many bytes as it gave, none too, or that it failed, which is remembered.
+    fn tell(&mut self, read: io::Result<usize>) -> Result<usize, ReadFault>
+        ensures count { IfOk read (λ n. result ≡ Ok n) }
+        ensures fault { OnErr read (IsErr result) }
+        ensures sound { OnOk result (self.new ≡ self.old) }
+        ensures failed { OnErr result (self.new ≡ record self.old { has_failed = true }) }
+    {
+        match read {
+            Ok(count) => Ok(count),
+            Err(_) => {
+                self.has_failed = true;
+                Err(ReadFault)
+            }
+        }
+    }
 }
 
 /// A read that a signal interrupts is tried again, until `MOST_TRIES` were; then it has failed. Any other
@@ -88,10 +106,8 @@ impl<'a, R: Read> Source for Reading<'a, R> {
 
     fn read_some(&mut self, buffer: &mut [u8]) -> Result<usize, ReadFault> {
         'tries: for _try in 0..MOST_TRIES {
-            match self.reader.read(buffer) {
-                Ok(count) => return Ok(count),
-                Err(error) if error.kind() == ErrorKind::Interrupted => {}
-                Err(_) => break,
+            if let Some(read) = unless_interrupted(self.reader.read(buffer)) {
+                return self.tell(read);
             }
         }
         self.has_failed = true;

@@ -146,6 +146,64 @@ fn a_change_that_is_sealed_is_told(rt: HostRuntime) {
     assert!(rt; matches!(tried, Ok(tried) if tried.no > 30 && tried.bad > 50));
 }
 
+/// A change of one line: its place, what stands there, and what stands there afterwards.
+type Change = (usize, &'static str, &'static str);
+
+/// What is said of the lines after this change, and `Other` where the line hasn't what is to be changed.
+fn audit_after(alloc: Global, change: Change) -> Result<Said, AllocError> {
+    let (place, old, new) = change;
+    let mut lines = String::new(alloc);
+    for (index, line) in LINES[..13].iter().enumerate() {
+        match line.split_once(old) {
+            Some((front, behind)) if index == place => {
+                lines.push_str(front)?;
+                lines.push_str(new)?;
+                lines.push_str(behind)?;
+            }
+            None if index == place => return Ok(Said::Other),
+            _ => lines.push_str(line)?,
+        }
+        lines.push_str("\n")?;
+    }
+    let text = sealed(alloc, lines.as_bytes())?;
+    audit_of(alloc, text.as_slice())
+}
+
+/// A `rest` that no instance needs, an application in small letters, and a drain's moment, at which its task is young enough up to
+/// 30,000 ms: the text still says a run.
+#[test]
+fn a_change_that_says_a_run_is_none(rt: HostRuntime) {
+    let changes: [Change; 4] = [
+        (3, "\"rest\":null", "\"rest\":{\"x\":[1]}"),
+        (4, "\"app\":\"A\"", "\"app\":\"a\""),
+        (6, "\"moment\":25000", "\"moment\":0"),
+        (6, "\"moment\":25000", "\"moment\":30000"),
+    ];
+    for change in changes {
+        assert!(rt; audit_after(rt.alloc(), change) == Ok(Said::Yes));
+    }
+}
+
+/// The task is too old then; the heartbeat has another end; a `rest` is wanted where an instance stands.
+#[test]
+fn a_change_that_says_none_is_told(rt: HostRuntime) {
+    let changes: [(Change, Said); 3] = [
+        ((6, "\"moment\":25000", "\"moment\":30001"), Said::No),
+        ((4, "\"moment\":30000", "\"moment\":30001"), Said::No),
+        (
+            (
+                2,
+                "\"rest\":{\"hostName\":\"h\",\"port\":8080}",
+                "\"rest\":null",
+            ),
+            Said::BadLine,
+        ),
+    ];
+    for (change, said) in changes {
+        assert!(rt; audit_after(rt.alloc(), change) == Ok(said));
+    }
+}
+
 /// Counts the bytes that were written, and of these the ones that were flushed.
 #[derive(Drop)]
 struct Flushed {

@@ -2,6 +2,7 @@
 ghost use Rattle.std.specs.Prelude.{◌≡◌, ◌≤◌, ◌<◌, ◌^◌, ◌+◌, ◌++◌, ◌∷◌, ℕ, List, length, IfSome, IfNone, OnOk, OnErr, vec_len};
 ghost use Rattle.eu_lines.specs.Lines.{HasNoEnd, IsKept};
 
+use memchr::memchr;
 use std::alloc::AllocError;
 
 /// The text before the first LF, and the text after it; none where there is no LF.
@@ -10,12 +11,8 @@ pub fn cut(text: &[u8]) -> Option<(&[u8], &[u8])>
     ensures first { IfSome result (λ parts. HasNoEnd parts.0.now) }
     ensures none { IfNone result (HasNoEnd text.now) }
 {
-    for (i, byte) in text.iter().enumerate() {
-        if *byte == b'\n' {
-            return Some((&text[..i], &text[i + 1..]));
-        }
-    }
-    None
+    let end = memchr(b'\n', text)?;
+    Some((&text[..end], &text[end + 1..]))
 }
 
 /// Adds a part of a line to what is kept of it: of a line of more than so many bytes its front alone.

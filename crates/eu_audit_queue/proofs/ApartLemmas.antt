@@ -1,16 +1,14 @@
 -- Tasks of which no two have one name
-use Rattle.std.proofs.Common.{◌≡◌, ℕ, zero, suc, ◌+◌, ◌<◌, ◌≤◌, Bool, true, false, true≢false, cond, not, ◌&&◌, ◌||◌, List, [], ◌∷◌, ◌++◌, length, map, filter, take, drop, get_or, ◌==◌, is_some, refl, sym, ap, ◌∙◌, arith}
+use Rattle.std.proofs.Common.{◌≡◌, ℕ, zero, suc, ◌+◌, ◌<◌, ◌≤◌, Bool, true, false, true≢false, cond, not, ◌&&◌, ◌||◌, List, [], ◌∷◌, ◌++◌, length, map, filter, take, drop, get_or, ◌==◌, refl, sym, ap, ◌∙◌, arith}
 use Rattle.std.proofs.lemmas.Bool.{and_parts, and_from, or_parts, or_from, not-true, not_from_false, false_from_ne_true, ne_eqb}
-use Rattle.std.specs.List.{list_all}
 use Rattle.std.proofs.lemmas.List.{drop-append-le, take_more}
 use Rattle.std.proofs.lemmas.List.Folds.{list_any-append}
 use Rattle.eu_base.specs.declared.tasks.Task.{Task}
 use Rattle.eu_base.specs.Action.{same_name}
 use Rattle.eu_model.specs.Queue.{is_old, live, waits}
 use Rattle.eu_audit_queue.specs.PlainQueue.{are_apart}
-use Rattle.eu_audit_queue.specs.Places.{name_of}
-use Rattle.eu_audit_queue.proofs.NameLemmas.{same_name-flips}
-use Rattle.eu_audit_queue.proofs.PlaceLemmas.{for_same, place_of-for, waits-alike, waits-place}
+use Rattle.eu_audit_queue.specs.Names.{name_of, has_name}
+use Rattle.eu_audit_queue.proofs.NameLemmas.{for_same, has_name-for_same, name-for_same, same_name-flips}
 
 -- what `are_apart` says of the first, and of the others
 pub apart_first : (x : Task) (xs : List Task) → are_apart (x ∷ xs) ≡ true → waits x xs ≡ false
@@ -111,16 +109,9 @@ apart_last (x ∷ xs) ys h = apart_last xs ys (apart_rest x (xs ++ ys) h)
 -- a task in the place of the one of its name
 pub apart_for : (t : Task) (ts : List Task) → are_apart (map (for_same t) ts) ≡ are_apart ts
 apart_for t [] = refl
-apart_for t (x ∷ xs) = λ i. not (still i) && apart_for t xs i
-  where
-    named : (b : Bool) → same_name t x ≡ b → waits (cond b t x) xs ≡ waits x xs
-    named true e = waits-alike t x xs e
-    named false e = refl
-
-    still : waits (for_same t x) (map (for_same t) xs) ≡ waits x xs
-    still =
-        waits-place (for_same t x) 0 (map (for_same t) xs) ∙ ap is_some (place_of-for (name_of (for_same t x)) 0 t xs)
-        ∙ sym (waits-place (for_same t x) 0 xs) ∙ named (same_name t x) refl
+apart_for t (x ∷ xs) =
+    let still : waits (for_same t x) (map (for_same t) xs) ≡ waits x xs = has_name-for_same (name_of (for_same t x)) t xs ∙ ap (λ n. has_name n xs) (name-for_same t x) in
+    λ i. not (still i) && apart_for t xs i
 
 -- ---- the first of a list, and the next
 
@@ -134,25 +125,8 @@ not_apart ts i x below here there =
 
 -- ---- tasks that are worth sending
 
--- one that is makes them some
-has_live : (m : ℕ) (ts : List Task) (i : ℕ) (x : Task) → i < length ts → x ≡ get_or ts i x → not (is_old m x) ≡ true → 0 < length (live m ts)
-has_live m [] i x below here young = absurd (omega arith)
-has_live m (y ∷ ys) zero x below here young =
-    let kept : not (is_old m y) ≡ true = ap (λ z. not (is_old m z)) (sym here) ∙ young in
-    let some : length (live m (y ∷ ys)) ≡ length (y ∷ live m ys) = ap (λ b. length (cond b (y ∷ live m ys) (live m ys))) kept in
-    omega (arith, some)
-has_live m (y ∷ ys) (suc i) x below here young = by (not (is_old m y)) (has_live m ys i x (omega arith) here young)
-  where
-    by : (b : Bool) → 0 < length (live m ys) → 0 < length (cond b (y ∷ live m ys) (live m ys))
-    by true h = omega arith
-    by false h = h
-
-pub any_live : (m : ℕ) (ts : List Task) (i : ℕ) (x : Task) → i < length ts → x ≡ get_or ts i x → not (is_old m x) ≡ true → true ≡ not (length (live m ts) == 0)
-any_live m ts i x below here young =
-    let some = has_live m ts i x below here young in
-    sym (ap not (ne_eqb (length (live m ts)) 0 (λ none. omega arith)))
-
--- where all are worth sending none is dropped
-pub all_kept : (m : ℕ) (ts : List Task) → list_all (λ t. not (is_old m t)) ts ≡ true → live m ts ≡ ts
-all_kept m [] h = refl
-all_kept m (x ∷ xs) h = let p = and_parts (not (is_old m x)) (list_all (λ t. not (is_old m t)) xs) h in λ i. cond (p.0 i) (x ∷ all_kept m xs p.1 i) (live m xs)
+-- one that is worth sending is found among what is left
+pub some_live : (m : ℕ) (x : Task) (rest ts : List Task) → live m (x ∷ rest) ≡ live m ts → not (is_old m x) ≡ true → true ≡ not (length (live m ts) == 0)
+some_live m x rest ts same young =
+    let grown : length (live m ts) ≡ length (x ∷ live m rest) = sym (ap length same) ∙ ap (λ b. length (cond b (x ∷ live m rest) (live m rest))) young in
+    sym (ap not (ne_eqb (length (live m ts)) 0 (λ none. omega (arith, grown))))

@@ -1,3 +1,4 @@
 pub mod NameLemmas
-pub mod PlaceLemmas
+pub mod LineLemmas
+pub mod NoteLemmas
 pub mod ApartLemmas

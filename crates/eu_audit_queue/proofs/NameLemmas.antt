@@ -1,52 +1,58 @@
--- The names of tasks: that two are equal is an equivalence, and what `same_name` tests
-use Rattle.std.proofs.Common.{◌≡◌, Bool, true, ◌&&◌, refl, sym, ap, subst, ◌∙◌}
-use Rattle.std.specs.Cmp.{IsEquivalence, nat_eq_equiv, on_equiv, and_equiv, eq_by_cmp_equiv}
-use Rattle.eu_base.specs.declared.names.Key.{Key}
-use Rattle.eu_base.specs.declared.tasks.Action.{Action}
-use Rattle.eu_base.specs.declared.tasks.Action.TheVariants.{Register, Heartbeat, Cancel, StatusUpdate, DeleteStatusOverride}
+-- The names of tasks: where two are equal by their test they are the same
+use Rattle.std.proofs.Common.{◌≡◌, Bool, true, false, cond, ◌||◌, List, [], ◌∷◌, map, eqb, refl, sym, ap, ◌∙◌}
+use Rattle.std.proofs.lemmas.Bool.{and_parts, and_from, eqb-true, eq-eqb, or_parts}
 use Rattle.eu_base.specs.declared.tasks.Task.{Task}
-use Rattle.eu_base.specs.declared.tasks.TaskName.{TaskName}
-use Rattle.eu_base.specs.contracts.tasks.ActionPartialEq.TheImpl.{eq-value}
-use Rattle.eu_base.specs.Action.{place_of_action, is_action, same_name}
-use Rattle.eu_base.specs.Key.{key_eq}
-use Rattle.eu_base.proofs.KeyLemmas.{keys_total, key_eq-tie}
-use Rattle.eu_audit_queue.specs.Places.{name_of, names_eq}
+use Rattle.eu_base.specs.Action.{same_name}
+use Rattle.eu_base.proofs.KeyLemmas.{key_eq-Decides}
+use Rattle.eu_model.specs.Queue.{waits}
+use Rattle.eu_audit_queue.specs.declared.name.Name.{Name}
+use Rattle.eu_audit_queue.specs.Names.{name_of, names_eq, has_name}
 
--- actions are equal where they have one place
-actions_tie : (a b : Action) → is_action a b ≡ eq-value.it a b
-actions_tie Register Register = refl
-actions_tie Heartbeat Heartbeat = refl
-actions_tie Cancel Cancel = refl
-actions_tie StatusUpdate StatusUpdate = refl
-actions_tie DeleteStatusOverride DeleteStatusOverride = refl
-actions_tie Register _ = refl
-actions_tie Heartbeat _ = refl
-actions_tie Cancel _ = refl
-actions_tie StatusUpdate _ = refl
-actions_tie DeleteStatusOverride _ = refl
+pub names_same : (a b : Name) → names_eq a b ≡ true → a ≡ b
+names_same a b h =
+    let p = and_parts (eqb a.action b.action) _ h in
+    let action = eqb-true a.action b.action p.0 in
+    let key = (key_eq-Decides a.key b.key).0 p.1 in
+    λ i. record { action = action i; key = key i }
 
--- the test of `same_name`, on names
-abbrev alike : TaskName → TaskName → Bool
-alike a b = is_action a.action b.action && key_eq a.key b.key
+pub names_refl : (a : Name) → names_eq a a ≡ true
+names_refl a = and_from (eqb a.action a.action) _ (eq-eqb a.action a.action refl) ((key_eq-Decides a.key a.key).1 refl)
 
-alike_tie : alike ≡ names_eq
-alike_tie i a b = actions_tie a.action b.action i && key_eq a.key b.key
+alike : (x y : Bool) → (x ≡ true → y ≡ true) → (y ≡ true → x ≡ true) → x ≡ y
+alike true y f g = sym (f refl)
+alike false true f g = g refl
+alike false false f g = refl
 
-pub same_name-tie : (a b : Task) → same_name a b ≡ names_eq (name_of a) (name_of b)
-same_name-tie a b = ap (λ (e : TaskName → TaskName → Bool). e (name_of a) (name_of b)) alike_tie
-
-keys_equiv : IsEquivalence key_eq
-keys_equiv = subst (λ (e : Key → Key → Bool). IsEquivalence e) (sym key_eq-tie) (eq_by_cmp_equiv keys_total)
-
-alike_equiv : IsEquivalence alike
-alike_equiv = and_equiv (on_equiv (λ (n : TaskName). place_of_action n.action) nat_eq_equiv) (on_equiv (λ (n : TaskName). n.key) keys_equiv)
-
-pub names_equiv : IsEquivalence names_eq
-names_equiv = subst (λ (e : TaskName → TaskName → Bool). IsEquivalence e) alike_tie alike_equiv
-
--- names that are equal answer alike on the right too
-pub names_right : (q a b : TaskName) → names_eq a b ≡ true → names_eq q a ≡ names_eq q b
-names_right q a b h = names_equiv.symm q a ∙ names_equiv.congr a b q h ∙ names_equiv.symm b q
+pub names_flip : (a b : Name) → names_eq a b ≡ names_eq b a
+names_flip a b =
+    let turn : (c d : Name) → names_eq c d ≡ true → names_eq d c ≡ true = λ c d h. ap (names_eq d) (names_same c d h) ∙ names_refl d in
+    alike (names_eq a b) (names_eq b a) (turn a b) (turn b a)
 
 pub same_name-flips : (a b : Task) → same_name a b ≡ same_name b a
-same_name-flips a b = same_name-tie a b ∙ names_equiv.symm (name_of a) (name_of b) ∙ sym (same_name-tie b a)
+same_name-flips a b = names_flip (name_of a) (name_of b)
+
+-- a task waits where its name is there
+pub waits-name : (t : Task) (ts : List Task) → waits t ts ≡ has_name (name_of t) ts
+waits-name t ts = refl
+
+-- ---- a task in the place of the one of its name
+
+abbrev pub for_same : Task → Task → Task
+for_same t other = cond (same_name t other) t other
+
+-- it has the name of the one before
+pub name-for_same : (t x : Task) → name_of (for_same t x) ≡ name_of x
+name-for_same t x = by (same_name t x) refl
+  where
+    by : (b : Bool) → same_name t x ≡ b → name_of (cond b t x) ≡ name_of x
+    by true e = names_same (name_of t) (name_of x) e
+    by false e = refl
+
+pub has_name-for_same : (n : Name) (t : Task) (ts : List Task) → has_name n (map (for_same t) ts) ≡ has_name n ts
+has_name-for_same n t [] = refl
+has_name-for_same n t (x ∷ xs) = λ i. names_eq n (name-for_same t x i) || has_name-for_same n t xs i
+
+-- where none of its name is there, nothing changes
+pub map-for_same : (t : Task) (ts : List Task) → has_name (name_of t) ts ≡ false → map (for_same t) ts ≡ ts
+map-for_same t [] h = refl
+map-for_same t (x ∷ xs) h = let p = or_parts (same_name t x) (waits t xs) h in λ i. cond (p.0 i) t x ∷ map-for_same t xs p.1 i

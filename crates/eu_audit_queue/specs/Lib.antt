@@ -1,2 +1,2 @@
 pub mod PlainQueue
-pub mod Places
+pub mod Names

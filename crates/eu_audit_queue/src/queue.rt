@@ -6,7 +6,6 @@ ghost use Rattle.eu_base.specs.declared.faults.Fault.{Fault};
 ghost use Rattle.eu_audit_queue.specs.PlainQueue.{is_plain_queue};
 
 use crate::plain::are_plain;
-use crate::table::table_of;
 use crate::waiting::{MOST_SENT, Waiting};
 use eu_base::{Codes, Fault, Moment, Task};
 use eu_model::{Queue, Tasks};
@@ -48,11 +47,11 @@ impl PeerQueue {
         if flight.len() > MOST_SENT || !are_plain(flight) || !are_plain(queue.waiting.as_slice()) {
             return Ok(None);
         }
-        if table_of(alloc, flight)?.is_none() {
+        if Waiting::read(alloc, flight)?.is_none() {
             return Ok(None);
         }
         let flight = queue.flight.copy(alloc)?;
-        match Waiting::read(alloc, &queue.waiting)? {
+        match Waiting::read(alloc, queue.waiting.as_slice())? {
             Some(waiting) => Ok(Some(PeerQueue { waiting, flight })),
             None => Ok(None),
         }

@@ -1,31 +1,23 @@
-use Rattle.std.proofs.Common.{◌≡◌, ◌+◌, ◌≤◌, length, map, set, Some, ap, sym, ◌∙◌, arith, length-set}
-use Rattle.eu_audit_queue.specs.PlainQueue.{are_apart}
-use Rattle.eu_audit_queue.specs.Places.{name_of, place_of}
-use Rattle.eu_audit_queue.proofs.PlaceLemmas.{for_same, place_of-below, place_of-for, set-for_same}
-use Rattle.eu_audit_queue.proofs.ApartLemmas.{apart_for}
+use Rattle.std.proofs.Common.{false, sym, subst, arith}
+use Rattle.std.specs.BTreeSet.{Updates}
+use Rattle.eu_audit_queue.specs.Names.{AreNoted, note_at, note_cmp}
+use Rattle.eu_audit_queue.proofs.NoteLemmas.{noted_for, noted_for_other}
 use Rattle.eu_audit_queue.proofs.waiting.Waiting.replace.Goals as goal
 
-pub index_mut-requires : goal.index_mut-requires
-index_mut-requires c =
-    let found = ap (place_of (name_of c.args.task) 0) c.self.view_is ∙ c.requires in
-    omega (arith, place_of-below (name_of c.args.task) 0 c.self.inside.tasks.items c.args.index found)
+pub invariant_of-self-in_default : goal.invariant_of-self-in_default
+invariant_of-self-in_default c =
+    subst (AreNoted c.remember.new.ages) (sym c.replace.ensures)
+    (noted_for c.self.inside.ages c.remember.new.ages c.args.task c.self.inside.order c.in_ok-remember.ensures.ok c.self.invariant)
 
-pub invariant_of-self : goal.invariant_of-self
-invariant_of-self c =
-    let tasks = c.self.inside.tasks.items in
-    let found = ap (place_of (name_of c.args.task) 0) c.self.view_is ∙ c.requires in
-    let index : c.args.index ≡ 0 + c.args.index = omega arith in
-    let written = set-for_same c.args.task 0 c.args.index tasks c.self.invariant.1 (found ∙ ap Some index) in
-    let few : length (set tasks c.args.index c.args.task) ≤ 10000 = omega (arith, length-set tasks c.args.index c.args.task, c.self.invariant.2) in (
-      (λ name. c.self.invariant.0 name ∙ sym (place_of-for name c.self.inside.first c.args.task tasks) ∙ ap (place_of name c.self.inside.first) (sym written)),
-      ap are_apart written ∙ apart_for c.args.task tasks ∙ c.self.invariant.1,
-      few,
-      c.self.invariant.3,
-    )
+pub invariant_of-self-then-ms : goal.invariant_of-self-then-ms
+invariant_of-self-then-ms c =
+    let noted = noted_for c.self.inside.ages c.remember.new.ages c.args.task c.self.inside.order c.in_ok-remember.ensures.ok c.self.invariant in
+    let gone = subst (λ name. Updates note_cmp c.remember.new.ages c.forget.new.ages (note_at c.in-Some.before name) false) c.in_ok-name.ensures c.forget.ensures in
+    subst (AreNoted c.forget.new.ages) (sym c.replace.ensures)
+    (noted_for_other c.remember.new.ages c.forget.new.ages c.args.task c.in-Some.before c.self.inside.order gone
+    (λ same. c.if-ms.true (omega (arith, same, c.ms.ensures.value, c.ms-2.ensures.value))) noted)
 
-pub returns : goal.returns
-returns c =
-    let found = ap (place_of (name_of c.args.task) 0) c.self.view_is ∙ c.requires in
-    let index : c.args.index ≡ 0 + c.args.index = omega arith in
-    set-for_same c.args.task 0 c.args.index c.self.inside.tasks.items c.self.invariant.1 (found ∙ ap Some index)
-    ∙ ap (map (for_same c.args.task)) c.self.view_is
+pub invariant_of-self-else-ms : goal.invariant_of-self-else-ms
+invariant_of-self-else-ms c =
+    subst (AreNoted c.remember.new.ages) (sym c.replace.ensures)
+    (noted_for c.self.inside.ages c.remember.new.ages c.args.task c.self.inside.order c.in_ok-remember.ensures.ok c.self.invariant)

@@ -1,15 +1,13 @@
 //! Connections as they are accepted, and how they end.
 
-ghost use Rattle.std.specs.Prelude.{◌≡◌, ◌*◌, max, true, false, None, Ok, Err, IfOk, IfErr, IsOk, OnOk};
-ghost use Rattle.std.specs.Duration.{as_nanos};
-ghost use Rattle.std.specs.IoError.{error_kind};
-ghost use Rattle.eu_accept.specs.Passing.{is_passing};
+ghost use Rattle.std.specs.Prelude.{◌≡◌};
 
+use crate::accepting::accept_both;
 use crate::pace::Pace;
 use eu_gate::{Admission, Periods, Source};
 use std::io;
-use std::io::{ErrorKind, Read};
-use std::net::{Shutdown, SocketAddr, TcpListener, TcpStream};
+use std::io::Read;
+use std::net::{Shutdown, TcpListener, TcpStream};
 use std::sync::{Mutex, Wait};
 use std::time::{Clock, Duration, Instant};
 
@@ -115,89 +113,6 @@ impl<'a, R: Wait + Clock> Acceptor<'a, R> {
             self.pace.end();
         }
     }
-}
-
-/// Whether an `accept` that failed by such an error is made again: a connection was aborted before, its network failed, or a signal
-/// came (accept(2) of Linux, "Error handling"; what it names beside, std doesn't tell apart, and that ends the server).
-fn is_passing(kind: ErrorKind) -> bool
-    ensures { result ≡ is_passing kind }
-{
-    match kind {
-        ErrorKind::ConnectionAborted
-        | ErrorKind::NetworkDown
-        | ErrorKind::NetworkUnreachable
-        | ErrorKind::HostUnreachable
-        | ErrorKind::Interrupted => true,
-        _ => false,
-    }
-}
-
-/// How long a call of a connection may take by a timeout of so many milliseconds; 0 counts as 1, since std refuses a timeout of 0.
-fn time_of(ms: u64) -> Duration
-    ensures { as_nanos result ≡ max ms 1 * 1000000 }
-{
-    Duration::from_millis(ms.max(1))
-}
-
-/// Has a connection send each response at once and wait no longer than that. Where that fails, the connection is gone.
-fn prepared(stream: TcpStream, timeouts: Timeouts) -> io::Result<TcpStream> {
-    stream.set_nodelay(true)?;
-    stream.set_read_timeout(Some(time_of(timeouts.read)))?;
-    stream.set_write_timeout(Some(time_of(timeouts.write)))?;
-    Ok(stream)
-}
-
-/// What comes of what an `accept` gave: the connection, or none where it is made again. A connection that can't be prepared has gone,
-/// and is passed over.
-fn taken(
-    accepted: io::Result<(TcpStream, SocketAddr)>,
-    timeouts: Timeouts,
-) -> io::Result<Option<TcpStream>>
-    ensures came { OnOk accepted (IsOk result) }
-    ensures passed { IfErr accepted (λ e. is_passing (error_kind e) ≡ true → result ≡ Ok None) }
-    ensures failed { IfErr accepted (λ e. is_passing (error_kind e) ≡ false → result ≡ Err e) }
-    ensures told { IfErr result (λ e. is_passing (error_kind e) ≡ false) }
-{
-    match accepted {
-        Ok((stream, _)) => match prepared(stream, timeouts) {
-            Ok(stream) => Ok(Some(stream)),
-            Err(_) => Ok(None),
-        },
-        Err(error) if is_passing(error.kind()) => Ok(None),
-        Err(error) => Err(error),
-    }
-}
-
-/// Waits for the next connection. An error is that of an `accept` that isn't made again.
-fn accept<R: Wait>(rt: &R, listener: &TcpListener, timeouts: Timeouts) -> io::Result<TcpStream>
-    ensures failed { IfErr result (λ e. is_passing (error_kind e) ≡ false) }
-{
-    for _ in rt.forever() {
-        if let Some(stream) = taken(listener.accept(), timeouts)? {
-            return Ok(stream);
-        }
-    }
-    unreachable!()
-}
-
-/// The two sides of a connection, of which the second one was to be made. An error is that of making it.
-fn both(stream: TcpStream, second: io::Result<TcpStream>) -> io::Result<(TcpStream, TcpStream)>
-    ensures made { IfOk second (λ s. result ≡ Ok (stream, s)) }
-    ensures failed { IfErr second (λ e. result ≡ Err e) }
-{
-    Ok((stream, second?))
-}
-
-/// Waits for the next connection, and gives its two sides. It waits once: one whose second side can't be made isn't passed over, so a
-/// server that has no descriptors left ends, rather than that it drops each of its clients. An error is that of `accept` or of making it.
-fn accept_both<R: Wait>(
-    rt: &R,
-    listener: &TcpListener,
-    timeouts: Timeouts,
-) -> io::Result<(TcpStream, TcpStream)> {
-    let stream = accept(rt, listener, timeouts)?;
-    let second = stream.try_clone();
-    both(stream, second)
 }
 
 /// Reads what still comes and drops it, until the client closes, a read fails, the time is up, or enough has come.

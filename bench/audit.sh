@@ -68,3 +68,13 @@ for tasks in 1000 10000; do
     found=$(rate)
     echo "turns of a queue of $tasks tasks: $found"
 done
+
+# The same where at each turn one task has grown too old: 10,000 wait that were queued later, and each third command puts one that the next drain
+# drops. So many registrations leave a multiple of three for the turns.
+awk 'BEGIN {
+    print "open 1 1"
+    for (i = 0; i < 10001; i++) printf "register 100000 A%d host-%d 2147483 UP UNKNOWN 0 c\n", i % 100, i
+    for (n = 10001; n < 131072; n += 3) print "register 0 B late 2147483 UP UNKNOWN - c\ndrain 1 30001\nlost 1 30001"
+}' > "$work/script"
+found=$(rate)
+echo "turns of a queue of 10000 tasks, of which one is too old at each turn: $found"

@@ -1,5 +1,5 @@
 //! All workers of a server, each in a thread of its own.
-ghost use Rattle.std.specs.Prelude.{◌≡◌, ℕ, ◌<◌, length, slice_index_or};
+ghost use Rattle.std.specs.Prelude.{◌≡◌, ℕ, ◌<◌, length, max, slice_index_or};
 ghost use Rattle.eu_workers.specs.All.{HasRun, IsEnded, IsNumbered, IsWorked};
 
 use crate::ended::Ended;
@@ -155,6 +155,13 @@ fn run_worker<
     }
 }
 
+/// How many threads so many workers want: one each.
+fn threads_for(workers: usize) -> usize
+    ensures { result ≡ max workers 1 }
+{
+    workers.max(1)
+}
+
 /// Has each worker that has its number do its job, in a thread of its own where one can be made, else after those behind it.
 fn run_backwards<
     K: Label + Send + Sync,
@@ -167,7 +174,7 @@ fn run_backwards<
 >(site: &Site<'_, K, R, G>, workers: &mut [Worker<K, S, C, H, P>])
     ensures { (i : ℕ) (d : _) → i < length workers.old → HasRun H.asks (slice_index_or workers.old i d) (slice_index_or workers.new i d) }
 {
-    let threads = workers.len().max(1);
+    let threads = threads_for(workers.len());
     for_each_mut(
         site.rt,
         workers,

@@ -1,6 +1,6 @@
 //! What came of a worker.
 ghost use Rattle.eu_workers.specs.Ended.{Counts};
-ghost use Rattle.std.specs.Prelude.{◌+◌, ◌≤◌, ◌<◌, ◌^◌};
+ghost use Rattle.std.specs.Prelude.{◌+◌, ◌≤◌, ◌<◌, ◌^◌, is_err};
 
 /// What a worker did until it ended.
 #[derive(Clone, Copy, Debug, Default, PartialEq, Eq)]
@@ -12,14 +12,14 @@ pub struct Ended {
 }
 
 impl Ended {
-    /// Counts a turn.
-    pub(crate) fn count(&mut self, refused: bool)
+    /// Counts a turn by what came of it.
+    pub(crate) fn count<T, F>(&mut self, turn: &Result<T, F>)
         requires room { self.old.turns + 1 < 2 ^ 64 }
         requires few { self.old.refused ≤ self.old.turns }
-        ensures { Counts self.old refused self.new }
+        ensures { Counts self.old (is_err turn.now) self.new }
     {
         self.turns += 1;
-        if refused {
+        if turn.is_err() {
             self.refused += 1;
         }
     }

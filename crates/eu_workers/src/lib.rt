@@ -7,6 +7,8 @@ mod gated;
 mod replicator;
 mod sessions;
 mod site;
+#[cfg(test)]
+mod tests;
 mod timers;
 
 pub use all::{Job, Work, Worker, run_all};

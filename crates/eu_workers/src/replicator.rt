@@ -1,29 +1,37 @@
 //! Workers that tell a peer what waits for it.
-ghost use Rattle.std.specs.Prelude.{◌<◌};
+ghost use Rattle.std.specs.Prelude.{◌≡◌, ◌<◌, ◌+◌, ◌-◌, ◌^◌, min};
 ghost use Rattle.eu_workers.specs.Returned.{HasTurn, TakesTurns};
 
 use crate::ended::Ended;
 use crate::site::Site;
+use eu_base::Fault;
 use eu_clock::Clock;
 use eu_gate::{FIRST_REPLICATOR, Gate, Go, Point};
-use eu_peer::{Peer, replicate_turn};
+use eu_peer::{Peer, Turn, replicate_turn};
 use eu_seat::Seat;
 use eu_shared::{Label, Pass};
 use std::sync::Wait;
 
-/// A turn for the peer of that number, behind which the log of the pass is trimmed. Tells whether it ended by a fault.
+/// The number at a gate of the replicator of that peer.
+fn number_at_gate(peer: u32) -> u32
+    ensures { result ≡ min (20 + peer) (2 ^ 32 - 1) }
+{
+    FIRST_REPLICATOR.saturating_add(peer)
+}
+
+/// A turn for the peer of that number, behind which the log of the pass is trimmed. Tells what came of it.
 fn turn<K: Label, R: Wait, G: Gate, P: Peer, C: Clock>(
     site: &Site<'_, K, R, G>,
     number: u32,
     seat: &mut Seat<'_, K, R>,
     peer: &mut P,
     clock: &mut C,
-) -> bool
+) -> Result<Turn, Fault>
     ensures { HasTurn seat.old.pass seat.new.pass }
 {
     let sent = replicate_turn(site.alloc, seat, number, peer, clock);
     seat.pass.trim();
-    sent.is_err()
+    sent
 }
 
 /// The replicator of the peer of that number, from 0 (`ReplicationTaskProcessor` in Eureka): sends what waits for it, turn after turn,
@@ -47,13 +55,13 @@ pub fn run_replicator<K: Label, R: Wait, G: Gate, P: Peer, C: Clock>(
         shared: site.shared,
         rt: site.rt,
     };
-    let who = FIRST_REPLICATOR.saturating_add(number);
+    let who = number_at_gate(number);
     let mut ended = Ended::default();
     for _turn in 0..limit {
         if site.gate.pass(who, Point::Turn) == Go::Stop {
             break;
         }
-        ended.count(turn(site, number, &mut seat, peer, clock));
+        ended.count(&turn(site, number, &mut seat, peer, clock));
     }
     let Seat {
         pass,

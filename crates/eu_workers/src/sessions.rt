@@ -29,7 +29,7 @@ fn serve<K: Label, R: Wait, G: Gate, C: Clock, I: Read, O: Write>(
     serve_session(site.alloc, site.routes, seat, clock, &mut source, &mut sink)
 }
 
-/// A turn with a connection: serves its session, ends it, and trims the log of the pass. Tells whether the session ended by a fault.
+/// A turn with a connection: serves its session, ends it, and trims the log of the pass. Tells what came of the session.
 fn turn<K: Label, R: Wait, G: Gate, S: Source, C: Clock>(
     site: &Site<'_, K, R, G>,
     who: u32,
@@ -37,14 +37,14 @@ fn turn<K: Label, R: Wait, G: Gate, S: Source, C: Clock>(
     clock: &mut C,
     source: &mut S,
     connection: (S::Reader, S::Writer),
-) -> bool
+) -> Result<u32, SessionFault>
     ensures { HasTurn seat.old.pass seat.new.pass }
 {
     let (mut reader, mut writer) = connection;
     let served = serve(site, who, seat, clock, &mut reader, &mut writer);
     source.end(reader, writer);
     seat.pass.trim();
-    served.is_err()
+    served
 }
 
 /// Serves the sessions of one connection after the other, until there is none, the gate stops it or it had so many turns, and gives its
@@ -77,7 +77,7 @@ pub fn run_sessions<K: Label, R: Wait, G: Gate, S: Source, C: Clock>(
         let Some(connection) = source.next() else {
             break;
         };
-        ended.count(turn(site, who, &mut seat, clock, source, connection));
+        ended.count(&turn(site, who, &mut seat, clock, source, connection));
     }
     let Seat {
         pass,

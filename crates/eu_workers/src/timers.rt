@@ -1,15 +1,22 @@
 //! Workers that ask for the same command, turn after turn.
-ghost use Rattle.std.specs.Prelude.{◌≡◌, ◌<◌};
+ghost use Rattle.std.specs.Prelude.{◌≡◌, ◌<◌, ◌≤◌, ◌∷◌, ◌++◌, [], IfOk, OnErr};
+ghost use Rattle.eu_book.specs.Account.{logged};
+ghost use Rattle.eu_model.specs.Delta.{delta, plus};
 ghost use Rattle.eu_model.specs.declared.commands.Command.TheVariants as command;
+ghost use Rattle.eu_shared.specs.Passes.{Caller, IsAnswer};
 ghost use Rattle.eu_workers.specs.Returned.{Tidies};
 ghost use Rattle.eu_workers.specs.Timers.{command_of, is_due_after, AsksBy, AsksOnly};
 
 use crate::ended::Ended;
 use crate::site::Site;
+use eu_base::{Fault, Moment};
+use eu_book::Receipt;
 use eu_clock::{Chooser, Clock, FirstChooser};
 use eu_gate::{Gate, Go, Point, Timer};
 use eu_model::Command;
+use eu_seat::Seat;
 use eu_shared::{Label, Pass};
+use std::alloc::Global;
 use std::sync::Wait;
 
 /// After so many turns of the bucket's worker, an hour by Eureka's minutes, the journal begins anew.
@@ -36,23 +43,83 @@ fn is_checkpoint_due(timer: Timer, turns: u64) -> bool
     }
 }
 
-/// Ends a turn, the last of so many: has the journal begin anew where that is due, and trims the log of the pass. A checkpoint that finds
-/// no memory isn't made, and counts nowhere.
-fn end_turn<K: Label, R: Wait, G: Gate>(
-    site: &Site<'_, K, R, G>,
-    timer: Timer,
-    turns: u64,
-    pass: &mut Pass<K>,
-)
-    ensures { Tidies pass.old pass.new }
-{
-    if is_checkpoint_due(timer, turns) {
-        drop(pass.checkpoint(site.rt, site.shared, site.alloc));
+/// By what a timer's worker asks: its pass of the shared book. A test has one that is refused at first.
+pub(crate) trait Asks {
+    // The pass.
+    ghost pass: { Self → Caller };
+
+    /// Asks once (`Pass::ask`).
+    fn ask_once<C: Chooser>(
+        &mut self,
+        alloc: Global,
+        command: Command,
+        moment: Moment,
+        chooser: &mut C,
+    ) -> Result<Receipt, Fault>
+        ensures log { IfOk result (λ r. (pass self.new).log ≡ (pass self.old).log ++ logged command moment r.reply r.number ∷ []) }
+        ensures tally { IfOk result (λ r. (pass self.new).tally ≡ plus (pass self.old).tally (delta command r.reply)) }
+        ensures number { (pass self.new).number ≡ (pass self.old).number }
+        ensures seen { (pass self.old).seen ≤ (pass self.new).seen }
+        ensures answer { IfOk result (λ r. IsAnswer C.asks chooser.old (pass self.old) command moment r.reply r.number chooser.new (pass self.new)) }
+        ensures err { OnErr result (pass self.new ≡ pass self.old) }
+        ensures unasked { OnErr result (chooser.new ≡ chooser.old) };
+
+    /// Ends a turn, the last of so many: has the journal begin anew where that is due, and trims the log of the pass.
+    fn end_turn(&mut self, alloc: Global, timer: Timer, turns: u64)
+        ensures { Tidies (pass self.old) (pass self.new) };
+}
+
+/// A checkpoint that finds no memory isn't made, and counts nowhere.
+impl<K: Label, R: Wait> Asks for Seat<'_, K, R> {
+    ghost pass = { λ s. s.pass };
+
+    fn ask_once<C: Chooser>(
+        &mut self,
+        alloc: Global,
+        command: Command,
+        moment: Moment,
+        chooser: &mut C,
+    ) -> Result<Receipt, Fault> {
+        self.pass
+            .ask(self.rt, self.shared, alloc, command, moment, chooser)
     }
-    pass.trim();
+
+    fn end_turn(&mut self, alloc: Global, timer: Timer, turns: u64) {
+        if is_checkpoint_due(timer, turns) {
+            drop(self.pass.checkpoint(self.rt, self.shared, alloc));
+        }
+        self.pass.trim();
+    }
 }
 
 /// Asks for a timer's command at most so many times, until the gate stops it.
+pub(crate) fn take_turns<G: Gate, A: Asks, C: Clock, H: Chooser>(
+    gate: &G,
+    alloc: Global,
+    timer: Timer,
+    asker: &mut A,
+    clock: &mut C,
+    chooser: &mut H,
+    limit: u64,
+) -> Ended
+    ensures asks { AsksBy H.asks chooser.old (command_of timer) limit (A.pass asker.old) (A.pass asker.new) result chooser.new }
+    ensures stops { result.turns < limit → G.stops gate.now }
+{
+    let mut ended = Ended::default();
+    for _turn in 0..limit {
+        if gate.pass(timer.number(), Point::Turn) == Go::Stop {
+            break;
+        }
+        let moment = clock.now();
+        let asked = asker.ask_once(alloc, command(timer), moment, chooser);
+        ended.count(&asked);
+        drop(asked);
+        asker.end_turn(alloc, timer, ended.turns);
+    }
+    ended
+}
+
+/// The same by a pass of the shared book, which is given back.
 fn run<K: Label, R: Wait, G: Gate, C: Clock, H: Chooser>(
     site: &Site<'_, K, R, G>,
     timer: Timer,
@@ -64,25 +131,19 @@ fn run<K: Label, R: Wait, G: Gate, C: Clock, H: Chooser>(
     ensures asks { AsksBy H.asks chooser.old (command_of timer) limit pass result.0 result.1 chooser.new }
     ensures stops { result.1.turns < limit → G.stops site.now.gate.now }
 {
-    let mut pass = pass;
-    let mut ended = Ended::default();
-    for _turn in 0..limit {
-        if site.gate.pass(timer.number(), Point::Turn) == Go::Stop {
-            break;
-        }
-        let moment = clock.now();
-        let asked = pass.ask(
-            site.rt,
-            site.shared,
-            site.alloc,
-            command(timer),
-            moment,
-            chooser,
-        );
-        ended.count(asked.is_err());
-        drop(asked);
-        end_turn(site, timer, ended.turns, &mut pass);
-    }
+    let mut seat = Seat {
+        pass,
+        shared: site.shared,
+        rt: site.rt,
+    };
+    let ended = take_turns(
+        site.gate, site.alloc, timer, &mut seat, clock, chooser, limit,
+    );
+    let Seat {
+        pass,
+        shared: _,
+        rt: _,
+    } = seat;
     (pass, ended)
 }
 

@@ -1,15 +1,15 @@
 //! A replicator, over a book of another server.
 ghost use Rattle.std.specs.Prelude.{◌≡◌};
 
-use eu_base::{App, Config, Fault, Id, Instance, Key, Moment, Rest, Status};
+use eu_base::{App, Config, Fault, Id, Instance, Key, Moment, Rest, Status, Task};
 use eu_book::{Book, Receipt};
 use eu_clock::{FirstChooser, ListClock};
 use eu_model::{Command, Query, View};
-use eu_peer::InProcess;
+use eu_peer::{InProcess, ItemAnswer, Lost, Peer};
 use eu_routes::Routes;
 use eu_shared::{Blanks, Label, Pass, Shared};
 use eu_workers::{Ended, Gate, Go, Point, Site, run_replicator};
-use std::alloc::Global;
+use std::alloc::{AllocError, Global};
 use std::marker::Brand;
 use std::sync::Wait;
 use std::test::Fail;
@@ -235,5 +235,129 @@ fn a_replicator_goes_on_after_a_refused_turn(rt: HostRuntime) -> Result<(), Fail
         refused: TURNS,
     };
     assert!(rt; ended == refused && held == 0);
+    Ok(())
+}
+
+/// A peer that finds all done that it is sent, and counts the batches. When the first one comes, somebody else takes it for lost: so no
+/// batch is in flight whose end could be told, and that turn is refused.
+#[derive(Drop)]
+struct TakenForLost<'a, K: Label, R: Wait> {
+    pass: Pass<K>,
+    shared: &'a Shared<K>,
+    rt: &'a R,
+    batches: u64,
+}
+
+/// An answer for each task: done.
+fn all_done(alloc: Global, batch: &[Task]) -> Result<Vec<ItemAnswer>, AllocError> {
+    let mut answers = Vec::with_capacity(alloc, batch.len())?;
+    for _task in batch {
+        answers.push(ItemAnswer {
+            code: 200,
+            instance: None,
+        })?;
+    }
+    Ok(answers)
+}
+
+impl<K: Label, R: Wait> Peer for TakenForLost<'_, K, R> {
+    ghost told = { λ _ _ _ _. Unit {0} };
+
+    fn submit(&mut self, alloc: Global, batch: &[Task]) -> Result<Vec<ItemAnswer>, Lost> {
+        self.batches = self.batches.saturating_add(1);
+        if self.batches == 1 {
+            let command = Command::Lost { peer: 0 };
+            let moment = Moment::new(0).unwrap();
+            let chooser = &mut FirstChooser;
+            let lost = self
+                .pass
+                .ask(self.rt, self.shared, alloc, command, moment, chooser);
+            drop(lost);
+        }
+        match all_done(alloc, batch) {
+            Ok(answers) => Ok(answers),
+            Err(_) => Err(Lost),
+        }
+    }
+}
+
+/// What three turns do for such a peer once a client has registered, and how many batches it was sent.
+fn turns_of<K: Label, R: Wait>(
+    site: &Site<'_, K, R, Open>,
+    pass: Pass<K>,
+    peer: &mut TakenForLost<'_, K, R>,
+) -> (Ended, u64) {
+    let mut clock = ListClock::new(Vec::new(site.alloc));
+    let (pass, ended) = run_replicator(site, 0, pass, peer, &mut clock, 3);
+    drop(clock);
+    drop(pass);
+    (ended, peer.batches)
+}
+
+/// The same for a book that is shared.
+fn turns_at<K: Label, R: Wait>(site: &Site<'_, K, R, Open>) -> Result<(Ended, u64), Fault> {
+    let (rt, shared) = (site.rt, site.shared);
+    let mut pass = shared.pass(rt, site.alloc)?;
+    if !registers(rt, shared, site.alloc, &mut pass) {
+        drop(pass);
+        return Err(Fault::OutOfMemory);
+    }
+    let mut peer = TakenForLost {
+        pass: shared.pass(rt, site.alloc)?,
+        shared,
+        rt,
+        batches: 0,
+    };
+    let done = turns_of(site, pass, &mut peer);
+    drop(peer);
+    Ok(done)
+}
+
+/// The same by its routes.
+fn turns_by<K: Label, R: Wait>(
+    rt: &R,
+    alloc: Global,
+    shared: &Shared<K>,
+) -> Result<(Ended, u64), Fault> {
+    let routes = Routes::new(alloc)?;
+    let site = Site {
+        rt,
+        alloc,
+        shared,
+        routes: &routes,
+        gate: &Open,
+    };
+    let done = turns_at(&site);
+    drop(routes);
+    done
+}
+
+/// The same of a server that was just opened, with one peer.
+fn turns_from<K: Label, R: Wait>(
+    rt: &R,
+    alloc: Global,
+    blanks: Blanks,
+) -> Result<(Ended, u64), Fault>
+    requires names { (blanks.steps.name ≡ K.steps) × (blanks.counted.name ≡ K.counted) × (blanks.added.name ≡ K.added) × (blanks.removed.name ≡ K.removed) }
+    requires parts { (blanks.steps.parts ≡ K.parts) × (blanks.counted.parts ≡ K.parts) × (blanks.added.parts ≡ K.parts) × (blanks.removed.parts ≡ K.parts) × (K.parts ≡ 1025) }
+{
+    let shared: Shared<K> = Shared::open(alloc, Config::new(true, 85, 30, 60_000)?, 0, 1, blanks)?;
+    let done = turns_by(rt, alloc, &shared);
+    drop(shared);
+    done
+}
+
+fn turns<R: Wait>(rt: &R, alloc: Global) -> Result<(Ended, u64), Fault> {
+    turns_from::<Brand, R>(rt, alloc, Blanks::new())
+}
+
+/// The second turn sends the batch again, and its end is taken; at the third nothing waits.
+#[test]
+fn a_replicator_sends_again_after_one_refused_turn(rt: HostRuntime) -> Result<(), Fail> {
+    let ended = Ended {
+        turns: 3,
+        refused: 1,
+    };
+    assert!(rt; turns(&rt, rt.alloc())? == (ended, 2));
     Ok(())
 }

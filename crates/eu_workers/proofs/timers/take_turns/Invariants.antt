@@ -1,9 +1,9 @@
 use Rattle.std.proofs.Common.{◌≡◌}
 use Rattle.eu_workers.specs.Timers.{command_of, AsksBy}
-use Rattle.eu_workers.proofs.timers.run.Given as goal
+use Rattle.eu_workers.proofs.timers.take_turns.Given as goal
 
 abbrev pub invariant-loop-turn : goal.invariant-loop-turn
 invariant-loop-turn g l = record {
-  asks : AsksBy g.H.Chooser.asks l.fn.chooser (command_of l.timer) l._turn l.fn.pass l.pass l.ended l.chooser;
+  asks : AsksBy g.H.Chooser.asks l.fn.chooser (command_of l.timer) l._turn (g.A.Asks.pass l.fn.asker) (g.A.Asks.pass l.asker) l.ended l.chooser;
   each : l.ended.turns ≡ l._turn;
 }

@@ -1,4 +1,5 @@
 //! The tests, by what they are of.
+mod audits;
 mod examples;
 mod failures;
 mod journals;

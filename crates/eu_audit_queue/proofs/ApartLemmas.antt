@@ -1,11 +1,11 @@
 -- Tasks of which no two have one name
-use Rattle.std.proofs.Common.{◌≡◌, ℕ, zero, suc, ◌+◌, ◌<◌, ◌≤◌, Bool, true, false, true≢false, cond, not, ◌&&◌, ◌||◌, List, [], ◌∷◌, ◌++◌, length, map, filter, take, drop, get_or, ◌==◌, refl, sym, ap, ◌∙◌, arith}
-use Rattle.std.proofs.lemmas.Bool.{and_parts, and_from, or_parts, or_from, not-true, not_from_false, false_from_ne_true, ne_eqb}
+use Rattle.std.proofs.Common.{◌≡◌, ℕ, zero, suc, ◌+◌, ◌<◌, ◌≤◌, Bool, true, false, true≢false, cond, not, ◌&&◌, ◌||◌, List, [], ◌∷◌, ◌++◌, length, map, filter, take, drop, get_or, refl, sym, ap, ◌∙◌}
+use Rattle.std.proofs.lemmas.Bool.{and_parts, and_from, or_parts, or_from, not-true, not_from_false, false_from_ne_true}
 use Rattle.std.proofs.lemmas.List.{drop-append-le, take_more}
 use Rattle.std.proofs.lemmas.List.Folds.{list_any-append}
 use Rattle.eu_base.specs.declared.tasks.Task.{Task}
 use Rattle.eu_base.specs.Action.{same_name}
-use Rattle.eu_model.specs.Queue.{is_old, live, waits}
+use Rattle.eu_model.specs.Queue.{waits}
 use Rattle.eu_audit_queue.specs.PlainQueue.{are_apart}
 use Rattle.eu_audit_queue.specs.Names.{name_of, has_name}
 use Rattle.eu_audit_queue.proofs.NameLemmas.{for_same, has_name-for_same, name-for_same, same_name-flips}
@@ -122,11 +122,3 @@ one_more xs i x below here = take_more xs i x below ∙ ap (λ y. take i xs ++ y
 pub not_apart : (ts : List Task) (i : ℕ) (x : Task) → i < length ts → x ≡ get_or ts i x → waits x (take i ts) ≡ true → are_apart ts ≡ false
 not_apart ts i x below here there =
     false_from_ne_true (are_apart ts) (λ h. true≢false (sym (apart_take (i + 1) ts h) ∙ ap are_apart (one_more ts i x below here) ∙ not_apart_push (take i ts) x there))
-
--- ---- tasks that are worth sending
-
--- one that is worth sending is found among what is left
-pub some_live : (m : ℕ) (x : Task) (rest ts : List Task) → live m (x ∷ rest) ≡ live m ts → not (is_old m x) ≡ true → true ≡ not (length (live m ts) == 0)
-some_live m x rest ts same young =
-    let grown : length (live m ts) ≡ length (x ∷ live m rest) = sym (ap length same) ∙ ap (λ b. length (cond b (x ∷ live m rest) (live m rest))) young in
-    sym (ap not (ne_eqb (length (live m ts)) 0 (λ none. omega (arith, grown))))

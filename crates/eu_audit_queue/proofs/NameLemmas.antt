@@ -31,10 +31,6 @@ names_flip a b =
 pub same_name-flips : (a b : Task) → same_name a b ≡ same_name b a
 same_name-flips a b = names_flip (name_of a) (name_of b)
 
--- a task waits where its name is there
-pub waits-name : (t : Task) (ts : List Task) → waits t ts ≡ has_name (name_of t) ts
-waits-name t ts = refl
-
 -- ---- a task in the place of the one of its name
 
 abbrev pub for_same : Task → Task → Task

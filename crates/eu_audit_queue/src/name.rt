@@ -26,17 +26,6 @@ impl Name {
             key,
         })
     }
-
-    /// The same name once more. `AllocError` where no memory is left.
-    pub(crate) fn copy(&self, alloc: Global) -> Result<Name, AllocError>
-        ensures { IfOk result (λ name. name ≡ self.now) }
-    {
-        let key = self.key.copy(alloc)?;
-        Ok(Name {
-            action: self.action,
-            key,
-        })
-    }
 }
 
 /// The place of an action among the five, from 0 on.

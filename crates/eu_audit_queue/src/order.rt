@@ -60,40 +60,36 @@ impl Order {
         self.tasks.len()
     }
 
-    /// Whether there is a task of that name.
-    pub(crate) fn has(&self, name: &Name) -> bool
-        ensures { result ≡ has_name name.now self.now }
+    /// Whether there is a task of its name. `AllocError` where no memory is left.
+    pub(crate) fn has(&self, alloc: Global, task: &Task) -> Result<bool, AllocError>
+        ensures { IfOk result (λ found. found ≡ waits task.now self.now) }
     {
-        self.tasks.contains(name)
+        let name = Name::of(alloc, task)?;
+        Ok(self.tasks.contains(&name))
     }
 
     /// Puts a task of a new name first. `AllocError` where no memory is left, and then nothing has changed.
-    pub(crate) fn put_first(&mut self, name: Name, task: Task) -> Result<(), AllocError>
-        requires named { name ≡ name_of task }
+    pub(crate) fn put_first(&mut self, alloc: Global, task: Task) -> Result<(), AllocError>
         requires new { waits task self.old ≡ false }
         requires few { length self.old < 10000 }
         ensures ok { OnOk result (self.new ≡ task ∷ self.old) }
         ensures err { OnErr result (self.new ≡ self.old) }
     {
+        let name = Name::of(alloc, &task)?;
         let before = self.tasks.put(name, task)?;
         drop(before);
         Ok(())
     }
 
     /// Puts a task of a new name last. `AllocError` where no memory is left, and then nothing has changed.
-    pub(crate) fn put_last(
-        &mut self,
-        alloc: Global,
-        name: Name,
-        task: Task,
-    ) -> Result<(), AllocError>
-        requires named { name ≡ name_of task }
+    pub(crate) fn put_last(&mut self, alloc: Global, task: Task) -> Result<(), AllocError>
         requires new { waits task self.old ≡ false }
         requires few { length self.old < 10000 }
         ensures ok { OnOk result (self.new ≡ self.old ++ task ∷ []) }
         ensures err { OnErr result (self.new ≡ self.old) }
     {
-        let last = name.copy(alloc)?;
+        let name = Name::of(alloc, &task)?;
+        let last = Name::of(alloc, &task)?;
         let before = self.tasks.put(name, task)?;
         drop(before);
         self.tasks.demote(&last);
@@ -142,8 +138,8 @@ impl Order {
     pub(crate) fn any_live(&self, moment: Moment) -> bool
         ensures { result ≡ not (length (live moment self.now) == 0) }
     {
-        for (_name, task) in self.tasks.iter() {
-            if is_live(task, moment) {
+        for (_name, waiting) in self.tasks.iter() {
+            if is_live(waiting, moment) {
                 return true;
             }
         }

@@ -12,8 +12,8 @@ use eu_model::{Queue, Tasks};
 use std::alloc::{AllocError, Global};
 use std::marker::Model;
 
-/// The queue of a peer, replayed: the tasks that wait, first to last, and the batch in flight. A task is put, and a batch answered,
-/// as fast as a table is looked up. Contracts see the queue.
+/// The queue of a peer, replayed: the tasks that wait, first to last, and the batch in flight. A call takes a logarithm of what waits
+/// for each task that it puts, sends, gives back or drops. Contracts see the queue.
 ///
 /// Each call that gives `AllocError` leaves the queue open: it is some queue, and not to be asked further.
 #[derive(Debug, Drop)]

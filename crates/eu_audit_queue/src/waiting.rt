@@ -69,7 +69,7 @@ impl Waiting {
         }
         let mut waiting = Waiting::new(alloc)?;
         for task in tasks {
-            if waiting.has(alloc, task)? {
+            if waiting.order.has(alloc, task)? {
                 return Ok(None);
             }
             waiting.push(alloc, task.copy(alloc)?)?;
@@ -77,20 +77,12 @@ impl Waiting {
         Ok(Some(waiting))
     }
 
-    /// Whether a task of its name waits. `AllocError` where no memory is left.
-    fn has(&self, alloc: Global, task: &Task) -> Result<bool, AllocError>
-        ensures { IfOk result (λ found. found ≡ waits task.now self.now) }
-    {
-        let name = Name::of(alloc, task)?;
-        Ok(self.order.has(&name))
-    }
-
     /// Puts a task in the place of the one of its name that waits, else last; where 10,000 wait, the first is dropped then.
     /// `AllocError` where no memory is left.
     pub(crate) fn put(&mut self, alloc: Global, task: Task) -> Result<(), AllocError>
         ensures { OnOk result (self.new ≡ put task self.old) }
     {
-        if self.has(alloc, &task)? {
+        if self.order.has(alloc, &task)? {
             return self.replace(alloc, task);
         }
         if self.order.len() >= MOST_WAITING {
@@ -121,9 +113,8 @@ impl Waiting {
         requires few { length self.old < 10000 }
         ensures { OnOk result (self.new ≡ self.old ++ task ∷ []) }
     {
-        let name = Name::of(alloc, &task)?;
         remember(&mut self.ages, alloc, &task)?;
-        self.order.put_last(alloc, name, task)?;
+        self.order.put_last(alloc, task)?;
         Ok(())
     }
 
@@ -133,9 +124,8 @@ impl Waiting {
         requires few { length self.old < 10000 }
         ensures { OnOk result (self.new ≡ task ∷ self.old) }
     {
-        let name = Name::of(alloc, &task)?;
         remember(&mut self.ages, alloc, &task)?;
-        self.order.put_first(name, task)?;
+        self.order.put_first(alloc, task)?;
         Ok(())
     }
 
@@ -163,8 +153,8 @@ impl Waiting {
 
     /// Whether a task waits that is still worth sending at the moment. Takes no memory.
     ///
-    /// It looks at the tasks before the first such task, and at that. The drain that asks drops them all, so each is looked at once.
-    /// Where there is no such task it looks at all, and the drain is refused, which ends the audit.
+    /// It looks at the first such task, and at those before it, which the drain that asks then drops: so each is looked at once. Where
+    /// there is no such task it looks at all, and the drain is refused, which ends the audit.
     pub(crate) fn any_live(&self, moment: Moment) -> bool
         ensures { result ≡ not (length (live moment self.now) == 0) }
     {
@@ -227,7 +217,7 @@ impl Waiting {
     {
         let mut tasks = VecDeque::new(alloc);
         for task in batch {
-            if is_live(task, moment) && !self.has(alloc, task)? {
+            if is_live(task, moment) && !self.order.has(alloc, task)? {
                 tasks.push_back(task.copy(alloc)?)?;
             }
         }
@@ -269,7 +259,7 @@ impl Waiting {
             return Ok(());
         }
         let registration = registration(alloc, task, moment)?;
-        if self.has(alloc, &registration)? {
+        if self.order.has(alloc, &registration)? {
             return Ok(());
         }
         self.put(alloc, registration)

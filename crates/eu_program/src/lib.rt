@@ -1,6 +1,7 @@
 //! What the program `eureka` does.
 #![tactic(auto)]
 
+mod end;
 mod files;
 mod program;
 mod serving;

@@ -1,8 +1,8 @@
 //! A server of the port that the options name.
 ghost use Rattle.std.specs.Prelude.{◌≡◌, ◌≢◌, ◌⊎◌, OnOk};
 
+use crate::end::End;
 use crate::files::create;
-use crate::program::{DONE, tell_fault};
 use eu_base::{Config, Fault};
 use eu_clock::Chooser;
 use eu_options::Serving;
@@ -44,20 +44,6 @@ fn plan_of(config: Config, serving: Serving) -> Plan
     Plan::of_server(config, serving.expected, serving.workers, serving.sessions)
 }
 
-/// Tells why a server ended early, if it did and standard error takes it, and gives the exit status.
-fn tell_served<T: Drop>(rt: &impl Eprint, ended: Result<T, Fault>) -> u8
-    ensures whole { OnOk ended (result ≡ 0) }
-    ensures fault { (f : Fault) → ended ≡ Err f → result ≡ 3 }
-{
-    match ended {
-        Ok(served) => {
-            drop(served);
-            DONE
-        }
-        Err(fault) => tell_fault(rt, fault),
-    }
-}
-
 /// Serves by a plan and writes the book's journal to that file, and gives the exit status. The file is created before a connection is
 /// taken.
 fn serve_to<
@@ -67,7 +53,7 @@ fn serve_to<
     ensures { (result ≡ 0) ⊎ (result ≡ 3) }
 {
     let Some(mut journal) = create(rt, path) else {
-        return tell_fault(rt, Fault::Write);
+        return End::Failed(Fault::Write).tell(rt);
     };
     let ended = serve_with_journal(
         rt,
@@ -78,7 +64,7 @@ fn serve_to<
         &mut Writing::new(&mut journal),
         &mut io::writer(rt),
     );
-    tell_served(rt, ended)
+    End::of_server(ended).tell(rt)
 }
 
 /// Serves, and gives the exit status: 0 where as many connections as wanted were served. The journal of the book is written to the file of
@@ -98,7 +84,7 @@ pub fn serve<
     ensures { (result ≡ 0) ⊎ (result ≡ 3) }
 {
     let Some(listener) = listen(rt, serving.port) else {
-        return tell_fault(rt, Fault::Read);
+        return End::Failed(Fault::Read).tell(rt);
     };
     let plan = plan_of(config, serving);
     if let Some(path) = journal {
@@ -112,5 +98,5 @@ pub fn serve<
         chooser,
         &mut io::writer(rt),
     );
-    tell_served(rt, ended)
+    End::of_server(ended).tell(rt)
 }

@@ -74,7 +74,7 @@ done
 awk 'BEGIN {
     print "open 1 1"
     for (i = 0; i < 10001; i++) printf "register 100000 A%d host-%d 2147483 UP UNKNOWN 0 c\n", i % 100, i
-    for (n = 10001; n < 131072; n += 3) print "register 0 B late 2147483 UP UNKNOWN - c\ndrain 1 30001\nlost 1 30001"
+    for (n = 10001; n < 131072; n += 3) print "register 0 B late 2147483 UP UNKNOWN - c\ndrain 30001 0\nlost 30001 0"
 }' > "$work/script"
 found=$(rate)
 echo "turns of a queue of 10000 tasks, of which one is too old at each turn: $found"

@@ -18,7 +18,7 @@ use Rattle.eu_model.specs.declared.queues.Queue.{Queue}
 use Rattle.eu_model.specs.Answers.{Answers, IsRefusal}
 use Rattle.eu_model.specs.Plain.{Plain, held_under}
 use Rattle.eu_model.specs.Queue.{drained, drain_fault, live, landed, landed_fault, lost, lost_fault}
-use Rattle.eu_model.specs.Server.{Server, plain_server, queue_fault, server_fault, key_of, is_for_peers, task_for, with_task}
+use Rattle.eu_model.specs.Server.{Server, queue_fault, server_fault, key_of, is_for_peers, task_for, with_task}
 use Rattle.eu_model.specs.ServerAnswers.{ServerAnswers, IsServerAnswer}
 use Rattle.eu_model.proofs.ServedLemmas.{server, registry_answers, drain_answers, landed_answers, lost_answers, drain_refuses, landed_refuses, lost_refuses, drain_of_nobody, landed_at_nobody, lost_to_nobody}
 use Rattle.eu_outbox.specs.Boxed.{Boxed}

@@ -1,5 +1,4 @@
 pub mod Peers
 pub mod Account
 pub mod AccountCode
-pub mod Answered
 pub mod Renewed

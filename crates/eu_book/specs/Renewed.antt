@@ -1,5 +1,8 @@
 -- A journal that begins anew before an entry, or goes on as it is
-use Rattle.std.specs.Prelude.{◌≡◌, ℕ, ◌==◌, List, [], length, Option, Some, None, if◌then◌else◌, is_some, IfSome}
+use Rattle.std.specs.Prelude.{◌≡◌, ℕ, ◌<◌, ◌==◌, List, [], length, vec_len, Option, Some, None, if◌then◌else◌, is_some, IfSome}
+use Rattle.std.specs.Vec.{vec_capacity}
+use Rattle.std.specs.declared.alloc.Global.{Global}
+use Rattle.std.specs.declared.boxed.Box.{Box}
 use Rattle.eu_model.specs.declared.commands.Entry.{Entry}
 use Rattle.eu_model.specs.declared.states.State.{State}
 use Rattle.eu_model.specs.Server.{PlainServer}
@@ -25,6 +28,10 @@ abbrev pub entries_by : Option State → List Entry → List Entry
 entries_by None entries = entries
 entries_by (Some s) entries = []
 
+-- a journal that begins after so many steps: it has no entry yet, and room for one
+abbrev pub BeginsAt : ℕ → Journal → Type 0
+BeginsAt steps j = (j.first ≡ steps) × (j.entries.items ≡ []) × (vec_len j.entries < vec_capacity j.entries)
+
 -- the journal of an account, whose base is plain data
 pub record IsJournal (a : Account) (j : Journal) : Type 0 where
   pub base : server_of_state j.base ≡ a.base
@@ -33,5 +40,5 @@ pub record IsJournal (a : Account) (j : Journal) : Type 0 where
   pub entries : j.entries.items ≡ a.entries
 
 -- the journal that a command leaves behind: that of the account before, just where it was full
-abbrev pub IsRetired : Account → Option Journal → Type 0
-IsRetired a j = (is_some j ≡ (length a.entries == most_entries)) × IfSome j (IsJournal a)
+abbrev pub IsRetired : Account → Option (Box Journal Global) → Type 0
+IsRetired a j = (is_some j ≡ (length a.entries == most_entries)) × IfSome j (λ (b : Box Journal Global). IsJournal a b.value)

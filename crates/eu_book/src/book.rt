@@ -4,20 +4,21 @@ ghost use Rattle.eu_model.specs.Answers.{Shows};
 ghost use Rattle.eu_model.specs.State.{server_of_state};
 ghost use Rattle.eu_model.specs.View.{view};
 ghost use Rattle.eu_book.specs.Account.{cleared, most_entries, opened, logged, Applies, Refuses, IsLawful};
-ghost use Rattle.eu_book.specs.Answered.{for_log};
+ghost use Rattle.eu_core.specs.Answered.{for_log};
 ghost use Rattle.eu_book.specs.Renewed.{IsJournal, IsRetired};
 ghost use Rattle.eu_book.specs.Peers.{known_fault, served, state_of};
 
 use crate::entering::{answer, note};
 use crate::journal::{Journal, Logged};
 use crate::peers::Peers;
-use crate::renewal::{plain, renew, replace};
+use crate::renewal::{begin, plain};
 use eu_base::{Config, Fault, Moment};
 use eu_clock::Chooser;
 use eu_core::Registry;
 use eu_model::{Command, Listed, Listing, Query, Reply, Rows, State, Tally, View};
 use std::alloc::{AllocError, Global};
 use std::marker::Model;
+use std::mem;
 
 /// What an accepted command is given.
 #[derive(Debug, Drop)]
@@ -36,7 +37,7 @@ pub struct LoggedReceipt {
     /// What a log keeps of it.
     pub logged: Logged,
     /// The journal as it was, where it was full and has begun anew: to be kept elsewhere, or let go where nobody waits for it.
-    pub retired: Option<Journal>,
+    pub retired: Option<Box<Journal>>,
 }
 
 /// What a command that was entered in the journal is given, its reply once more for a log, and the journal as it was where it has
@@ -45,7 +46,7 @@ pub struct LoggedReceipt {
 pub(crate) struct Entered {
     pub(crate) receipt: Receipt,
     pub(crate) logged: Option<Reply>,
-    pub(crate) retired: Option<Journal>,
+    pub(crate) retired: Option<Box<Journal>>,
 }
 
 /// A registry with the outboxes of its peers, and the journal of what it was told. Contracts see its account.
@@ -217,13 +218,14 @@ impl Book {
     /// Begins the journal anew: the registry and what waits for its peers, as they are, become its base, and it has no entries. They
     /// stay as they are, and so do the totals. Gives the journal as it was, to be kept elsewhere or let go. `AllocError` where no
     /// memory is left, which changes nothing.
-    pub fn checkpoint(&mut self, alloc: Global) -> Result<Journal, AllocError>
+    pub fn checkpoint(&mut self, alloc: Global) -> Result<Box<Journal>, AllocError>
         ensures ok { OnOk result (self.new ≡ cleared self.old) }
-        ensures retired { IfOk result (λ j. IsJournal self.old j) }
+        ensures retired { IfOk result (λ j. IsJournal self.old j.value) }
         ensures err { OnErr result (self.new ≡ self.old) }
     {
-        let renewal = renew(alloc, &self.registry, &self.peers)?;
-        Ok(replace(&mut self.journal, self.totals.steps, renewal))
+        let mut next = begin(alloc, &self.registry, &self.peers, self.totals.steps)?;
+        mem::swap(&mut self.journal, next.as_mut());
+        Ok(next)
     }
 
     /// What a query sees at a moment; the book stays as it is. `AllocError` where no memory is left.

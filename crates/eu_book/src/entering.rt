@@ -6,19 +6,18 @@ ghost use Rattle.eu_core.specs.Stepped.{Chooses};
 ghost use Rattle.eu_model.specs.Delta.{added_by, counted_by, delta, plus, removed_by};
 ghost use Rattle.eu_model.specs.ServerAnswers.{ServerAnswers};
 ghost use Rattle.eu_book.specs.Account.{entry, most_steps};
-ghost use Rattle.eu_book.specs.Answered.{answered};
+ghost use Rattle.eu_core.specs.Answered.{answered};
 ghost use Rattle.eu_book.specs.Peers.{IsRefused, known_fault, queues_of, served};
-ghost use Rattle.eu_book.specs.Renewed.{anew, base_by, entries_by, first_by};
+ghost use Rattle.eu_book.specs.Renewed.{anew, base_by, entries_by, first_by, BeginsAt};
 
 use crate::book::{Entered, Receipt};
 use crate::journal::{Journal, MOST_STEPS};
 use crate::peers::Peers;
-use crate::renewal::{Renewal, begin_anew, make_room};
-use crate::replies::Answered;
+use crate::renewal::{begin_anew, make_room};
 use crate::serving::serve;
 use eu_base::{Fault, Moment};
 use eu_clock::Chooser;
-use eu_core::Registry;
+use eu_core::{Answered, Registry};
 use eu_model::{Command, Entry, Reply, Tally};
 use std::alloc::Global;
 
@@ -26,7 +25,7 @@ use std::alloc::Global;
 #[derive(Drop)]
 pub(crate) struct Accepted {
     pub(crate) answered: Answered<Reply>,
-    pub(crate) renewal: Option<Renewal>,
+    pub(crate) renewal: Option<Box<Journal>>,
 }
 
 /// Answers a command, once there is room for its entry. `Exhausted` where the steps are as many as a book counts; this, and the
@@ -43,8 +42,8 @@ pub(crate) fn answer<C: Chooser>(
     logs: bool,
 ) -> Result<Accepted, Fault>
     ensures entries { entries.new.items ≡ entries.old.items }
-    ensures base { IfOk result (λ a. option_map (λ (n : _). n.base) a.renewal ≡ anew entries.old.items (served registry.old peers.old)) }
-    ensures room { IfOk result (λ a. MatchOption a.renewal (vec_len entries.new < vec_capacity entries.new) (λ n. (n.entries.items ≡ []) × (vec_len n.entries < vec_capacity n.entries))) }
+    ensures base { IfOk result (λ a. option_map (λ (j : _). j.value.base) a.renewal ≡ anew entries.old.items (served registry.old peers.old)) }
+    ensures room { IfOk result (λ a. MatchOption a.renewal (vec_len entries.new < vec_capacity entries.new) (λ j. BeginsAt steps j.value)) }
     ensures counts { OnOk result (steps ≢ most_steps) }
     ensures same { IfOk result (λ a. a.answered ≡ answered logs a.answered.reply) }
     ensures answers { IfOk result (λ a. ServerAnswers (served registry.old peers.old) command.now moment (Ok a.answered.reply) (served registry.new peers.new)) }
@@ -60,7 +59,7 @@ pub(crate) fn answer<C: Chooser>(
     if let Some(fault) = peers.refusal(command, moment) {
         return Err(fault);
     }
-    let renewal = make_room(alloc, entries, registry, peers)?;
+    let renewal = make_room(alloc, entries, registry, peers, steps)?;
     let answered = serve(alloc, registry, peers, command, moment, chooser, logs)?;
     Ok(Accepted { answered, renewal })
 }
@@ -75,23 +74,23 @@ pub(crate) fn note(
     moment: Moment,
     accepted: Accepted,
 ) -> Entered
-    requires room { MatchOption accepted.renewal (vec_len journal.old.entries < vec_capacity journal.old.entries) (λ n. (n.entries.items ≡ []) × (vec_len n.entries < vec_capacity n.entries)) }
+    requires room { MatchOption accepted.renewal (vec_len journal.old.entries < vec_capacity journal.old.entries) (λ j. BeginsAt totals.old.steps j.value) }
     requires steps { totals.old.steps + 1 < 2 ^ 64 }
     requires counted { totals.old.counted + counted_by command accepted.answered.reply < 2 ^ 64 }
     requires added { totals.old.added + added_by command accepted.answered.reply < 2 ^ 64 }
     requires removed { totals.old.removed + removed_by command accepted.answered.reply < 2 ^ 64 }
-    ensures base { journal.new.base ≡ base_by (option_map (λ (n : _). n.base) accepted.renewal) journal.old.base }
-    ensures first { journal.new.first ≡ first_by (option_map (λ (n : _). n.base) accepted.renewal) totals.old.steps journal.old.first }
-    ensures entries { journal.new.entries.items ≡ entries_by (option_map (λ (n : _). n.base) accepted.renewal) journal.old.entries.items ++ entry pass totals.old.steps command moment accepted.answered.reply ∷ [] }
+    ensures base { journal.new.base ≡ base_by (option_map (λ (j : _). j.value.base) accepted.renewal) journal.old.base }
+    ensures first { journal.new.first ≡ first_by (option_map (λ (j : _). j.value.base) accepted.renewal) totals.old.steps journal.old.first }
+    ensures entries { journal.new.entries.items ≡ entries_by (option_map (λ (j : _). j.value.base) accepted.renewal) journal.old.entries.items ++ entry pass totals.old.steps command moment accepted.answered.reply ∷ [] }
     ensures totals { totals.new ≡ plus totals.old (delta command accepted.answered.reply) }
     ensures number { result.receipt.number ≡ totals.old.steps }
     ensures told { result.receipt.reply ≡ accepted.answered.told }
     ensures logged { result.logged ≡ accepted.answered.logged }
-    ensures retired { result.retired ≡ option_map (λ _. journal.old) accepted.renewal }
+    ensures retired { option_map (λ (j : _). j.value) result.retired ≡ option_map (λ _. journal.old) accepted.renewal }
 {
     let Accepted { answered, renewal } = accepted;
     let number = totals.steps;
-    let retired = begin_anew(journal, number, renewal);
+    let retired = begin_anew(journal, renewal);
     add(totals, Tally::of(&command, &answered.reply));
     journal.entries.push_reserved(Entry {
         pass,

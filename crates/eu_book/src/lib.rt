@@ -11,7 +11,6 @@ mod entering;
 mod journal;
 mod peers;
 mod renewal;
-mod replies;
 mod serving;
 mod tasks;
 

@@ -5,12 +5,12 @@ ghost use Rattle.eu_base.specs.declared.instances.Instance.{Instance};
 ghost use Rattle.eu_core.specs.Stepped.{copies_of};
 ghost use Rattle.eu_model.specs.Queue.{idle};
 ghost use Rattle.eu_model.specs.Server.{task_for, with_task};
-ghost use Rattle.eu_book.specs.Answered.{answered};
+ghost use Rattle.eu_core.specs.Answered.{answered};
 ghost use Rattle.eu_book.specs.Peers.{queues_fault, queues_of, IsReady, QueuesAnswer, told_key};
 
-use crate::replies::{Answered, replies_for, split};
 use crate::tasks::task_for;
 use eu_base::{Codes, Fault, Instance, Key, Moment};
+use eu_core::{Answered, replies_for, split};
 use eu_model::{Command, Queues, Reply};
 use eu_outbox::Outbox;
 use std::alloc::{AllocError, Global};

@@ -4,15 +4,14 @@ ghost use Rattle.eu_base.specs.declared.names.Key.{Key};
 ghost use Rattle.eu_core.specs.Stepped.{Chooses};
 ghost use Rattle.eu_model.specs.Server.{is_for_peers};
 ghost use Rattle.eu_model.specs.ServerAnswers.{ServerAnswers};
-ghost use Rattle.eu_book.specs.Answered.{answered, replies_for};
+ghost use Rattle.eu_core.specs.Answered.{answered};
 ghost use Rattle.eu_book.specs.Peers.{MayRefuse, served, told_key};
 
 use crate::peers::Peers;
-use crate::replies::{Answered, replies_for, split};
 use crate::tasks::told_key;
 use eu_base::{Fault, Key, Moment};
 use eu_clock::Chooser;
-use eu_core::Registry;
+use eu_core::{Answered, Registry, Stepped, plain};
 use eu_model::{Command, Reply};
 use std::alloc::{AllocError, Global};
 
@@ -37,11 +36,11 @@ pub(crate) fn serve<C: Chooser>(
         Command::Drain { peer } => peers.drain(alloc, *peer, moment, logs),
         Command::Landed { peer, codes } => {
             peers.landed(*peer, codes, moment)?;
-            Ok(settled(logs))
+            Ok(plain(alloc, Reply::Settled, logs))
         }
         Command::Lost { peer } => {
             peers.lost(*peer, moment)?;
-            Ok(settled(logs))
+            Ok(plain(alloc, Reply::Settled, logs))
         }
         command => match told_key(command) {
             Some(key) => {
@@ -71,8 +70,8 @@ fn step<C: Chooser>(
     ensures err { OnErr result (registry.new ≡ registry.old) }
     ensures unasked { OnErr result (chooser.new ≡ chooser.old) }
 {
-    let stepped = registry.step(alloc, command, moment, replies_for(logs), 0, chooser)?;
-    Ok(split(stepped.replies, logs))
+    let stepped = registry.step(alloc, command, moment, logs, 0, chooser)?;
+    Ok(stepped.answered)
 }
 
 /// The step of a command of which the peers may be told, and what they are told.
@@ -98,9 +97,9 @@ fn step_and_tell<C: Chooser>(
     let count = peers.count();
     peers.reserve()?;
     let keys = copies(alloc, key, count)?;
-    let stepped = registry.step(alloc, command, moment, replies_for(logs), count, chooser)?;
-    let answered = split(stepped.replies, logs);
-    peers.tell(command, &answered.reply, moment, keys, stepped.held);
+    let stepped = registry.step(alloc, command, moment, logs, count, chooser)?;
+    let Stepped { answered, held } = stepped;
+    peers.tell(command, &answered.reply, moment, keys, held);
     Ok(answered)
 }
 
@@ -113,15 +112,4 @@ fn copies(alloc: Global, key: &Key, count: u32) -> Result<Vec<Key>, AllocError>
         copies.push(key.copy(alloc)?)?;
     }
     Ok(copies)
-}
-
-/// The replies of a batch that is in flight no more.
-fn settled(logs: bool) -> Answered<Reply>
-    ensures { result ≡ answered logs Reply.Settled }
-{
-    Answered {
-        reply: Reply::Settled,
-        told: Reply::Settled,
-        logged: if logs { Some(Reply::Settled) } else { None },
-    }
 }

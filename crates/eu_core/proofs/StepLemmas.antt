@@ -3,7 +3,7 @@ use Rattle.std.proofs.Common.{◌≡◌, ℕ, true, refl, sym, ap, ◌∙◌, su
 use Rattle.std.proofs.lemmas.Cmp.{tied_itself}
 use Rattle.std.specs.declared.cmp.Ordering.{Ordering}
 use Rattle.std.specs.Ordering.{is_eq}
-use Rattle.std.specs.Prelude.{cond, Option, Some, None, Result, Ok, Err, IfErr, IsErrAnd}
+use Rattle.std.specs.Prelude.{cond, Option, Some, None, Result, Ok, Err, IfOk, IfErr, IsErrAnd}
 use Rattle.std.specs.Option.{option_map}
 use Rattle.std.specs.FinMap.{FinMap, get, get-remove}
 use Rattle.eu_base.specs.declared.settings.Config.{Config}
@@ -90,3 +90,8 @@ no_memory (Err f) P h q = subst P (sym h) q
 -- a command that has no fault may want memory
 pub memory_refused : (c : Command) (t : ℕ) (p : Plain) → ((s : Machine) → fault s c t ≡ None) → Answers p c t (Err OutOfMemory) p
 memory_refused c t p faults = refused c t (λ q. None) faults p OutOfMemory refl
+
+-- what holds of an outcome at each number holds of it at one
+pub at_one : {X : Type 0} (r : Result X Fault) (P : X → ℕ → Type 0) (m : ℕ) → IfOk r (λ x. (n : ℕ) → P x n) → IfOk r (λ x. P x m)
+at_one (Ok x) P m h = h m
+at_one (Err f) P m h = tt

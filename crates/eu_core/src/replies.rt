@@ -1,9 +1,10 @@
-//! Replies that are told several times, and copies of the instance that a step leaves.
-ghost use Rattle.std.specs.Prelude.{◌≡◌, ◌≤◌, [], true, replicate, vec_capacity, IfOk, IsOk};
+//! The reply of a command for each of its uses, and copies of the instance that a step leaves.
+ghost use Rattle.std.specs.Prelude.{◌≡◌, true, replicate, IfOk, IsOk};
 ghost use Rattle.std.specs.Option.{option_copied, option_map};
 ghost use Rattle.eu_model.specs.declared.views.Listed.{Listed};
 ghost use Rattle.eu_model.specs.Change.{stamped};
 ghost use Rattle.eu_model.specs.Owned.{owns_nothing};
+ghost use Rattle.eu_core.specs.Answered.{answered, for_log, replies_for};
 ghost use Rattle.eu_core.specs.Decided.{lease_left};
 ghost use Rattle.eu_core.specs.Stepped.{copies_of};
 
@@ -13,38 +14,66 @@ use eu_model::Reply;
 use eu_store::Held;
 use std::alloc::{AllocError, Global};
 
-/// So many copies of a reply, in the room that was made. Takes memory only where a copy of the reply does.
-pub fn repeated(
-    alloc: Global,
-    room: Vec<Reply>,
-    reply: &Reply,
-    number: u32,
-) -> Result<Vec<Reply>, AllocError>
-    requires empty { room.items ≡ [] }
-    requires room { number ≤ vec_capacity room }
-    ensures replies { IfOk result (λ v. v.items ≡ replicate number reply.now) }
-    ensures memory { owns_nothing reply.now ≡ true → IsOk result }
-{
-    let mut replies = room;
-    for _made in 0..number {
-        replies.push_reserved(reply.copy(alloc)?);
-    }
-    Ok(replies)
+/// What a command is answered: equal replies, each for its use.
+#[derive(Debug, Drop)]
+pub struct Answered<R> {
+    /// The one that a journal keeps.
+    pub reply: R,
+    /// The one that who asked is told.
+    pub told: R,
+    /// The one that a log of theirs keeps, where they have one.
+    pub logged: Option<R>,
 }
 
-/// So many copies of a reply that owns no memory, in the room that was made. Takes no memory.
-pub fn fill(alloc: Global, room: Vec<Reply>, reply: &Reply, number: u32) -> Vec<Reply>
-    requires empty { room.items ≡ [] }
-    requires room { number ≤ vec_capacity room }
-    requires plain { owns_nothing reply.now ≡ true }
-    ensures { result.items ≡ replicate number reply.now }
+/// How many replies a command needs: one for a journal, one for who asked, and one more where they log it.
+pub fn replies_for(logs: bool) -> u32
+    ensures { result ≡ replies_for logs }
 {
-    repeated(alloc, room, reply, number).unwrap()
+    if logs { 3 } else { 2 }
+}
+
+/// Equal replies, each for its use. As many are handed in as a command needs (`replies_for`).
+pub fn split<R: Drop>(mut replies: Vec<R>, logs: bool) -> Answered<R>
+    requires { (r : R) × (replies.items ≡ replicate (replies_for logs) r) }
+    ensures { (r : R) → replies.items ≡ replicate (replies_for logs) r → result ≡ answered logs r }
+{
+    match (replies.pop(), replies.pop()) {
+        (Some(reply), Some(told)) => Answered {
+            reply,
+            told,
+            logged: replies.pop(),
+        },
+        _ => unreachable!(),
+    }
+}
+
+/// A reply that owns no memory, for each of its uses. Takes none.
+pub fn plain(alloc: Global, reply: Reply, logs: bool) -> Answered<Reply>
+    requires { owns_nothing reply ≡ true }
+    ensures { result ≡ answered logs reply }
+{
+    Answered {
+        told: reply.copy(alloc).unwrap(),
+        logged: for_log(alloc, &reply, logs).unwrap(),
+        reply,
+    }
+}
+
+/// A reply once more, where one logs it. Takes memory only where a copy of the reply does.
+pub(crate) fn for_log(alloc: Global, reply: &Reply, logs: bool) -> Result<Option<Reply>, AllocError>
+    ensures reply { IfOk result (λ l. l ≡ for_log logs reply.now) }
+    ensures memory { owns_nothing reply.now ≡ true → IsOk result }
+{
+    if logs {
+        Ok(Some(reply.copy(alloc)?))
+    } else {
+        Ok(None)
+    }
 }
 
 /// So many copies of the instance that is held once a change of a lease is carried out; none where no lease is. `AllocError` where no
 /// memory is left.
-pub fn copies_left(
+pub(crate) fn copies_left(
     alloc: Global,
     change: &LeaseChange,
     held: Option<&Held>,

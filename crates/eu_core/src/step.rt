@@ -1,36 +1,38 @@
-//! Steps: each command by its call, with replies and copies of what is held after it.
-ghost use Rattle.std.specs.Prelude.{◌≡◌, ℕ, false, Some, Err, IfOk, IfErr, OnErr};
+//! Steps: each command by its call, with its reply for each use and copies of what is held after it.
+ghost use Rattle.std.specs.Prelude.{◌≡◌, ℕ, [], false, true, Some, Err, IfOk, IfErr, OnErr};
 ghost use Rattle.std.specs.FinMap as map;
 ghost use Rattle.std.specs.Borrow.{Bor};
 ghost use Rattle.std.specs.Option.{option_copied, option_map};
 ghost use Rattle.eu_base.specs.declared.names.Key.{Key};
 ghost use Rattle.eu_model.specs.Answers.{Answers};
+ghost use Rattle.eu_model.specs.Owned.{owns_nothing};
 ghost use Rattle.eu_model.specs.Server.{is_for_peers, key_of};
+ghost use Rattle.eu_core.specs.Answered.{answered};
 ghost use Rattle.eu_core.specs.Decided.{Decides};
 ghost use Rattle.eu_core.specs.Stepped.{Acts, Steps};
 
 use crate::decision::Decision;
 use crate::registry::Registry;
-use crate::replies::{copies_left, fill, repeated};
+use crate::replies::{Answered, copies_left, for_log, plain, replies_for, split};
 use eu_base::{Config, Fault, Instance, Key, Moment, Status};
 use eu_clock::Chooser;
 use eu_model::{Command, Reply};
 use eu_store::Held;
 use std::alloc::Global;
 
-/// What a step gives: so many equal replies, and so many copies of the instance that is held after it.
+/// What a step gives: its reply for each use, and so many copies of the instance that is held after it.
 #[derive(Debug, Drop)]
 pub struct Stepped {
-    /// The replies.
-    pub replies: Vec<Reply>,
+    /// The reply for each use.
+    pub answered: Answered<Reply>,
     /// The copies; none where no lease is held under the command's key after the step, or where it names no key.
     pub held: Vec<Instance>,
 }
 
 impl Registry {
-    /// Takes one step by a command at the moment, and gives so many equal replies and so many copies of the instance that is
-    /// held under the command's key after it: none where no lease is held then, or where the command names no key (`Roll`,
-    /// `Update`, `Reconfigure`, `Evict`).
+    /// Takes one step by a command at the moment, and gives its reply, once more for who asked, and once more for a log, where one
+    /// `logs` it; and so many copies of the instance that is held under the command's key after it: none where no lease is held then,
+    /// or where the command names no key (`Roll`, `Update`, `Reconfigure`, `Evict`).
     ///
     /// No command for a peer (`Drain`, `Landed`, `Lost`) is handed in. The step is that of the command's call: `register`,
     /// `renew`, `cancel`, `set_status`, `unset_status`, `adopt`, `roll`, `update`, `reconfigure` or `evict`, whose replies and
@@ -42,23 +44,23 @@ impl Registry {
         alloc: Global,
         command: &Command,
         moment: Moment,
-        replies: u32,
+        logs: bool,
         held: u32,
         chooser: &mut C,
     ) -> Result<Stepped, Fault>
         requires { is_for_peers command.now ≡ false }
-        ensures ok { IfOk result (λ s. Steps C.asks self.old chooser.old command.now moment replies held s.replies.items s.held.items self.new chooser.new) }
+        ensures ok { IfOk result (λ s. Steps C.asks self.old chooser.old command.now moment logs held s self.new chooser.new) }
         ensures refused { IfErr result (λ f. Answers self.old command.now moment (Err f) self.old) }
         ensures err { OnErr result (self.new ≡ self.old) }
         ensures unasked { OnErr result (chooser.new ≡ chooser.old) }
     {
         match command {
-            Command::Roll => self.step_roll(alloc, replies),
-            Command::Update => self.step_update(alloc, replies),
-            Command::Reconfigure { config } => self.step_reconfigure(alloc, config, replies),
-            Command::Evict => self.step_evict(alloc, moment, replies, chooser),
+            Command::Roll => Ok(self.step_roll(alloc, logs)),
+            Command::Update => Ok(self.step_update(alloc, logs)),
+            Command::Reconfigure { config } => Ok(self.step_reconfigure(alloc, config, logs)),
+            Command::Evict => self.step_evict(alloc, moment, logs, chooser),
             command => match key_of(command) {
-                Some(key) => self.step_on_lease(alloc, command, key, moment, replies, held),
+                Some(key) => self.step_on_lease(alloc, command, key, moment, logs, held),
                 None => unreachable!(),
             },
         }
@@ -71,21 +73,28 @@ impl Registry {
         command: &Command,
         key: &Key,
         moment: Moment,
-        replies: u32,
+        logs: bool,
         held: u32,
     ) -> Result<Stepped, Fault>
         requires { key_of command.now ≡ Some key.now }
-        ensures ok { IfOk result (λ s. Acts self.old command.now moment replies held s.replies.items s.held.items self.new) }
+        ensures ok { IfOk result (λ s. Acts self.old command.now moment logs held s self.new) }
         ensures refused { IfErr result (λ f. Answers self.old command.now moment (Err f) self.old) }
         ensures err { OnErr result (self.new ≡ self.old) }
     {
         let (found, row) = self.find(key);
         let decision = self.decide(alloc, command, key, found, row, moment)?;
-        let room = Vec::with_capacity(alloc, replies as usize)?;
-        let replies = repeated(alloc, room, &decision.reply, replies)?;
+        let told = decision.reply.copy(alloc)?;
+        let logged = for_log(alloc, &decision.reply, logs)?;
         let held = copies_left(alloc, &decision.lease, found, held)?;
-        self.carry_out(alloc, key, row, decision)?;
-        Ok(Stepped { replies, held })
+        let reply = self.carry_out(alloc, key, row, decision)?;
+        Ok(Stepped {
+            answered: Answered {
+                reply,
+                told,
+                logged,
+            },
+            held,
+        })
     }
 
     /// What a command does to the lease of its key, where that is held and its id has that row.
@@ -140,63 +149,52 @@ impl Registry {
         &mut self,
         alloc: Global,
         moment: Moment,
-        replies: u32,
+        logs: bool,
         chooser: &mut C,
     ) -> Result<Stepped, Fault>
-        ensures ok { IfOk result (λ s. (m : ℕ) → Steps C.asks self.old chooser.old Command.Evict moment replies m s.replies.items s.held.items self.new chooser.new) }
+        ensures ok { IfOk result (λ s. (m : ℕ) → Steps C.asks self.old chooser.old Command.Evict moment logs m s self.new chooser.new) }
         ensures refused { IfErr result (λ f. Answers self.old Command.Evict moment (Err f) self.old) }
         ensures err { OnErr result (self.new ≡ self.old) }
         ensures unasked { OnErr result (chooser.new ≡ chooser.old) }
     {
-        let passed = self.pass(alloc, moment, replies, chooser)?;
+        let passed = self.pass(alloc, moment, replies_for(logs), chooser)?;
         Ok(Stepped {
-            replies: passed.replies,
+            answered: split(passed.replies, logs),
             held: Vec::new(alloc),
         })
     }
 
-    fn step_roll(&mut self, alloc: Global, replies: u32) -> Result<Stepped, Fault>
-        ensures ok { IfOk result (λ s. (t m : ℕ) → Acts self.old Command.Roll t replies m s.replies.items s.held.items self.new) }
-        ensures refused { IfErr result (λ f. (t : ℕ) → Answers self.old Command.Roll t (Err f) self.old) }
-        ensures err { OnErr result (self.new ≡ self.old) }
+    fn step_roll(&mut self, alloc: Global, logs: bool) -> Stepped
+        ensures { (t m : ℕ) → Acts self.old Command.Roll t logs m result self.new }
     {
-        let room = Vec::with_capacity(alloc, replies as usize)?;
         let reply = self.roll();
-        Ok(Stepped {
-            replies: fill(alloc, room, &reply, replies),
-            held: Vec::new(alloc),
-        })
+        on_no_lease(alloc, reply, logs)
     }
 
-    fn step_update(&mut self, alloc: Global, replies: u32) -> Result<Stepped, Fault>
-        ensures ok { IfOk result (λ s. (t m : ℕ) → Acts self.old Command.Update t replies m s.replies.items s.held.items self.new) }
-        ensures refused { IfErr result (λ f. (t : ℕ) → Answers self.old Command.Update t (Err f) self.old) }
-        ensures err { OnErr result (self.new ≡ self.old) }
+    fn step_update(&mut self, alloc: Global, logs: bool) -> Stepped
+        ensures { (t m : ℕ) → Acts self.old Command.Update t logs m result self.new }
     {
-        let room = Vec::with_capacity(alloc, replies as usize)?;
         let reply = self.update();
-        Ok(Stepped {
-            replies: fill(alloc, room, &reply, replies),
-            held: Vec::new(alloc),
-        })
+        on_no_lease(alloc, reply, logs)
     }
 
-    fn step_reconfigure(
-        &mut self,
-        alloc: Global,
-        config: &Config,
-        replies: u32,
-    ) -> Result<Stepped, Fault>
-        ensures ok { IfOk result (λ s. (t m : ℕ) → Acts self.old (Command.Reconfigure config.now) t replies m s.replies.items s.held.items self.new) }
-        ensures refused { IfErr result (λ f. (t : ℕ) → Answers self.old (Command.Reconfigure config.now) t (Err f) self.old) }
-        ensures err { OnErr result (self.new ≡ self.old) }
+    fn step_reconfigure(&mut self, alloc: Global, config: &Config, logs: bool) -> Stepped
+        ensures { (t m : ℕ) → Acts self.old (Command.Reconfigure config.now) t logs m result self.new }
     {
-        let room = Vec::with_capacity(alloc, replies as usize)?;
         let reply = self.reconfigure(*config);
-        Ok(Stepped {
-            replies: fill(alloc, room, &reply, replies),
-            held: Vec::new(alloc),
-        })
+        on_no_lease(alloc, reply, logs)
+    }
+}
+
+/// What a step gives that is on no lease, and whose reply owns no memory. Takes none.
+fn on_no_lease(alloc: Global, reply: Reply, logs: bool) -> Stepped
+    requires { owns_nothing reply ≡ true }
+    ensures answered { result.answered ≡ answered logs reply }
+    ensures held { result.held.items ≡ [] }
+{
+    Stepped {
+        answered: plain(alloc, reply, logs),
+        held: Vec::new(alloc),
     }
 }
 

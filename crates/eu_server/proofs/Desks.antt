@@ -1,5 +1,5 @@
 -- What a book answers to the lines of a script, against a run of the server
-use Rattle.std.proofs.Common.{◌≡◌, ◌≢◌, ℕ, List, [], ◌∷◌, ◌++◌, length, length-append, Option, Some, None, Result, Ok, Err, OnOk, OnErr, IfOk, IfErr, refl, sym, ◌∙◌, ap, subst, inl, inr, arith, append_assoc, cond, eqb, suc, true, false}
+use Rattle.std.proofs.Common.{◌≡◌, ◌≢◌, ℕ, Bool, List, [], ◌∷◌, ◌++◌, length, length-append, Option, Some, None, Result, Ok, Err, OnOk, OnErr, IfOk, IfErr, refl, sym, ◌∙◌, ap, subst, inl, inr, arith, append_assoc, cond, eqb, suc, true, false, true≢false}
 use Rattle.std.proofs.lemmas.Bool.{eqb-true, eqb-false}
 use Rattle.std.specs.Prelude.{◌==◌, if◌then◌else◌}
 use Rattle.eu_base.specs.declared.faults.Fault.{Fault}
@@ -27,9 +27,9 @@ use Rattle.eu_page.specs.Page.{shown_page}
 use Rattle.eu_server.specs.declared.desk.Desk.{Desk}
 use Rattle.eu_server.specs.Audit.{Journals}
 use Rattle.eu_server.specs.Desk.{Holds, HoldsRun, DeskAnswers, ClosedAnswers, OpenedAnswers, Told}
-use Rattle.eu_server.specs.Script.{Ran, Commands, Does, Draws, Sees, Says, SaysOpened, Tells, opened_with}
+use Rattle.eu_server.specs.Script.{Ran, Does, Draws, Sees, Says, SaysOpened, Tells, opened_with}
 use Rattle.eu_server.specs.Texts.{answer_text, settled_text}
-use Rattle.eu_words.specs.Lines.{Said, line_of}
+use Rattle.eu_words.specs.Lines.{Said, line_of, said_by}
 
 -- the run with one entry more
 abbrev and_then : (r : Ran) (e : Entry) (mid : Server) → server_fault r.server e.command e.moment ≡ None → ServerStep r.server e.command e.moment e.reply mid → Ran
@@ -90,6 +90,31 @@ journals a r e mid none step h =
 registry_is : (a : Account) (r : Ran) → Holds a r → plain r.server.machine ≡ a.state.registry
 registry_is a r h = ap (λ p. p.registry) (sym h.state)
 
+-- what is said by a command is no question
+abbrev is_question : Said → Bool
+is_question (Said.Look t k) = true
+is_question (Said.Counts t) = true
+is_question (Said.Page t) = true
+is_question _ = false
+
+no_question : (t : ℕ) (c : Command) → is_question (said_by t c) ≡ false
+no_question t (command.Register i replicated) = refl
+no_question t (command.Renew k dirty overridden replicated) = refl
+no_question t (command.Cancel k replicated) = refl
+no_question t (command.SetStatus k status dirty replicated) = refl
+no_question t (command.UnsetStatus k status dirty replicated) = refl
+no_question t (command.Adopt i) = refl
+no_question t command.Roll = refl
+no_question t command.Update = refl
+no_question t (command.Reconfigure config) = refl
+no_question t command.Evict = refl
+no_question t (command.Drain peer) = refl
+no_question t (command.Landed peer codes) = refl
+no_question t (command.Lost peer) = refl
+
+asks_nothing : (t : ℕ) (c : Command) (said : Said) → said ≡ said_by t c → is_question said ≡ true → ⊥
+asks_nothing t c said is asked = true≢false (sym asked ∙ ap is_question is ∙ no_question t c)
+
 module _ {C : Type 0} (asks : C → ℕ → ℕ × C) (x : C) where
   -- what is drawn of a plain form is drawn of each machine of that form
   draws : (p : Plain) (s : Machine) (x' : C) (c : Command) (t : ℕ) (reply : Reply) → plain s ≡ p → Chooses asks p x c t reply x' → Draws asks s x c t reply x'
@@ -130,7 +155,7 @@ module _ {C : Type 0} (asks : C → ℕ → ℕ × C) (x : C) where
     does (Err f) applies refuses same unasked known text = refused f refuses same unasked (λ e. known (ap Err e)) text
 
     -- what a line tells is done so
-    pub told : (said : Said) (answer : Result Receipt Fault) (r : Result (Unit {0}) LineError) → Commands said c t
+    pub told : (said : Said) (answer : Result Receipt Fault) (r : Result (Unit {0}) LineError) → said ≡ said_by t c
         → IfOk answer (λ receipt. Applies asks a x 0 c t receipt.reply receipt.number b x') → IfErr answer (λ f. Refuses a c t f)
         → OnErr answer (b ≡ a) → OnErr answer (x' ≡ x) → OnOk r (answer ≢ Err OutOfMemory) → OnOk r (out ≡ answer_text (settled_text c) answer)
         → OnOk r (Told asks a x said out b x')
@@ -140,9 +165,9 @@ module _ {C : Type 0} (asks : C → ℕ → ℕ × C) (x : C) where
 
   -- what tells a command isn't a question
   says : (said : Said) (x' : C) (y next : Ran) (out : List ℕ) → Tells asks said y x out next x' → SaysOpened asks said y x out next x'
-  says (Said.Look t k) x' y next out s = absurd s.2
-  says (Said.Counts t) x' y next out s = absurd s.2
-  says (Said.Page t) x' y next out s = absurd s.2
+  says (Said.Look t k) x' y next out s = absurd (asks_nothing s.1 s.0 (Said.Look t k) s.2 refl)
+  says (Said.Counts t) x' y next out s = absurd (asks_nothing s.1 s.0 (Said.Counts t) s.2 refl)
+  says (Said.Page t) x' y next out s = absurd (asks_nothing s.1 s.0 (Said.Page t) s.2 refl)
   says said x' y next out s = s
 
   pub answered : (a b : Account) (x' : C) (said : Said) (r : Result (Unit {0}) LineError) (out : List ℕ)

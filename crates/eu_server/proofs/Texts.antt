@@ -1,5 +1,5 @@
 -- What a script leaves of its journal, of the run whose account a desk keeps
-use Rattle.std.proofs.Common.{◌≡◌, ℕ, Bool, List, [], take, Option, Some, None, Result, Ok, Err, IfErr, refl, ap, ◌∙◌, inl, inr}
+use Rattle.std.proofs.Common.{◌≡◌, ℕ, Bool, List, [], Option, Some, None, Result, Ok, Err, IfErr, refl, ap, inl, inr}
 use Rattle.std.proofs.KnownBytes.{Appends-kept, Appends-nil}
 use Rattle.std.specs.Io.KnownBytes.{Keeps}
 use Rattle.eu_base.specs.declared.settings.Config.{Config}

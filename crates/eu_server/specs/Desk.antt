@@ -1,5 +1,5 @@
 -- A desk, which keeps the account of a book, against a run of the server
-use Rattle.std.specs.Prelude.{◌≡◌, ◌↔◌, ℕ, Bool, true, false, IsTrue, List, [], length, take, Option, Some, None, Result, Ok, Err}
+use Rattle.std.specs.Prelude.{◌≡◌, ◌↔◌, ℕ, Bool, true, IsTrue, List, [], length, take, Option, Some, None, Result, Ok, Err}
 use Rattle.eu_audit.specs.PlainForm.{IsRun}
 use Rattle.eu_base.specs.declared.settings.Config.{Config}
 use Rattle.eu_book.specs.Account.{Account}
@@ -14,7 +14,6 @@ use Rattle.eu_server.specs.declared.desk.Desk.{Desk}
 use Rattle.eu_server.specs.Audit.{Journals}
 use Rattle.eu_server.specs.Script.{Ran, Answers, Refuses, ScriptRuns, SaysClosed, SaysOpened, Tells}
 use Rattle.eu_words.specs.Lines.{Said}
-use Rattle.eu_words.specs.Lines.Said.{Register, Renew, Cancel, SetStatus, UnsetStatus, Adopt, Roll, Update, Reconfigure, Evict, Drain, Landed, Lost}
 
 -- the account is that of this run: it has the number of its entries, the plain form of the server, and the run's journal
 pub record Holds (a : Account) (r : Ran) : Type 0 where
@@ -54,43 +53,6 @@ OpenedAnswers asks a x said out b x' = (r : Ran) → Holds a r → (next : Ran) 
 -- from each run of that account, a book and a chooser do what a line tells, and both are the others after
 abbrev pub Told : {C : Type 0} → (C → ℕ → ℕ × C) → Account → C → Said → List ℕ → Account → C → Type 0
 Told asks a x said out b x' = (r : Ran) → Holds a r → (next : Ran) × Tells asks said r x out next x' × Holds b next
-
--- what is said tells a command whose stamp may be absent
-abbrev pub is_stamped : Said → Bool
-is_stamped (Renew t k dirty overridden replicated) = true
-is_stamped (SetStatus t k status dirty replicated) = true
-is_stamped (UnsetStatus t k status dirty replicated) = true
-is_stamped _ = false
-
--- what is said sets or unsets a status
-abbrev pub is_of_status : Said → Bool
-is_of_status (SetStatus t k status dirty replicated) = true
-is_of_status (UnsetStatus t k status dirty replicated) = true
-is_of_status _ = false
-
--- what is said tells a command that speaks of the tasks for a peer
-abbrev pub is_of_peer : Said → Bool
-is_of_peer (Drain t peer) = true
-is_of_peer (Landed t peer answers) = true
-is_of_peer (Lost t peer) = true
-is_of_peer _ = false
-
--- what is said tells a command
-abbrev pub commands : Said → Bool
-commands (Register t n replicated) = true
-commands (Renew t k dirty overridden replicated) = true
-commands (Cancel t k replicated) = true
-commands (SetStatus t k status dirty replicated) = true
-commands (UnsetStatus t k status dirty replicated) = true
-commands (Adopt t n) = true
-commands (Roll t) = true
-commands (Update t) = true
-commands (Reconfigure t settings) = true
-commands (Evict t) = true
-commands (Drain t peer) = true
-commands (Landed t peer answers) = true
-commands (Lost t peer) = true
-commands _ = false
 
 -- the auditor's answer on the journal of an account, and the number of its entries; where there is none, yes and 0
 abbrev pub Audits : Option Account → Bool → ℕ → Type 0

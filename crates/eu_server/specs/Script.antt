@@ -2,10 +2,7 @@
 use Rattle.std.specs.Prelude.{◌≡◌, ◌⊎◌, ℕ, Bool, true, false, not, IsTrue, List, [], ◌∷◌, ◌++◌, ◌==◌, length, Option, Some, None, Result, codes, if◌then◌else◌, refl}
 use Rattle.eu_base.specs.declared.faults.Fault.{Fault}
 use Rattle.eu_base.specs.declared.faults.Fault.TheVariants.{Exhausted}
-use Rattle.eu_base.specs.declared.instances.Instance.{Instance}
 use Rattle.eu_base.specs.declared.settings.Config.{Config}
-use Rattle.eu_base.specs.declared.times.Stamp.{Stamp}
-use Rattle.eu_base.specs.Settings.{settings_of}
 use Rattle.eu_book.specs.Account.{most_steps}
 use Rattle.eu_lines.specs.declared.faults.ScriptFault.{ScriptFault}
 use Rattle.eu_lines.specs.Lines.{script_limits}
@@ -21,9 +18,8 @@ use Rattle.eu_model.specs.Server.{Server, ServerStep, server_fault, Run}
 use Rattle.eu_model.specs.View.{one, counts, listing}
 use Rattle.eu_page.specs.Page.{shown_page}
 use Rattle.eu_core.specs.Evicts.{drawn_victims, drawn_state}
-use Rattle.eu_words.specs.Lines.{Said, newcomer_of, line_of}
-use Rattle.eu_words.specs.Lines.Said.{Open, Register, Renew, Cancel, SetStatus, UnsetStatus, Adopt, Roll, Update, Reconfigure, Evict, Drain, Landed, Lost, Look, Counts, Page}
-use Rattle.eu_words.specs.Words.{number_of}
+use Rattle.eu_words.specs.Lines.{Said, said_by, line_of}
+use Rattle.eu_words.specs.Lines.Said.{Open, Look, Counts, Page}
 use Rattle.eu_server.specs.Texts.{reply_text, settled_text, refused_text, look_text, counts_text}
 
 -- A run of a server: its settings, the numbers of clients and of peers with which it was opened, its entries so far, and the
@@ -54,29 +50,6 @@ is_full r = length r.entries == most_steps
 abbrev pub refusal_in : Ran → Command → ℕ → Option Fault
 refusal_in r c t = if is_full r then Some Exhausted else server_fault r.server c t
 
--- what is said tells the registry this command at this moment
-abbrev pub Commands : Said → Command → ℕ → Type 0
-Commands (Register t n replicated) c moment = (moment ≡ t) × (i : Instance) × (newcomer_of i ≡ n) × (c ≡ command.Register i replicated)
-Commands (Renew t k dirty overridden replicated) c moment =
-    (moment ≡ t) × (stamp : Option Stamp) × (number_of stamp ≡ dirty) × (c ≡ command.Renew k stamp overridden replicated)
-Commands (Cancel t k replicated) c moment = (moment ≡ t) × (c ≡ command.Cancel k replicated)
-Commands (SetStatus t k status dirty replicated) c moment =
-    (moment ≡ t) × (stamp : Option Stamp) × (number_of stamp ≡ dirty) × (c ≡ command.SetStatus k status stamp replicated)
-Commands (UnsetStatus t k status dirty replicated) c moment =
-    (moment ≡ t) × (stamp : Option Stamp) × (number_of stamp ≡ dirty) × (c ≡ command.UnsetStatus k status stamp replicated)
-Commands (Adopt t n) c moment = (moment ≡ t) × (i : Instance) × (newcomer_of i ≡ n) × (c ≡ command.Adopt i)
-Commands (Roll t) c moment = (moment ≡ t) × (c ≡ command.Roll)
-Commands (Update t) c moment = (moment ≡ t) × (c ≡ command.Update)
-Commands (Reconfigure t settings) c moment = (moment ≡ t) × (config : Config) × (settings_of config ≡ settings) × (c ≡ command.Reconfigure config)
-Commands (Evict t) c moment = (moment ≡ t) × (c ≡ command.Evict)
-Commands (Drain t peer) c moment = (moment ≡ t) × (c ≡ command.Drain peer)
-Commands (Landed t peer answers) c moment = (moment ≡ t) × (c ≡ command.Landed peer answers)
-Commands (Lost t peer) c moment = (moment ≡ t) × (c ≡ command.Lost peer)
-Commands (Look t k) c moment = ⊥
-Commands (Counts t) c moment = ⊥
-Commands (Page t) c moment = ⊥
-Commands (Open n peers) c moment = ⊥
-
 -- a question prints this text of the server's machine, and changes nothing
 abbrev pub Sees : Ran → (Machine → List ℕ) → List ℕ → Ran → Type 0
 Sees r text out next = (out ≡ text r.server.machine) × (next ≡ r)
@@ -103,7 +76,7 @@ module _ {C : Type 0} (asks : C → ℕ → ℕ × C) where
 
   -- what is said tells a command, which is done so
   abbrev pub Tells : Said → Ran → C → List ℕ → Ran → C → Type 0
-  Tells said r x out next x' = (c : Command) × (t : ℕ) × Commands said c t × Does r x c t out next x'
+  Tells said r x out next x' = (c : Command) × (t : ℕ) × (said ≡ said_by t c) × Does r x c t out next x'
 
   -- a line that says this prints out once the registry is open, and takes its run and the chooser from r and x to next and x'
   abbrev pub SaysOpened : Said → Ran → C → List ℕ → Ran → C → Type 0

@@ -5,10 +5,10 @@ ghost use Rattle.eu_server.specs.Texts.{answer_text, settled_text};
 ghost use Rattle.eu_model.specs.Answers.{Shows};
 ghost use Rattle.eu_model.specs.View.{counts, listing};
 ghost use Rattle.eu_page.specs.Page.{shown_page};
-ghost use Rattle.eu_words.specs.Lines.{said_of};
+ghost use Rattle.eu_words.specs.Lines.{said_by, said_of};
 ghost use Rattle.eu_words.specs.Lines.Said.{Open};
-ghost use Rattle.eu_server.specs.Script.{opens, Commands};
-ghost use Rattle.eu_server.specs.Desk.{Audits, DeskAnswers, DeskRefuses, ClosedAnswers, OpenedAnswers, Told, Writes, commands, is_of_peer, is_stamped, is_of_status, text_of};
+ghost use Rattle.eu_server.specs.Script.{opens};
+ghost use Rattle.eu_server.specs.Desk.{Audits, DeskAnswers, DeskRefuses, ClosedAnswers, OpenedAnswers, Told, Writes, text_of};
 
 use crate::printing::{print_counts, print_look, print_page, print_refusal, print_reply};
 use eu_audit::audit;
@@ -158,10 +158,12 @@ fn answer_opened<C: Chooser>(
 {
     match line {
         Line::Open(_) => Err(LineError::Bad),
+        Line::Apply { moment, command } => {
+            answer_command(alloc, book, chooser, command, moment, out)
+        }
         Line::Look { moment, key } => Ok(print_look(out, book.registry().look(&key, moment))?),
         Line::Counts { .. } => Ok(print_counts(out, &book.registry().counts())?),
         Line::Page { .. } => answer_page(alloc, book.registry(), out),
-        line => answer_command(alloc, book, chooser, line, out),
     }
 }
 
@@ -174,144 +176,24 @@ fn answer_page(alloc: Global, registry: &Registry, out: &mut String) -> Result<(
     Ok(print_page(alloc, out, &registry.counts(), held.as_slice())?)
 }
 
-/// Answers a line that tells a command. `Bad` where it tells none, which asks no word; `OutOfMemory`.
+/// Applies a command at a moment, and prints its answer. `OutOfMemory`.
 fn answer_command<C: Chooser>(
     alloc: Global,
     book: &mut Book,
     chooser: &mut C,
-    line: Line,
+    command: Command,
+    moment: Moment,
     out: &mut String,
 ) -> Result<(), LineError>
     requires { string_bytes out.old ≡ [] }
-    ensures ok { OnOk result (Told C.asks book.old chooser.old (said_of line) (string_bytes out.new) book.new chooser.new) }
-    ensures bad { result ≡ Err LineError.Bad → IsTrue (not (commands (said_of line))) }
-    ensures kept { result ≡ Err LineError.Bad → chooser.new ≡ chooser.old }
+    ensures ok { OnOk result (Told C.asks book.old chooser.old (said_by moment command) (string_bytes out.new) book.new chooser.new) }
+    ensures err { IfErr result (λ e. e ≡ LineError.OutOfMemory) }
 {
-    let Some((command, moment)) = command_of(line) else {
-        return Err(LineError::Bad);
-    };
     let settled = settled_line(&command);
     let answer = book.apply(alloc, PASS, command, moment, chooser);
     let printed = print_answer(out, settled, &answer);
     drop(answer);
     printed
-}
-
-/// The command that a line tells, and its moment; `None` where it tells none.
-fn command_of(line: Line) -> Option<(Command, Moment)>
-    ensures some { IfSome result (λ told. Commands (said_of line) told.0 told.1) }
-    ensures none { result ≡ None → IsTrue (not (commands (said_of line))) }
-{
-    match line {
-        Line::Register {
-            moment,
-            instance,
-            replicated,
-        } => {
-            let command = Command::Register {
-                instance,
-                replicated,
-            };
-            Some((command, moment))
-        }
-        Line::Adopt { moment, instance } => Some((Command::Adopt { instance }, moment)),
-        Line::Cancel {
-            moment,
-            key,
-            replicated,
-        } => Some((Command::Cancel { key, replicated }, moment)),
-        Line::Roll { moment } => Some((Command::Roll, moment)),
-        Line::Update { moment } => Some((Command::Update, moment)),
-        Line::Reconfigure { moment, config } => Some((Command::Reconfigure { config }, moment)),
-        Line::Evict { moment } => Some((Command::Evict, moment)),
-        line => peer_command_of(line),
-    }
-}
-
-/// The same of a line that speaks of the tasks for a peer, or whose stamp may be absent.
-fn peer_command_of(line: Line) -> Option<(Command, Moment)>
-    ensures some { IfSome result (λ told. Commands (said_of line) told.0 told.1) }
-    ensures none_of_peer { result ≡ None → IsTrue (not (is_of_peer (said_of line))) }
-    ensures none_stamped { result ≡ None → IsTrue (not (is_stamped (said_of line))) }
-{
-    match line {
-        Line::Drain { moment, peer } => Some((Command::Drain { peer }, moment)),
-        Line::Landed {
-            moment,
-            peer,
-            codes,
-        } => Some((Command::Landed { peer, codes }, moment)),
-        Line::Lost { moment, peer } => Some((Command::Lost { peer }, moment)),
-        line => stamped_command_of(line),
-    }
-}
-
-/// The same of a line whose stamp may be absent.
-fn stamped_command_of(line: Line) -> Option<(Command, Moment)>
-    ensures some { IfSome result (λ told. Commands (said_of line) told.0 told.1) }
-    ensures none { result ≡ None → IsTrue (not (is_stamped (said_of line))) }
-{
-    match line {
-        Line::Renew {
-            moment,
-            key,
-            dirty,
-            overridden,
-            replicated,
-        } => {
-            let command = Command::Renew {
-                key,
-                dirty,
-                overridden,
-                replicated,
-            };
-            Some((command, moment))
-        }
-        line => status_command_of(line),
-    }
-}
-
-/// The same of a line that sets or unsets a status.
-fn status_command_of(line: Line) -> Option<(Command, Moment)>
-    ensures some { IfSome result (λ told. Commands (said_of line) told.0 told.1) }
-    ensures none { result ≡ None → IsTrue (not (is_of_status (said_of line))) }
-{
-    match line {
-        Line::SetStatus {
-            moment,
-            key,
-            status,
-            dirty,
-            replicated,
-        } => {
-            let command = Command::SetStatus {
-                key,
-                status,
-                dirty,
-                replicated,
-            };
-            Some((command, moment))
-        }
-        Line::UnsetStatus {
-            moment,
-            key,
-            status,
-            dirty,
-            replicated,
-        } => {
-            let command = Command::UnsetStatus {
-                key,
-                status,
-                dirty,
-                replicated,
-            };
-            Some((command, moment))
-        }
-        other => {
-            drop(other);
-            None
-        }
-    }
 }
 
 /// What a command prints that ends a flight; nothing for any other.

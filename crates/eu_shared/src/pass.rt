@@ -26,7 +26,7 @@ pub struct Pass<K: Label> {
     pub(crate) is_stale: bool,
     /// The journal as it was before its last call, where that had it begin anew: a call that takes the lock lets go of it once the lock
     /// is free.
-    pub(crate) retired: Option<Journal>,
+    pub(crate) retired: Option<Box<Journal>>,
     pub(crate) shares: Shares<K>,
 }
 

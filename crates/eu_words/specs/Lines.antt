@@ -8,6 +8,8 @@ use Rattle.eu_base.specs.Rest.{rest_of_host}
 use Rattle.eu_base.specs.Settings.{Settings, settings_of}
 use Rattle.eu_base.specs.declared.instances.Instance.{Instance}
 use Rattle.eu_lines.specs.declared.faults.LineError.{LineError}
+use Rattle.eu_model.specs.declared.commands.Command.{Command}
+use Rattle.eu_model.specs.declared.commands.Command.TheVariants as command
 use Rattle.eu_words.specs.declared.lines.Line.{Line}
 use Rattle.eu_words.specs.declared.lines.Line.TheVariants as line
 use Rattle.eu_words.specs.Words.{◌>>=◌, Field, Fails, words_of, word_at, end_at, number_at, moment_at, key_at, status_at, maybe_status_at, secs_at, number_of, stamp_at, dirty_at, source_at, peers_at, peer_at, settings_at, codes_of}
@@ -63,22 +65,26 @@ pub data Said : Type 0 where
   -- the status page is asked for
   Page : ℕ → Said
 
+-- what a line says by which a command is to be applied at a moment
+abbrev pub said_by : ℕ → Command → Said
+said_by t (command.Register i replicated) = Register t (newcomer_of i) replicated
+said_by t (command.Renew k dirty overridden replicated) = Renew t k (number_of dirty) overridden replicated
+said_by t (command.Cancel k replicated) = Cancel t k replicated
+said_by t (command.SetStatus k status dirty replicated) = SetStatus t k status (number_of dirty) replicated
+said_by t (command.UnsetStatus k status dirty replicated) = UnsetStatus t k status (number_of dirty) replicated
+said_by t (command.Adopt i) = Adopt t (newcomer_of i)
+said_by t command.Roll = Roll t
+said_by t command.Update = Update t
+said_by t (command.Reconfigure config) = Reconfigure t (settings_of config)
+said_by t command.Evict = Evict t
+said_by t (command.Drain peer) = Drain t peer
+said_by t (command.Landed peer codes) = Landed t peer codes
+said_by t (command.Lost peer) = Lost t peer
+
 -- what a line that was read says
 abbrev pub said_of : Line → Said
 said_of (line.Open opening) = Open opening.expected opening.peers
-said_of (line.Register t i replicated) = Register t (newcomer_of i) replicated
-said_of (line.Renew t k dirty overridden replicated) = Renew t k (number_of dirty) overridden replicated
-said_of (line.Cancel t k replicated) = Cancel t k replicated
-said_of (line.SetStatus t k status dirty replicated) = SetStatus t k status (number_of dirty) replicated
-said_of (line.UnsetStatus t k status dirty replicated) = UnsetStatus t k status (number_of dirty) replicated
-said_of (line.Adopt t i) = Adopt t (newcomer_of i)
-said_of (line.Roll t) = Roll t
-said_of (line.Update t) = Update t
-said_of (line.Reconfigure t config) = Reconfigure t (settings_of config)
-said_of (line.Evict t) = Evict t
-said_of (line.Drain t peer) = Drain t peer
-said_of (line.Landed t peer codes) = Landed t peer codes
-said_of (line.Lost t peer) = Lost t peer
+said_of (line.Apply t c) = said_by t c
 said_of (line.Look t k) = Look t k
 said_of (line.Counts t) = Counts t
 said_of (line.Page t) = Page t

@@ -5,8 +5,9 @@ ghost use Rattle.eu_words.specs.Lines.{IsReading, line_of, words_say, open_says,
 
 use crate::openings::Opening;
 use crate::words::{Words, is_text};
-use eu_base::{Codes, Config, Instance, Key, Moment, Rest, Stamp, Status};
+use eu_base::{Instance, Key, Moment, Rest};
 use eu_lines::LineError;
+use eu_model::Command;
 use std::alloc::Global;
 
 /// What a line says.
@@ -14,114 +15,12 @@ use std::alloc::Global;
 pub enum Line {
     /// The registry is to be opened.
     Open(Opening),
-    /// An instance is to be registered.
-    Register {
+    /// A command is to be applied.
+    Apply {
         /// When.
         moment: Moment,
-        /// The instance.
-        instance: Instance,
-        /// Whether a peer sends it.
-        replicated: bool,
-    },
-    /// A lease is to be renewed.
-    Renew {
-        /// When.
-        moment: Moment,
-        /// The lease.
-        key: Key,
-        /// The stamp of the instance, where it is told.
-        dirty: Option<Stamp>,
-        /// The status that overrides the instance's own, where it is told.
-        overridden: Option<Status>,
-        /// Whether a peer sends it.
-        replicated: bool,
-    },
-    /// A lease is to be ended.
-    Cancel {
-        /// When.
-        moment: Moment,
-        /// The lease.
-        key: Key,
-        /// Whether a peer sends it.
-        replicated: bool,
-    },
-    /// A status is to override the own one of an instance.
-    SetStatus {
-        /// When.
-        moment: Moment,
-        /// The instance's lease.
-        key: Key,
-        /// The status.
-        status: Status,
-        /// The stamp of the change, where it is told.
-        dirty: Option<Stamp>,
-        /// Whether a peer sends it.
-        replicated: bool,
-    },
-    /// No status is to override the own one of an instance any more.
-    UnsetStatus {
-        /// When.
-        moment: Moment,
-        /// The instance's lease.
-        key: Key,
-        /// The instance's own status from now on, where it is told.
-        status: Option<Status>,
-        /// The stamp of the change, where it is told.
-        dirty: Option<Stamp>,
-        /// Whether a peer sends it.
-        replicated: bool,
-    },
-    /// An instance that a peer holds is to be taken over.
-    Adopt {
-        /// When.
-        moment: Moment,
-        /// The instance.
-        instance: Instance,
-    },
-    /// A minute ends.
-    Roll {
-        /// When.
-        moment: Moment,
-    },
-    /// The clients are to be counted anew.
-    Update {
-        /// When.
-        moment: Moment,
-    },
-    /// The registry is to have other settings.
-    Reconfigure {
-        /// When.
-        moment: Moment,
-        /// The settings from then on.
-        config: Config,
-    },
-    /// Leases that have expired are to be evicted.
-    Evict {
-        /// When.
-        moment: Moment,
-    },
-    /// The next tasks are to go in flight to a peer.
-    Drain {
-        /// When.
-        moment: Moment,
-        /// The peer's number, from 0.
-        peer: u32,
-    },
-    /// The batch in flight to a peer has landed.
-    Landed {
-        /// When.
-        moment: Moment,
-        /// The peer's number, from 0.
-        peer: u32,
-        /// What its tasks were answered.
-        codes: Codes,
-    },
-    /// The batch in flight to a peer was lost.
-    Lost {
-        /// When.
-        moment: Moment,
-        /// The peer's number, from 0.
-        peer: u32,
+        /// The command.
+        command: Command,
     },
     /// A lease is asked for.
     Look {
@@ -238,7 +137,8 @@ fn config_line(words: &mut Words<'_>) -> Result<Line, LineError>
     let moment = words.moment_at()?;
     let config = words.config_at()?;
     words.end()?;
-    Ok(Line::Reconfigure { moment, config })
+    let command = Command::Reconfigure { config };
+    Ok(Line::Apply { moment, command })
 }
 
 #[tactic(auto, unfolding(crate::specs::Lines::drain_says))]
@@ -249,7 +149,8 @@ fn drain_line(words: &mut Words<'_>) -> Result<Line, LineError>
     let moment = words.moment_at()?;
     let peer = words.peer_at()?;
     words.end()?;
-    Ok(Line::Drain { moment, peer })
+    let command = Command::Drain { peer };
+    Ok(Line::Apply { moment, command })
 }
 
 #[tactic(auto, unfolding(crate::specs::Lines::lost_says))]
@@ -260,7 +161,8 @@ fn lost_line(words: &mut Words<'_>) -> Result<Line, LineError>
     let moment = words.moment_at()?;
     let peer = words.peer_at()?;
     words.end()?;
-    Ok(Line::Lost { moment, peer })
+    let command = Command::Lost { peer };
+    Ok(Line::Apply { moment, command })
 }
 
 #[tactic(auto, unfolding(crate::specs::Lines::landed_says))]
@@ -270,11 +172,8 @@ fn landed_line(alloc: Global, words: &mut Words<'_>) -> Result<Line, LineError>
     let moment = words.moment_at()?;
     let peer = words.peer_at()?;
     let codes = words.codes(alloc)?;
-    Ok(Line::Landed {
-        moment,
-        peer,
-        codes,
-    })
+    let command = Command::Landed { peer, codes };
+    Ok(Line::Apply { moment, command })
 }
 
 #[tactic(auto, unfolding(crate::specs::Lines::register_says))]
@@ -285,11 +184,11 @@ fn register_line(alloc: Global, words: &mut Words<'_>) -> Result<Line, LineError
     let instance = instance_at(alloc, words, moment)?;
     let replicated = words.source_at()?;
     words.end()?;
-    Ok(Line::Register {
-        moment,
+    let command = Command::Register {
         instance,
         replicated,
-    })
+    };
+    Ok(Line::Apply { moment, command })
 }
 
 /// An instance, else `Bad`; `OutOfMemory`. Its stamp is the moment where `-` stands for it; its host is its id.
@@ -324,13 +223,13 @@ fn renew_line(alloc: Global, words: &mut Words<'_>) -> Result<Line, LineError>
     let overridden = words.maybe_status_at()?;
     let replicated = words.source_at()?;
     words.end()?;
-    Ok(Line::Renew {
-        moment,
+    let command = Command::Renew {
         key,
         dirty,
         overridden,
         replicated,
-    })
+    };
+    Ok(Line::Apply { moment, command })
 }
 
 #[tactic(auto, unfolding(crate::specs::Lines::cancel_says))]
@@ -341,11 +240,8 @@ fn cancel_line(alloc: Global, words: &mut Words<'_>) -> Result<Line, LineError>
     let key = words.key_at(alloc)?;
     let replicated = words.source_at()?;
     words.end()?;
-    Ok(Line::Cancel {
-        moment,
-        key,
-        replicated,
-    })
+    let command = Command::Cancel { key, replicated };
+    Ok(Line::Apply { moment, command })
 }
 
 #[tactic(auto, unfolding(crate::specs::Lines::set_says))]
@@ -358,13 +254,13 @@ fn set_line(alloc: Global, words: &mut Words<'_>) -> Result<Line, LineError>
     let dirty = words.stamp_at()?;
     let replicated = words.source_at()?;
     words.end()?;
-    Ok(Line::SetStatus {
-        moment,
+    let command = Command::SetStatus {
         key,
         status,
         dirty,
         replicated,
-    })
+    };
+    Ok(Line::Apply { moment, command })
 }
 
 #[tactic(auto, unfolding(crate::specs::Lines::unset_says))]
@@ -377,13 +273,13 @@ fn unset_line(alloc: Global, words: &mut Words<'_>) -> Result<Line, LineError>
     let dirty = words.stamp_at()?;
     let replicated = words.source_at()?;
     words.end()?;
-    Ok(Line::UnsetStatus {
-        moment,
+    let command = Command::UnsetStatus {
         key,
         status,
         dirty,
         replicated,
-    })
+    };
+    Ok(Line::Apply { moment, command })
 }
 
 #[tactic(auto, unfolding(crate::specs::Lines::adopt_says))]
@@ -393,7 +289,8 @@ fn adopt_line(alloc: Global, words: &mut Words<'_>) -> Result<Line, LineError>
     let moment = words.moment_at()?;
     let instance = instance_at(alloc, words, moment)?;
     words.end()?;
-    Ok(Line::Adopt { moment, instance })
+    let command = Command::Adopt { instance };
+    Ok(Line::Apply { moment, command })
 }
 
 #[tactic(auto, unfolding(crate::specs::Lines::look_says))]
@@ -415,13 +312,16 @@ fn moment_line(verb: &[u8], words: &mut Words<'_>) -> Result<Line, LineError>
     let moment = words.moment_at()?;
     words.end()?;
     if is_text(verb, "roll") {
-        return Ok(Line::Roll { moment });
+        let command = Command::Roll;
+        return Ok(Line::Apply { moment, command });
     }
     if is_text(verb, "update") {
-        return Ok(Line::Update { moment });
+        let command = Command::Update;
+        return Ok(Line::Apply { moment, command });
     }
     if is_text(verb, "evict") {
-        return Ok(Line::Evict { moment });
+        let command = Command::Evict;
+        return Ok(Line::Apply { moment, command });
     }
     if is_text(verb, "counts") {
         return Ok(Line::Counts { moment });

@@ -398,7 +398,7 @@ pub fn extent(book: &Book) -> Extent {
 }
 
 /// How many entries a journal had that has begun anew.
-fn retired(journal: Result<Journal, AllocError>) -> Result<usize, Fault> {
+fn retired(journal: Result<Box<Journal>, AllocError>) -> Result<usize, Fault> {
     let journal = journal?;
     let entries = journal.entries.len();
     drop(journal);

@@ -3,7 +3,7 @@ use crate::tests::registry::{Call, answer, at, opened};
 use crate::tests::steps::{Step, command};
 use eu_base::{App, Fault, Status};
 use eu_clock::FirstChooser;
-use eu_core::{Registry, Stepped};
+use eu_core::{Answered, Registry, Stepped};
 use eu_model::Reply;
 use std::alloc::{AllocError, Global};
 
@@ -14,7 +14,7 @@ struct Twins {
     other: Registry,
 }
 
-/// What a registry is asked for: a call, or a step with two replies and a copy.
+/// What a registry is asked for: a call, or a step with a reply for each use and a copy.
 #[derive(Clone, Copy)]
 enum Line {
     Call(Call),
@@ -44,8 +44,15 @@ fn call(alloc: Global, registry: &mut Registry, call: Call, ms: u64) -> Told {
 }
 
 fn word_of(stepped: &Stepped) -> (&'static str, u64) {
-    match stepped.replies.as_slice() {
-        [one, other] if word(one) == word(other) => (word(one).0, stepped.held.len() as u64),
+    let Answered {
+        reply,
+        told,
+        logged,
+    } = &stepped.answered;
+    match logged {
+        Some(logged) if word(reply) == word(told) && word(reply) == word(logged) => {
+            (word(reply).0, stepped.held.len() as u64)
+        }
         _ => ("other", 0),
     }
 }
@@ -53,7 +60,7 @@ fn word_of(stepped: &Stepped) -> (&'static str, u64) {
 fn step(alloc: Global, registry: &mut Registry, step: Step, ms: u64) -> Told {
     let now = at(ms)?;
     let command = command(alloc, step)?;
-    let stepped = registry.step(alloc, &command, now, 2, 1, &mut FirstChooser);
+    let stepped = registry.step(alloc, &command, now, true, 1, &mut FirstChooser);
     drop(command);
     let stepped = stepped?;
     let told = word_of(&stepped);
@@ -170,7 +177,7 @@ fn adopt_and_evict(alloc: Global, twins: &mut Twins) -> bool {
         && calls(alloc, twins, Call::Evict, 1_000_000) == Ok(("evicted", 2))
 }
 
-/// The same in steps, each with two replies and a copy: a client registers twice, a peer's heartbeat is told of the newer instance, a status is set and
+/// The same in steps, each with a reply for each use and a copy: a client registers twice, a peer's heartbeat is told of the newer instance, a status is set and
 /// taken back, and the client leaves.
 fn step_once(alloc: Global, twins: &mut Twins) -> bool {
     let joins = Step::Join("i1", Status::Up, 5, 90);

@@ -6,7 +6,7 @@ use crate::tests::registry::{at, instance, key, tell};
 use crate::tests::texts::push_numbers;
 use eu_base::{Config, Fault, Id, Instance, Moment, Stamp, Status};
 use eu_clock::{Chooser, FirstChooser, ListChooser};
-use eu_core::{Registry, Stepped};
+use eu_core::{Answered, Registry, Stepped};
 use eu_model::{Command, Reply, State};
 use std::alloc::{AllocError, Global};
 
@@ -117,11 +117,14 @@ fn tell_copy(out: &mut String, held: &Instance) -> Result<(), AllocError> {
     push_numbers(out, [held.dirty, u64::from(held.secs)].as_slice())
 }
 
-fn tell_replies(out: &mut String, replies: &[Reply]) -> Result<(), AllocError> {
-    for reply in replies {
-        tell(out, reply)?;
+/// Writes the reply as a journal keeps it, as who asked is told it, and as their log keeps it, where they have one.
+fn tell_replies(out: &mut String, answered: &Answered<Reply>) -> Result<(), AllocError> {
+    tell(out, &answered.reply)?;
+    tell(out, &answered.told)?;
+    match &answered.logged {
+        Some(logged) => tell(out, logged),
+        None => Ok(()),
     }
-    Ok(())
 }
 
 /// Writes of each copy status, stamp and duration.
@@ -134,7 +137,7 @@ fn tell_copies(out: &mut String, copies: &[Instance]) -> Result<(), AllocError> 
 
 /// Writes the replies, and the copies.
 fn tell_step(out: &mut String, stepped: &Stepped) -> Result<(), AllocError> {
-    tell_replies(out, stepped.replies.as_slice())?;
+    tell_replies(out, &stepped.answered)?;
     tell_copies(out, stepped.held.as_slice())?;
     out.push_str("; ")
 }
@@ -156,13 +159,13 @@ fn take<C: Chooser>(
 ) -> Result<(), Fault>
     requires { is_for_peers command.now ≡ false }
 {
-    let taken = registry.step(alloc, command, now, 2, 1, chooser);
+    let taken = registry.step(alloc, command, now, false, 1, chooser);
     let told = tell_taken(out, &taken);
     drop(taken);
     told
 }
 
-/// One step with two replies and one copy, as words.
+/// One step that nobody logs, with one copy, as words.
 fn go<C: Chooser>(
     alloc: Global,
     out: &mut String,

@@ -1,6 +1,7 @@
 //! Lines with what each says, by the table of lines and the limits of their fields.
 use eu_base::{Config, Instance, Key, Moment, Stamp};
 use eu_lines::LineError;
+use eu_model::Command;
 use eu_words::{Line, read_line};
 use std::alloc::{AllocError, Global};
 
@@ -38,11 +39,10 @@ fn tell_settings(text: &mut String, moment: &Moment, config: &Config) -> Result<
     )
 }
 
-/// Writes what a line with a stamp that may be absent says.
-fn tell_stamped(text: &mut String, line: &Line) -> Result<(), AllocError> {
-    match line {
-        Line::Renew {
-            moment,
+/// Writes a moment and a command on a status, or a heartbeat.
+fn tell_stamped(text: &mut String, moment: &Moment, command: &Command) -> Result<(), AllocError> {
+    match command {
+        Command::Renew {
             key,
             dirty,
             overridden,
@@ -52,8 +52,7 @@ fn tell_stamped(text: &mut String, line: &Line) -> Result<(), AllocError> {
             let dirty = number(dirty);
             write!(text, " {dirty:?} {overridden:?} {replicated}")
         }
-        Line::SetStatus {
-            moment,
+        Command::SetStatus {
             key,
             status,
             dirty,
@@ -63,8 +62,7 @@ fn tell_stamped(text: &mut String, line: &Line) -> Result<(), AllocError> {
             let dirty = number(dirty);
             write!(text, " {status:?} {dirty:?} {replicated}")
         }
-        Line::UnsetStatus {
-            moment,
+        Command::UnsetStatus {
             key,
             status,
             dirty,
@@ -78,20 +76,39 @@ fn tell_stamped(text: &mut String, line: &Line) -> Result<(), AllocError> {
     }
 }
 
-/// Writes what a line says of the tasks for a peer.
-fn tell_peer(text: &mut String, line: &Line) -> Result<(), AllocError> {
-    match line {
-        Line::Drain { moment, peer } => write!(text, "drain {} {peer}", moment.ms()),
-        Line::Landed {
-            moment,
-            peer,
-            codes,
-        } => {
+/// Writes a moment and a command on the tasks for a peer, or on a status.
+fn tell_peer(text: &mut String, moment: &Moment, command: &Command) -> Result<(), AllocError> {
+    match command {
+        Command::Drain { peer } => write!(text, "drain {} {peer}", moment.ms()),
+        Command::Landed { peer, codes } => {
             let codes = codes.as_slice();
             write!(text, "landed {} {peer} {codes:?}", moment.ms())
         }
-        Line::Lost { moment, peer } => write!(text, "lost {} {peer}", moment.ms()),
-        _ => tell_stamped(text, line),
+        Command::Lost { peer } => write!(text, "lost {} {peer}", moment.ms()),
+        _ => tell_stamped(text, moment, command),
+    }
+}
+
+/// Writes a moment and a command.
+fn tell_command(text: &mut String, moment: &Moment, command: &Command) -> Result<(), AllocError> {
+    match command {
+        Command::Register {
+            instance,
+            replicated,
+        } => {
+            tell_instance(text, "register", moment, instance)?;
+            write!(text, " {replicated}")
+        }
+        Command::Cancel { key, replicated } => {
+            tell_key(text, "cancel", moment, key)?;
+            write!(text, " {replicated}")
+        }
+        Command::Adopt { instance } => tell_instance(text, "adopt", moment, instance),
+        Command::Roll => write!(text, "roll {}", moment.ms()),
+        Command::Update => write!(text, "update {}", moment.ms()),
+        Command::Reconfigure { config } => tell_settings(text, moment, config),
+        Command::Evict => write!(text, "evict {}", moment.ms()),
+        _ => tell_peer(text, moment, command),
     }
 }
 
@@ -99,31 +116,10 @@ fn tell_peer(text: &mut String, line: &Line) -> Result<(), AllocError> {
 fn tell(text: &mut String, line: &Line) -> Result<(), AllocError> {
     match line {
         Line::Open(opening) => write!(text, "open {} {}", opening.expected, opening.peers),
-        Line::Register {
-            moment,
-            instance,
-            replicated,
-        } => {
-            tell_instance(text, "register", moment, instance)?;
-            write!(text, " {replicated}")
-        }
-        Line::Cancel {
-            moment,
-            key,
-            replicated,
-        } => {
-            tell_key(text, "cancel", moment, key)?;
-            write!(text, " {replicated}")
-        }
-        Line::Adopt { moment, instance } => tell_instance(text, "adopt", moment, instance),
-        Line::Roll { moment } => write!(text, "roll {}", moment.ms()),
-        Line::Update { moment } => write!(text, "update {}", moment.ms()),
-        Line::Reconfigure { moment, config } => tell_settings(text, moment, config),
-        Line::Evict { moment } => write!(text, "evict {}", moment.ms()),
+        Line::Apply { moment, command } => tell_command(text, moment, command),
         Line::Look { moment, key } => tell_key(text, "look", moment, key),
         Line::Counts { moment } => write!(text, "counts {}", moment.ms()),
         Line::Page { moment } => write!(text, "page {}", moment.ms()),
-        _ => tell_peer(text, line),
     }
 }
 

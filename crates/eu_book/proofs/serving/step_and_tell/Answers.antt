@@ -1,11 +1,9 @@
-use Rattle.std.proofs.Common.{◌∙◌, ap, inl, inr, map, subst, sym}
-use Rattle.std.specs.Prelude.{Ok, replicate}
+use Rattle.std.proofs.Common.{◌∙◌, ap, inl, inr, map, sym}
 use Rattle.std.proofs.lemmas.Result.{err_from_is_err_and}
 use Rattle.eu_core.specs.Stepped.{copies_of, instance_held}
 use Rattle.eu_model.specs.Server.{task_for, with_task}
-use Rattle.eu_model.specs.ServerAnswers.{ServerAnswers}
 use Rattle.eu_model.proofs.ServedLemmas.{registry_refuses}
-use Rattle.eu_book.specs.Peers.{queues_of, served}
+use Rattle.eu_book.specs.Peers.{queues_of}
 use Rattle.eu_book.proofs.PeerLemmas.{told_all}
 use Rattle.eu_book.proofs.serving.step_and_tell.Goals as goal
 
@@ -27,11 +25,10 @@ returns-in_err-stepped-clause-refused g c =
 pub returns-clause-answers : goal.returns-clause-answers
 returns-clause-answers g c =
     let acts = c.in_ok-stepped.ensures.ok.acts in
+    let reply = c.in_ok-stepped.stepped.answered.reply in
     let new = c.step.new.self in
     let command = c.args.command.now in
-    let told = ap (λ a. a.reply) (c.split-answered.ensures acts.reply (acts.replies_are ∙ ap (λ n. replicate n acts.reply) c.replies_for.ensures)) in
-    let held = acts.instances_are ∙ ap (λ n. copies_of n (instance_held new command)) (c.count-count.ensures ∙ sym c.in_ok-reserve.ensures.count) in
+    let held = acts.held_are ∙ ap (λ n. copies_of n (instance_held new command)) (c.count-count.ensures ∙ sym c.in_ok-reserve.ensures.count) in
     let queues = c.tell.ensures (instance_held new command) held
-    ∙ (λ i. map (with_task (task_for command c.args.moment (told i) (instance_held new command))) (c.in_ok-reserve.ensures.queues i)) in
-    subst (λ r. ServerAnswers (served c.args.registry.now c.args.peers.now) command c.args.moment (Ok r) (served new c.tell.new.self)) (sym told)
-    (told_all c.args.registry.now c.args.peers.now c.tell.new.self command c.args.moment acts.reply new c.requires.kind acts.answers queues)
+    ∙ (λ i. map (with_task (task_for command c.args.moment reply (instance_held new command))) (c.in_ok-reserve.ensures.queues i)) in
+    told_all c.args.registry.now c.args.peers.now c.tell.new.self command c.args.moment reply new c.requires.kind acts.answers queues

@@ -1,11 +1,11 @@
-use Rattle.std.proofs.Common.{string_bytes}
-use Rattle.eu_words.specs.Lines.{said_of}
+use Rattle.std.proofs.Common.{refl, string_bytes}
+use Rattle.eu_words.specs.Lines.{said_by}
 use Rattle.eu_server.proofs.Desks.{told}
 use Rattle.eu_server.proofs.desk.answer_command.Goals as goal
 
 pub returns-clause-ok : goal.returns-clause-ok
 returns-clause-ok g c =
-    told g.C.Chooser.asks c.args.chooser.now c.args.book.now c.apply-answer.new.self c.apply-answer.new.chooser c.in-Some.command c.in-Some.moment (string_bytes c.print_answer-printed.new.out)
-    (said_of c.args.line) c.apply-answer.result c.print_answer-printed.result (rw c.in-Some.is at c.command_of.ensures.some)
+    told g.C.Chooser.asks c.args.chooser.now c.args.book.now c.apply-answer.new.self c.apply-answer.new.chooser c.args.command c.args.moment (string_bytes c.print_answer-printed.new.out)
+    (said_by c.args.moment c.args.command) c.apply-answer.result c.print_answer-printed.result refl
     c.apply-answer.ensures.applied c.apply-answer.ensures.refused c.apply-answer.ensures.err c.apply-answer.ensures.unasked
     c.print_answer-printed.ensures.known (rw (c.requires, c.settled_line-settled.ensures) at c.print_answer-printed.ensures.text)

@@ -1,7 +1,7 @@
 use Rattle.std.proofs.Common.{string_bytes}
 use Rattle.eu_core.specs.Shown.{shown}
 use Rattle.eu_model.specs.View.{one, counts}
-use Rattle.eu_words.specs.Lines.{said_of}
+use Rattle.eu_words.specs.Lines.{said_by}
 use Rattle.eu_server.specs.Texts.{look_text, counts_text}
 use Rattle.eu_server.proofs.Desks.{answered, sees, pages}
 use Rattle.eu_server.proofs.desk.answer_opened.Goals as goal
@@ -21,7 +21,7 @@ returns-in-Page-clause-ok g c =
     rw c.in-Page.is (pages g.C.Chooser.asks c.args.chooser.now c.args.book.now c.in-Page.moment c.answer_page.result (string_bytes c.answer_page.new.out)
     (rw (c.requires, c.registry-in-Page.ensures) at c.answer_page.ensures.text))
 
-pub returns-in_default-clause-ok : goal.returns-in_default-clause-ok
-returns-in_default-clause-ok g c =
-    answered g.C.Chooser.asks c.args.chooser.now c.args.book.now c.answer_command.new.book c.answer_command.new.chooser (said_of c.args.line) c.answer_command.result
-    (string_bytes c.answer_command.new.out) c.answer_command.ensures.ok
+pub returns-in-Apply-clause-ok : goal.returns-in-Apply-clause-ok
+returns-in-Apply-clause-ok g c =
+    rw c.in-Apply.is (answered g.C.Chooser.asks c.args.chooser.now c.args.book.now c.answer_command.new.book c.answer_command.new.chooser (said_by c.in-Apply.moment c.in-Apply.command) c.answer_command.result
+    (string_bytes c.answer_command.new.out) c.answer_command.ensures.ok)

@@ -1,16 +1,26 @@
-use Rattle.std.proofs.Common.{refl}
+use Rattle.std.proofs.Common.{◌∙◌, ap, subst, sym}
+use Rattle.std.specs.Prelude.{Ok, replicate}
+use Rattle.eu_model.specs.declared.commands.Command.TheVariants.{Evict}
 use Rattle.eu_model.specs.declared.commands.Reply.TheVariants.{Evicted}
+use Rattle.eu_model.specs.Answers.{Answers}
+use Rattle.eu_core.specs.Answered.{answered}
 use Rattle.eu_core.proofs.registry.Registry.step_evict.Goals as goal
+
+pub split-requires : goal.split-requires
+split-requires g c =
+    let vs = c.in_ok-passed.passed.victims.items in
+    (Evicted vs, c.in_ok-passed.ensures.replies ∙ ap (λ n. replicate n (Evicted vs)) c.replies_for.ensures)
 
 pub returns-clause-ok : goal.returns-clause-ok
 returns-clause-ok g c = λ m.
     let vs = c.in_ok-passed.passed.victims.items in
+    let same = c.split.ensures (Evicted vs) (c.in_ok-passed.ensures.replies ∙ ap (λ n. replicate n (Evicted vs)) c.replies_for.ensures) in
+    let told = ap (λ a. a.reply) same in
     record {
       acts = record {
-        reply = Evicted vs;
-        answers = c.in_ok-passed.ensures.answers;
-        replies_are = c.in_ok-passed.ensures.replies;
-        instances_are = c.new.ensures.items;
+        answers = subst (λ r. Answers c.args.self.now Evict c.args.moment (Ok r) c.pass.new.self) (sym told) c.in_ok-passed.ensures.answers;
+        same = same ∙ ap (answered c.args.logs) (sym told);
+        held_are = c.new.ensures.items;
       };
-      chooses = (vs, refl, c.in_ok-passed.ensures.drawn);
+      chooses = (vs, told, c.in_ok-passed.ensures.drawn);
     }

@@ -1,10 +1,5 @@
-use Rattle.std.proofs.Common.{refl}
-use Rattle.eu_model.specs.declared.commands.Command.TheVariants.{Roll}
-use Rattle.eu_core.proofs.StepLemmas.{no_memory, memory_refused, roll_plain}
+use Rattle.eu_core.proofs.StepLemmas.{roll_plain}
 use Rattle.eu_core.proofs.registry.Registry.step_roll.Goals as goal
 
-pub returns-in_err-room-clause-refused : goal.returns-in_err-room-clause-refused
-returns-in_err-room-clause-refused c = no_memory c.from_residual.result _ c.from_residual.ensures.1 (λ t. memory_refused Roll t c.args.self.now (λ s. refl))
-
-pub fill-requires-clause-plain : goal.fill-requires-clause-plain
-fill-requires-clause-plain c = roll_plain 0 c.args.self.now c.roll-reply.new.self c.roll-reply.result (c.roll-reply.ensures 0)
+pub on_no_lease-requires : goal.on_no_lease-requires
+on_no_lease-requires c = roll_plain 0 c.args.self.now c.roll-reply.new.self c.roll-reply.result (c.roll-reply.ensures 0)

@@ -1,6 +1,6 @@
 -- The equal replies of a command
 use Rattle.std.specs.Prelude.{ℕ, Bool, Option, Some, None, if◌then◌else◌}
-use Rattle.eu_book.specs.declared.replies.Answered.{Answered}
+use Rattle.eu_core.specs.declared.replies.Answered.{Answered}
 
 -- one for the journal and one for who asked; one more, where they log it
 abbrev pub replies_for : Bool → ℕ

@@ -1,5 +1,5 @@
 -- What is copied for each peer, what each is told, and what is done with one peer's outbox
-use Rattle.std.proofs.Common.{◌≡◌, ◌≢◌, inr, ℕ, zero, suc, ◌<◌, true, false, true≢false, List, [], ◌∷◌, ◌++◌, length, map, Option, Some, None, Result, OnOk, OnErr, refl, sym, ap, ◌∙◌, subst, arith}
+use Rattle.std.proofs.Common.{◌≡◌, ◌≢◌, ◌⊎◌, inl, inr, ℕ, zero, suc, ◌<◌, true, false, true≢false, List, [], ◌∷◌, ◌++◌, length, map, Option, Some, None, Result, OnOk, OnErr, refl, sym, ap, ◌∙◌, subst, arith}
 use Rattle.std.specs.Prelude.{Ok, Err, ◌==◌, Bool, if◌then◌else◌, is_some, not, option_to_list, replicate, slice_get, slice_index_or, slice_set}
 use Rattle.std.proofs.Math.Seq.{map-set_same}
 use Rattle.std.specs.Option.{option_map}
@@ -70,11 +70,16 @@ untold (UnsetStatus k suggested dirty false) t r i e = cc
 untold c t r i e = refl
 
 -- the registry's step alone, where nobody is told of it
-pub told_nobody : (p : Plain) (boxes : List Boxed) (c : Command) (t : ℕ) (reply : Reply) (new : Plain) → is_for_peers c ≡ false → told_key c ≡ None → Answers p c t (Ok reply) new
-    → ServerAnswers (served p boxes) c t (Ok reply) (served new boxes)
+untold_queues : (boxes : List Boxed) (c : Command) (t : ℕ) (reply : Reply) (i : Option Instance) → (told_key c ≡ None) ⊎ (length boxes ≡ 0)
+    → map (with_task (task_for c t reply i)) (queues_of boxes) ≡ queues_of boxes
+untold_queues boxes c t reply i (inl none) = ap (λ x. map (with_task x) (queues_of boxes)) (untold c t reply i none) ∙ map-id (queues_of boxes)
+untold_queues [] c t reply i (inr none) = refl
+untold_queues (b ∷ boxes) c t reply i (inr none) = absurd (omega (arith, none))
+
+pub told_nobody : (p : Plain) (boxes : List Boxed) (c : Command) (t : ℕ) (reply : Reply) (new : Plain) → is_for_peers c ≡ false → (told_key c ≡ None) ⊎ (length boxes ≡ 0)
+    → Answers p c t (Ok reply) new → ServerAnswers (served p boxes) c t (Ok reply) (served new boxes)
 told_nobody p boxes c t reply new kind none answers =
-    let i = held_under new (key_of c) in
-    subst (λ qs. ServerAnswers (served p boxes) c t (Ok reply) (server new qs)) (ap (λ x. map (with_task x) (queues_of boxes)) (untold c t reply i none) ∙ map-id (queues_of boxes))
+    subst (λ qs. ServerAnswers (served p boxes) c t (Ok reply) (server new qs)) (untold_queues boxes c t reply (held_under new (key_of c)) none)
     (registry_answers p (queues_of boxes) c t reply new kind answers)
 
 -- the registry's step, of which each peer is told

@@ -1,5 +1,6 @@
 //! What a registry and the outboxes of its peers answer together.
-ghost use Rattle.std.specs.Prelude.{◌≡◌, false, None, Some, Ok, Err, replicate, IfOk, IfErr, OnErr};
+ghost use Rattle.std.specs.Prelude.{◌≡◌, ◌⊎◌, false, length, None, Some, Ok, Err, replicate, IfOk, IfErr, IfSome, OnErr};
+ghost use Rattle.std.specs.Borrow.{Bor};
 ghost use Rattle.eu_base.specs.declared.names.Key.{Key};
 ghost use Rattle.eu_core.specs.Stepped.{Chooses};
 ghost use Rattle.eu_model.specs.Server.{is_for_peers};
@@ -42,7 +43,7 @@ pub(crate) fn serve<C: Chooser>(
             peers.lost(*peer, moment)?;
             Ok(plain(alloc, Reply::Settled, logs))
         }
-        command => match told_key(command) {
+        command => match key_told(command, peers) {
             Some(key) => {
                 step_and_tell(alloc, registry, peers, command, key, moment, chooser, logs)
             }
@@ -51,7 +52,18 @@ pub(crate) fn serve<C: Chooser>(
     }
 }
 
-/// The step of a command of which the peers aren't told.
+/// The key of the lease of which the peers may be told by a command, where there are peers.
+fn key_told<'a>(command: &'a Command, peers: &Peers) -> Option<&'a Key>
+    ensures some { IfSome result (λ (key : Bor Key). told_key command.entry.now ≡ Some key.now) }
+    ensures none { result ≡ None → (told_key command.entry.now ≡ None) ⊎ (length peers.now ≡ 0) }
+{
+    if peers.count() == 0 {
+        return None;
+    }
+    told_key(command)
+}
+
+/// The step of a command of which nobody is told.
 fn step<C: Chooser>(
     alloc: Global,
     registry: &mut Registry,
@@ -62,7 +74,7 @@ fn step<C: Chooser>(
     logs: bool,
 ) -> Result<Answered<Reply>, Fault>
     requires kind { is_for_peers command.now ≡ false }
-    requires untold { told_key command.now ≡ None }
+    requires untold { (told_key command.now ≡ None) ⊎ (length peers.now ≡ 0) }
     ensures same { IfOk result (λ a. a ≡ answered logs a.reply) }
     ensures answers { IfOk result (λ a. ServerAnswers (served registry.old peers.now) command.now moment (Ok a.reply) (served registry.new peers.now)) }
     ensures chooses { IfOk result (λ a. Chooses C.asks registry.old chooser.old command.now moment a.reply chooser.new) }

@@ -1,16 +1,18 @@
 -- Words cut at spaces, digits, and names
-use Rattle.std.proofs.Common.{◌≡◌, ℕ, zero, suc, ◌+◌, ◌-◌, ◌*◌, ◌^◌, ◌<◌, ◌≤◌, Bool, true, false, ◌&&◌, List, [], ◌∷◌, length, get_or, take, drop, refl, sym, ap, ◌∙◌, arith, None, nat_lt, nat_le, ◌==◌, cond, eq-eqb}
+use Rattle.std.proofs.Common.{◌≡◌, ℕ, zero, suc, ◌+◌, ◌-◌, ◌*◌, ◌^◌, ◌<◌, ◌≤◌, Bool, true, false, ◌&&◌, List, [], ◌∷◌, ◌++◌, length, length-append, add-one, get_or, take, drop, refl, sym, ap, ◌∙◌, arith, None, nat_lt, nat_le, ◌==◌, cond, eq-eqb}
 use Rattle.std.proofs.lemmas.Bool.{ne_eqb, false_from_ne_true, false≢true, leb-true}
 use Rattle.std.proofs.lemmas.Str.{IsUtf8-from_is_utf8, is_utf8-from_IsUtf8, digit_value_digit}
-use Rattle.std.proofs.Math.Nat.{pow-suc}
+use Rattle.std.proofs.Math.Nat.{pow-suc, pow-le-pow_right}
 use Rattle.std.specs.List.{onto_first}
 use Rattle.std.specs.Str.{all_ascii_digits, is_utf8, IsUtf8}
 use Rattle.std.specs.Char.{is_ascii_digit, digit_value}
-use Rattle.std.specs.Prelude.{Result, Ok, Err}
+use Rattle.std.specs.Prelude.{Option, Some, Result, Ok, Err, if◌then◌else◌}
+use Rattle.std.specs.Str.Parse.{digits_value}
+use Rattle.std.proofs.lemmas.Int.Digits.{digits_value_push}
 use Rattle.eu_base.specs.declared.faults.Fault.{Fault}
 use Rattle.eu_base.specs.declared.faults.Fault.TheVariants as faults
 use Rattle.eu_base.specs.Fault.{fault_number}
-use Rattle.eu_words.specs.Words.{words_of, end_at, is_name, number}
+use Rattle.eu_words.specs.Words.{◌>>=◌, words_of, end_at, is_name, digits, number}
 
 -- the first word ends before the first space
 pub cut_here : (text : List ℕ) (i : ℕ) → i < length text → ((k : ℕ) → k < i → get_or text k 0 ≡ 32 → ⊥) → get_or text i 0 ≡ 32
@@ -66,12 +68,37 @@ not_digits (x ∷ xs) zero lt d = rw d refl
 not_digits (x ∷ xs) (suc i) lt d = and_false (is_ascii_digit x) (all_ascii_digits xs) (not_digits xs i (omega arith) d)
 
 -- a word that isn't all digits is no number
-pub no_number : (w : List ℕ) → all_ascii_digits w ≡ false → number w ≡ None
-no_number w h = rw (and_false (nat_lt 0 (length w) && nat_lt (length w) 21) (all_ascii_digits w) h) refl
+pub no_digits : (w : List ℕ) → all_ascii_digits w ≡ false → digits w ≡ None
+no_digits w h = rw (and_false (nat_lt (length w) 20) (all_ascii_digits w) h) refl
+
+all_digits_push : (w : List ℕ) (x : ℕ) → all_ascii_digits (w ++ x ∷ []) ≡ (all_ascii_digits w && is_ascii_digit x)
+all_digits_push [] x = elim (is_ascii_digit x) as (λ b. (b && true) ≡ b) [ true ↦ refl | false ↦ refl ]
+all_digits_push (y ∷ w) x = elim (is_ascii_digit y) as (λ b. (b && all_ascii_digits (w ++ x ∷ [])) ≡ ((b && all_ascii_digits w) && is_ascii_digit x)) [ true ↦ all_digits_push w x | false ↦ refl ]
+
+number_by : (short all digit : Bool) (v d : ℕ) → (if short && (all && digit) then Some (v * 10 + d) else None) ≡ (if short && all then Some v else None) >>= (λ v. if digit then Some (v * 10 + d) else None)
+number_by true true true v d = refl
+number_by true true false v d = refl
+number_by true false digit v d = refl
+number_by false all digit v d = refl
+
+short_push : (n : ℕ) → (nat_lt 0 (suc n) && nat_lt (suc n) 21) ≡ nat_lt n 20
+short_push n = grind arith
+
+-- a number is some digits and one more
+pub number_push : (w : List ℕ) (x : ℕ) → number (w ++ x ∷ []) ≡ digits w >>= (λ v. if is_ascii_digit x then Some (v * 10 + digit_value x) else None)
+number_push w x =
+    rw (length-append w (x ∷ []), add-one, short_push (length w), all_digits_push w x, digits_value_push 10 w x)
+    (number_by (nat_lt (length w) 20) (all_ascii_digits w) (is_ascii_digit x) (digits_value 10 w) (digit_value x))
 
 -- the value with one digit more
 pub one_more : (v d i : ℕ) → v < 10 ^ i → d < 10 → v * 10 + d < 10 ^ suc i
 one_more v d i small digit = rw pow-suc (omega arith)
+
+-- fewer than twenty digits fit
+pub fits_more : (v d i : ℕ) → v < 10 ^ i → i < 19 → d < 10 → v * 10 + d < 2 ^ 64
+fits_more v d i small few digit =
+    let most : 10 ^ i ≤ 10 ^ 18 = pow-le-pow_right {n = 10} (omega arith) {i = i} {j = 18} (omega (arith, few)) in
+    omega (arith, small, most, digit)
 
 -- a digit's value
 pub digit_is : (c : ℕ) → is_ascii_digit c ≡ true → (digit_value c ≡ c - 48) × (c - 48 < 10)

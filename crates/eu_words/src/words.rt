@@ -2,7 +2,7 @@
 ghost use Rattle.std.specs.Prelude.{◌≡◌, ◌≢◌, ◌∷◌, ◌^◌, ◌<◌, ◌≤◌, List, ℕ, IfOk, IsSome, Err};
 ghost use Rattle.std.specs.Str.{bytes_eq};
 ghost use Rattle.eu_base.specs.Settings.{settings_of};
-ghost use Rattle.eu_words.specs.Words.{words_of, words_left, number, Gives, word_at, absent_at, number_at, moment_at, app_at, id_at, key_at, status_at, maybe_status_at, secs_at, number_of, stamp_at, dirty_at, source_at, peers_at, u32_at, peer_at, switch_at, settings_at, code_at, codes_of, IsCodes, end_at};
+ghost use Rattle.eu_words.specs.Words.{words_of, words_left, number, digits, Gives, word_at, absent_at, number_at, moment_at, app_at, id_at, key_at, status_at, maybe_status_at, secs_at, number_of, stamp_at, dirty_at, source_at, peers_at, u32_at, peer_at, switch_at, settings_at, code_at, codes_of, IsCodes, end_at};
 
 use eu_base::{App, Codes, Config, Fault, Id, Instance, Key, Moment, Stamp, Status};
 use eu_lines::LineError;
@@ -330,15 +330,27 @@ fn cut(text: &[u8]) -> (&[u8], Option<&[u8]>)
 fn number(word: &[u8]) -> Option<u128>
     ensures { result ≡ number word.now }
 {
-    if word.is_empty() || word.len() > 20 {
+    let (last, front) = word.split_last()?;
+    let value = digits(front)?;
+    if !last.is_ascii_digit() {
         return None;
     }
-    let mut value: u128 = 0;
+    Some(u128::from(value) * 10 + u128::from(*last - b'0'))
+}
+
+/// Up to 19 decimal digits as a number, 0 for none: that many fit. None for any other word.
+fn digits(word: &[u8]) -> Option<u64>
+    ensures { result ≡ digits word.now }
+{
+    if word.len() > 19 {
+        return None;
+    }
+    let mut value = 0;
     for byte in word {
         if !byte.is_ascii_digit() {
             return None;
         }
-        value = value * 10 + u128::from(*byte - b'0');
+        value = value * 10 + u64::from(*byte - b'0');
     }
     Some(value)
 }

@@ -1,23 +1,31 @@
-use Rattle.std.proofs.Common.{◌≡◌, true, false, get_or, arith, add-one, refl, sym, ◌∙◌}
-use Rattle.std.proofs.lemmas.Int.Digits.{digits_value_more}
-use Rattle.std.specs.Char.{is_ascii_digit}
-use Rattle.eu_words.proofs.Texts.{digits_more, not_digits, one_more, no_number, digit_is}
+use Rattle.std.proofs.Common.{◌≡◌, ◌+◌, ◌*◌, false, true, sym, ap, ◌∙◌, None, Some}
+use Rattle.std.specs.Prelude.{if◌then◌else◌}
+use Rattle.std.specs.Char.{digit_value, is_ascii_digit}
+use Rattle.eu_words.specs.Words.{◌>>=◌, number}
+use Rattle.eu_words.proofs.Texts.{digit_is, number_push}
 use Rattle.eu_words.proofs.words.number.Goals as goal
+
+pub returns-in_err-value : goal.returns-in_err-value
+returns-in_err-value c =
+    let last = c.in_ok-last.last.now in
+    let none = sym c.digits.ensures ∙ c.in_err-value.was in
+    c.from_residual-in_err-value.ensures
+    ∙ sym (ap number c.in_ok-last.ensures.cases.0 ∙ number_push c.in_ok-last.front.now last ∙ ap (λ o. o >>= (λ v. if is_ascii_digit last then Some (v * 10 + digit_value last) else None)) none)
 
 pub returns-then-not-is_ascii_digit : goal.returns-then-not-is_ascii_digit
 returns-then-not-is_ascii_digit c =
-    let here : is_ascii_digit (get_or c.args.word.now c.loop-byte.byte-index 0) ≡ false = sym c.is_ascii_digit.ensures.value ∙ c.if-not-is_ascii_digit.true in
-    sym (no_number c.args.word.now (not_digits c.args.word.now c.loop-byte.byte-index c.loop-byte-test.true here))
+    let last = c.in_ok-last.last.now in
+    let some = sym c.digits.ensures ∙ c.in_ok-value.was in
+    let no : is_ascii_digit last ≡ false = sym c.is_ascii_digit.ensures.value ∙ c.if-not-is_ascii_digit.true in
+    sym (ap number c.in_ok-last.ensures.cases.0 ∙ number_push c.in_ok-last.front.now last ∙ ap (λ o. o >>= (λ v. if is_ascii_digit last then Some (v * 10 + digit_value last) else None)) some
+    ∙ ap (λ b. if b then Some (c.in_ok-value.value * 10 + digit_value last) else None) no)
 
-pub loop-byte-preserved : goal.loop-byte-preserved
-loop-byte-preserved c =
-    let w = c.args.word.now in
-    let i = c.loop-byte.byte-index in
-    let here : is_ascii_digit (get_or w i 0) ≡ true = sym c.is_ascii_digit.ensures.value ∙ c.if-not-is_ascii_digit.false in
-    let d = digit_is (get_or w i 0) here in
-    let more = digits_value_more 10 w i c.loop-byte-test.true in
-    record {
-      digits = rw add-one (digits_more w i c.loop-byte-test.true c.loop-byte.invariant.digits here);
-      value = rw (more, c.from.ensures, ← c.loop-byte.invariant.value, d.0) refl;
-      small = rw (add-one, c.from.ensures) (one_more _ _ i c.loop-byte.invariant.small (omega (arith, d.1)));
-    }
+pub returns : goal.returns
+returns c =
+    let last = c.in_ok-last.last.now in
+    let some = sym c.digits.ensures ∙ c.in_ok-value.was in
+    let yes : is_ascii_digit last ≡ true = sym c.is_ascii_digit.ensures.value ∙ c.if-not-is_ascii_digit.false in
+    let digit = (digit_is last yes).0 in
+    (λ i. Some (c.from.ensures i * 10 + (c.from-2.ensures ∙ sym digit) i))
+    ∙ sym (ap number c.in_ok-last.ensures.cases.0 ∙ number_push c.in_ok-last.front.now last ∙ ap (λ o. o >>= (λ v. if is_ascii_digit last then Some (v * 10 + digit_value last) else None)) some
+    ∙ ap (λ b. if b then Some (c.in_ok-value.value * 10 + digit_value last) else None) yes)

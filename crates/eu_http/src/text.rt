@@ -7,6 +7,9 @@ use crate::response::{Content, Response};
 use http::StatusCode;
 use std::alloc::{AllocError, Global};
 
+/// As many bytes as the head of a response may have.
+const HEAD_BYTES: usize = 128;
+
 impl Content {
     fn as_str(&self) -> &str
         ensures { result.now ≡ spec.text_of (content_of self.now) }
@@ -58,7 +61,7 @@ pub fn print(alloc: Global, response: &Response, close: bool) -> Result<String, 
 {
     let status = response.status;
     let content = response.content.as_str();
-    let mut text = String::new(alloc);
+    let mut text = String::with_capacity(alloc, content.len().saturating_add(HEAD_BYTES))?;
     write!(text, "HTTP/1.1 {status}\r\n")?;
     push_type(&mut text, &response.content)?;
     push_length(&mut text, status, content)?;

@@ -1,7 +1,8 @@
 //! The values of a query.
-ghost use Rattle.std.specs.Prelude.{◌≡◌, ◌<◌, ◌^◌, IfOk, map, option_map};
+ghost use Rattle.std.specs.Prelude.{◌≡◌, ◌<◌, ◌^◌, true, IfOk, map, option_map};
 ghost use Rattle.std.specs.Cow.{cow_str_bytes};
 ghost use Rattle.std.specs.Str.{bytes_eq, str_to_ascii_uppercase};
+ghost use Rattle.form_urlencoded.specs.Form.{IsPlainText};
 ghost use Rattle.eu_routes.specs.Chain.{Gives};
 ghost use Rattle.eu_base.specs.Settings.{settings_of};
 ghost use Rattle.eu_routes.specs.Query as spec;
@@ -71,6 +72,28 @@ pub fn read_status(text: &str) -> Option<Status>
     None
 }
 
+/// Whether bytes stand for themselves: ASCII without an escape (`application/x-www-form-urlencoded`, URL Standard, section 5.1).
+fn is_plain(bytes: &[u8]) -> bool
+    ensures { result ≡ true → IsPlainText bytes.now }
+{
+    for byte in bytes {
+        if !byte.is_ascii() || *byte == b'+' || *byte == b'%' {
+            return false;
+        }
+    }
+    true
+}
+
+/// Whether bytes stand for this name. Takes no memory where they stand for themselves.
+fn is_named(alloc: Global, bytes: &[u8], name: &str) -> Result<bool, AllocError>
+    ensures { IfOk result (λ same. same ≡ bytes_eq (spec.text_of bytes.now) name.now) }
+{
+    if is_plain(bytes) {
+        return Ok(bytes == name.as_bytes());
+    }
+    Ok(decode(alloc, bytes)?.as_str() == name)
+}
+
 /// The value of the first pair of that name in a query, if one has it. A name or a value borrows the query where nothing in
 /// it is encoded.
 ///
@@ -84,7 +107,7 @@ fn value_at<'q>(
     ensures { IfOk result (λ value. option_map cow_str_bytes value ≡ spec.value_at name.now query.now) }
 {
     for (pair_name, value) in raw_pairs(query.as_bytes()) {
-        if decode(alloc, pair_name)?.as_str() == name {
+        if is_named(alloc, pair_name, name)? {
             return Ok(Some(decode(alloc, value)?));
         }
     }

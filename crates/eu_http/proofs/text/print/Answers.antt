@@ -8,5 +8,5 @@ use Rattle.eu_http.proofs.text.print.Goals as goal
 pub returns : goal.returns
 returns c =
     let r = response_of c.args.response.now in
-    rw (c.in_ok-push_str-2.ensures.bytes, c.in_ok-push_str.ensures.bytes, c.in_ok-push_close.ensures, c.in_ok-push_length.ensures, c.in_ok-push_type.ensures, c.in_ok-write.ensures.bytes, c.new-text.ensures.bytes, c.as_str-content.ensures)
+    rw (c.in_ok-push_str-2.ensures.bytes, c.in_ok-push_str.ensures.bytes, c.in_ok-push_close.ensures, c.in_ok-push_length.ensures, c.in_ok-push_type.ensures, c.in_ok-write.ensures.bytes, c.in_ok-text.ensures.bytes, c.as_str-content.ensures)
     (in_order (line (codes "HTTP/1.1 " ++ status_text r.status)) (type_line r.content) (length_line r.status (text_of r.content)) (close_line c.args.close) (line []) (text_of r.content))

@@ -80,7 +80,7 @@ def request():
     parts += box(last, 230, width, "proved", "journal", ["commands, replies"])
     parts += arrow(last, 262, last - gap - width + 0, 262)
     parts += box(last - gap - 2 * width, 230, width, "proved", "auditor", ["yes or no"])
-    parts += box(10, 230, 2 * width + gap, "proved", "the rule book: the lease machine", ["what all of these are proved against"])
+    parts += box(10, 230, 2 * width + gap, "trusted", "the rule book: the lease machine", ["what all of these are proved against: read it"])
     parts += arrow(last - gap - 2 * width, 262, 10 + 2 * width + gap, 262)
     return svg(860, 310, parts + legend(10, 150, "proved", "tested", "trusted"))
 

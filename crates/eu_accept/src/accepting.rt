@@ -15,6 +15,9 @@ use std::time::Duration;
 pub(crate) trait SetUp: Sized + Drop {
     /// Has it send each response at once, and wait no longer than that. Where that fails, the connection is gone.
     fn set_up(self, timeouts: Timeouts) -> io::Result<Self>;
+
+    /// Its second side.
+    fn second_side(&self) -> io::Result<Self>;
 }
 
 impl SetUp for TcpStream {
@@ -23,6 +26,10 @@ impl SetUp for TcpStream {
         self.set_read_timeout(Some(time_of(timeouts.read)))?;
         self.set_write_timeout(Some(time_of(timeouts.write)))?;
         Ok(self)
+    }
+
+    fn second_side(&self) -> io::Result<TcpStream> {
+        self.try_clone()
     }
 }
 
@@ -85,11 +92,7 @@ fn taken<S: SetUp>(accepted: io::Result<S>, timeouts: Timeouts) -> io::Result<Op
 }
 
 /// Waits for the next connection. An error is that of an `accept` that isn't made again.
-pub(crate) fn accept<R: Wait, L: Listens>(
-    rt: &R,
-    listener: &L,
-    timeouts: Timeouts,
-) -> io::Result<L::Stream>
+fn accept<R: Wait, L: Listens>(rt: &R, listener: &L, timeouts: Timeouts) -> io::Result<L::Stream>
     ensures failed { IfErr result (λ e. is_passing (error_kind e) ≡ false) }
 {
     for _ in rt.forever() {
@@ -101,7 +104,7 @@ pub(crate) fn accept<R: Wait, L: Listens>(
 }
 
 /// The two sides of a connection, of which the second one was to be made. An error is that of making it.
-fn both(stream: TcpStream, second: io::Result<TcpStream>) -> io::Result<(TcpStream, TcpStream)>
+fn both<S: SetUp>(stream: S, second: io::Result<S>) -> io::Result<(S, S)>
     ensures made { IfOk second (λ s. result ≡ Ok (stream, s)) }
     ensures failed { IfErr second (λ e. result ≡ Err e) }
 {
@@ -110,12 +113,12 @@ fn both(stream: TcpStream, second: io::Result<TcpStream>) -> io::Result<(TcpStre
 
 /// Waits for the next connection, and gives its two sides. It waits once: one whose second side can't be made isn't passed over, so a
 /// server that has no descriptors left ends, rather than that it drops each of its clients. An error is that of `accept` or of making it.
-pub(crate) fn accept_both<R: Wait>(
+pub(crate) fn accept_both<R: Wait, L: Listens>(
     rt: &R,
-    listener: &TcpListener,
+    listener: &L,
     timeouts: Timeouts,
-) -> io::Result<(TcpStream, TcpStream)> {
+) -> io::Result<(L::Stream, L::Stream)> {
     let stream = accept(rt, listener, timeouts)?;
-    let second = stream.try_clone();
+    let second = stream.second_side();
     both(stream, second)
 }

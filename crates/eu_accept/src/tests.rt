@@ -1,6 +1,6 @@
-//! Accepts that fail, and connections that can't be set up.
+//! Accepts that fail, and connections that can't be set up, or that have one side alone.
 
-use crate::accepting::{Listens, SetUp, accept};
+use crate::accepting::{Listens, SetUp, accept_both};
 use crate::acceptor::Timeouts;
 use std::io;
 use std::io::ErrorKind;
@@ -15,15 +15,18 @@ enum Given {
     Fails(ErrorKind),
     /// A connection of that number that can't be set up.
     Broken(u32),
+    /// One whose second side can't be made.
+    OneSided(u32),
     /// A connection of that number.
     Comes(u32),
 }
 
-/// A connection of that number, which may be broken.
+/// A connection of that number, which may be broken, and may have one side alone.
 #[derive(Drop)]
 struct Numbered {
     number: u32,
     is_broken: bool,
+    is_one_sided: bool,
 }
 
 impl SetUp for Numbered {
@@ -32,6 +35,17 @@ impl SetUp for Numbered {
             return Err(io::Error::from(ErrorKind::InvalidInput));
         }
         Ok(self)
+    }
+
+    fn second_side(&self) -> io::Result<Numbered> {
+        if self.is_one_sided {
+            return Err(io::Error::from(ErrorKind::ConnectionAborted));
+        }
+        Ok(Numbered {
+            number: self.number,
+            is_broken: false,
+            is_one_sided: false,
+        })
     }
 }
 
@@ -44,12 +58,15 @@ struct Listed<'a> {
 
 /// What an accept gives.
 fn make(given: Given) -> io::Result<Numbered> {
-    let (number, is_broken) = match given {
+    let number = match given {
         Given::Fails(kind) => return Err(io::Error::from(kind)),
-        Given::Broken(number) => (number, true),
-        Given::Comes(number) => (number, false),
+        Given::Broken(number) | Given::OneSided(number) | Given::Comes(number) => number,
     };
-    Ok(Numbered { number, is_broken })
+    Ok(Numbered {
+        number,
+        is_broken: matches!(given, Given::Broken(_)),
+        is_one_sided: matches!(given, Given::OneSided(_)),
+    })
 }
 
 impl Listens for Listed<'_> {
@@ -64,14 +81,16 @@ impl Listens for Listed<'_> {
     }
 }
 
-/// The number of the connection that comes of what a listener gives, or by which error none does; and how many accepts were made.
+/// The number that both sides of the connection have that comes of what a listener gives, or by which error none does; and how many
+/// accepts were made.
 fn accepted<R: Wait>(rt: &R, list: &[Given]) -> (Result<u32, ErrorKind>, usize) {
     let listener = Listed {
         given: list,
         count: AtomicUsize::new(0),
     };
-    let came = match accept(rt, &listener, Timeouts::of_server()) {
-        Ok(stream) => Ok(stream.number),
+    let came = match accept_both(rt, &listener, Timeouts::of_server()) {
+        Ok((reader, writer)) if reader.number == writer.number => Ok(reader.number),
+        Ok(_) => Err(ErrorKind::Other),
         Err(error) => Err(error.kind()),
     };
     (came, listener.count.load(Ordering::SeqCst))
@@ -114,5 +133,13 @@ fn an_accept_that_fails_otherwise_is_told(rt: HostRuntime) -> Result<(), Fail> {
         Given::Comes(2),
     ];
     assert!(rt; accepted(&rt, list.as_slice()) == (Err(ErrorKind::OutOfMemory), 2));
+    Ok(())
+}
+
+/// Whatever the reason: who is passed over here would be dropped, and with him all that follow, where no descriptor is left.
+#[test]
+fn who_has_no_second_side_is_told(rt: HostRuntime) -> Result<(), Fail> {
+    let list = [Given::Broken(1), Given::OneSided(2), Given::Comes(3)];
+    assert!(rt; accepted(&rt, list.as_slice()) == (Err(ErrorKind::ConnectionAborted), 2));
     Ok(())
 }

@@ -734,6 +734,39 @@ fn a_client_that_pours_on_is_cut_off(rt: HostRuntime) -> Result<(), Fail> {
     Ok(())
 }
 
+/// What a client reads of its connection that sends a request; and the connection, which it keeps.
+fn answered_and_kept(
+    alloc: Global,
+    stream: TcpStream,
+    request: &str,
+) -> io::Result<(Vec<u8>, TcpStream)> {
+    let mut stream = stream;
+    stream.set_read_timeout(Some(Duration::from_secs(20)))?;
+    stream.write_all(request.as_bytes())?;
+    let mut answer = Vec::new(alloc);
+    stream.read_to_end(&mut answer)?;
+    Ok((answer, stream))
+}
+
+/// A client that has its answer, and says nothing more, is left when the time is up, which is shorter than that of a read.
+#[test]
+fn a_client_that_keeps_its_connection_is_left(rt: HostRuntime) -> Result<(), Fail> {
+    let (listener, address) = listen(&rt)?;
+    let stream = TcpStream::connect(&rt, address)?;
+    let plan = plan(1, 20_000)?;
+    let alloc = rt.alloc();
+    let began = Instant::now(&rt)?;
+    let (out, kept) = beside(&rt, alloc, &listener, &plan, move || {
+        answered_and_kept(alloc, stream, RENEWAL)
+    });
+    assert!(rt; out?.as_slice() == b"served 1\n".as_slice());
+    assert!(rt; began.elapsed(&rt)? < Duration::from_secs(10));
+    let (answer, stream) = kept?;
+    drop(stream);
+    assert!(rt; answer.as_slice() == NOT_FOUND.as_bytes());
+    Ok(())
+}
+
 /// Bytes that come one by one count as so many, not as so many reads.
 #[test]
 fn a_client_that_dribbles_for_a_while_has_its_answer(rt: HostRuntime) -> Result<(), Fail> {

@@ -1,9 +1,9 @@
 //! A file in memory, for a machine that has no other.
 use std::alloc::{AllocError, Global};
 use std::fs::{Metadata, OpenFile, OpenOptions};
-use std::io;
 use std::io::{Error, ErrorKind, Read, Seek, SeekFrom, Write};
 use std::sync::Mutex;
+use std::{io, str};
 
 /// The path of the file.
 const PATH: &str = "kept.journal";
@@ -23,6 +23,19 @@ pub fn holds(place: Place, text: &str) -> bool {
         Some(bytes) => bytes.as_slice() == text.as_bytes(),
         None => false,
     }
+}
+
+/// Whether the file is there and each of these stands in it.
+pub fn holds_all(place: Place, parts: &[&str]) -> bool {
+    let Some(bytes) = place.into_inner() else {
+        return false;
+    };
+    let text = str::from_utf8(&bytes).unwrap_or("");
+    let mut holds = true;
+    for part in parts {
+        holds = holds && text.find(*part).is_some();
+    }
+    holds
 }
 
 /// The file, open, from a byte on.

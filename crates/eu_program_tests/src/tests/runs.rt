@@ -1,5 +1,5 @@
 //! Whole runs of the program, on a machine whose words and input are given and whose output is kept.
-use crate::tests::files::{Kept, Place, open_kept};
+use crate::tests::files::{Kept, Place, holds_all, open_kept};
 use eu_program::start;
 use std::alloc::{Alloc, Allocator, Global};
 use std::env::FillError;
@@ -446,10 +446,18 @@ fn is_audited<R: Threads + Wait + Clock + Net<Listener = TcpListener, Stream = T
     Ok(ran.status == 0 && ran.out.as_slice() == answer.as_bytes() && ran.err.is_empty())
 }
 
-/// What isn't refused is an entry: seven where i0 stays, as by the words of the seed 3, and six where it goes.
+/// What isn't refused is an entry: seven where i0 stays, as by the words of the seed 3, and six where it goes, as by those of 42.
 #[test]
 fn an_audit_goes_by_its_options(rt: HostRuntime) -> Result<(), Fail> {
     assert!(rt; is_audited(&rt, rt.alloc(), ["--seed", "3"].as_slice(), "audit yes 7\n")?);
+    assert!(rt;
+        is_audited(
+            &rt,
+            rt.alloc(),
+            ["--seed", "42"].as_slice(),
+            "audit yes 6\n"
+        )?
+    );
     assert!(rt; is_audited(&rt, rt.alloc(), [].as_slice(), "audit yes 6\n")?);
     Ok(())
 }
@@ -837,23 +845,24 @@ impl Visited {
     }
 }
 
-/// A run of that server, at a machine with no file, and whether its clients see that these two are left.
+/// A run of that server, at a machine with this file, and whether its clients see that these two are left.
 fn run_visited<R: Threads + Wait + Clock + Net<Listener = TcpListener, Stream = TcpStream> + Sync>(
     rt: &R,
     alloc: Global,
     visited: Visited,
+    place: &Place,
 ) -> (Ran, io::Result<bool>) {
-    let place: Place = Mutex::new(None);
     let words = SERVE.as_slice();
     let words = &words[..visited.words().min(words.len())];
-    let machine = prepared(rt, alloc, words, "", Broken::Nothing, &place);
+    let machine = prepared(rt, alloc, words, "", Broken::Nothing, place);
     let (status, seen) = thread::join(rt, || start(&machine), || visit(&machine, visited));
     (kept_by(machine, status), seen)
 }
 
 #[test]
 fn a_server_evicts_by_its_seed(rt: HostRuntime) -> Result<(), Fail> {
-    let (ran, seen) = run_visited(&rt, rt.alloc(), Visited::WithSeed);
+    let place: Place = Mutex::new(None);
+    let (ran, seen) = run_visited(&rt, rt.alloc(), Visited::WithSeed, &place);
     assert!(rt; seen?);
     assert!(rt; ran.status == 0);
     assert!(rt; ran.out.as_slice() == b"served 7\n".as_slice());
@@ -862,19 +871,34 @@ fn a_server_evicts_by_its_seed(rt: HostRuntime) -> Result<(), Fail> {
 
 #[test]
 fn a_server_without_a_seed_evicts_the_first(rt: HostRuntime) -> Result<(), Fail> {
-    let (ran, seen) = run_visited(&rt, rt.alloc(), Visited::WithNeither);
+    let place: Place = Mutex::new(None);
+    let (ran, seen) = run_visited(&rt, rt.alloc(), Visited::WithNeither, &place);
     assert!(rt; seen?);
     assert!(rt; ran.status == 0);
     assert!(rt; ran.out.as_slice() == b"served 7\n".as_slice());
     Ok(())
 }
 
+/// And what it did is in the journal that it leaves.
 #[test]
 fn a_server_with_a_journal_evicts_by_its_seed(rt: HostRuntime) -> Result<(), Fail> {
-    let (ran, seen) = run_visited(&rt, rt.alloc(), Visited::WithJournal);
+    let place: Place = Mutex::new(None);
+    let (ran, seen) = run_visited(&rt, rt.alloc(), Visited::WithJournal, &place);
     assert!(rt; seen?);
     assert!(rt; ran.status == 0);
     assert!(rt; ran.out.as_slice() == b"served 7\n".as_slice());
+    let words = ["eureka", "audit", "--journal", "kept.journal"];
+    let audited = run_at(
+        &rt,
+        rt.alloc(),
+        words.as_slice(),
+        "",
+        Broken::Nothing,
+        &place,
+    );
+    assert!(rt; audited.status == 0);
+    assert!(rt; audited.out.starts_with(b"audit yes "));
+    assert!(rt; holds_all(place, CLIENTS.as_slice()));
     Ok(())
 }
 

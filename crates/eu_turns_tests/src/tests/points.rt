@@ -38,7 +38,7 @@ fn digit(who: u32) -> u64 {
         18 => 100,
         19 => 1_000,
         20 => 10_000,
-        21 => 100_000,
+        27 => 100_000,
         _ => 1_000_000,
     }
 }
@@ -231,7 +231,7 @@ fn push_timers<'a, K: Label, R: Wait>(
     push(rt, alloc, shared, hands, Work::Threshold)
 }
 
-/// Adds the replicators of peers 1 and 0.
+/// Adds the replicators of peers 7 and 0.
 fn push_replicators<'a, K: Label, R: Wait>(
     rt: &R,
     alloc: Global,
@@ -239,7 +239,7 @@ fn push_replicators<'a, K: Label, R: Wait>(
     hands: &mut Vec<Hand<'a, K>>,
     sent: &'a AtomicU64,
 ) -> Result<(), Fault> {
-    for number in [1, 0] {
+    for number in [7, 0] {
         let peer = Losing { sent };
         push(rt, alloc, shared, hands, Work::Replicator { number, peer })?;
     }
@@ -262,7 +262,7 @@ fn connection(alloc: Global, counts: &Counts, is_broken: bool) -> Once<'_> {
     }
 }
 
-/// Adds each timer's worker, behind them a session worker, which is numbered 1 all the same, and the replicators of peers 1 and 0.
+/// Adds each timer's worker, behind them a session worker, which is numbered 1 all the same, and the replicators of peers 7 and 0.
 fn push_all<'a, K: Label, R: Wait>(
     rt: &R,
     alloc: Global,
@@ -396,7 +396,7 @@ fn register_client<K: Label, R: Wait>(
     }
 }
 
-/// The same, once a client has registered, of which two peers are to be told.
+/// The same, once a client has registered, of which eight peers are to be told.
 fn work_after<K: Label + Send + Sync, R: Threads + Wait + Sync>(
     rt: &R,
     alloc: Global,
@@ -422,7 +422,7 @@ fn work_after<K: Label + Send + Sync, R: Threads + Wait + Sync>(
     work(rt, alloc, shared, &gate, &counts, trouble.is_broken)
 }
 
-/// The same of a server with two peers.
+/// The same of a server with as many peers as there may be.
 fn run<K: Label + Send + Sync, R: Threads + Wait + Sync>(
     rt: &R,
     alloc: Global,
@@ -432,7 +432,7 @@ fn run<K: Label + Send + Sync, R: Threads + Wait + Sync>(
     requires names { (blanks.steps.name ≡ K.steps) × (blanks.counted.name ≡ K.counted) × (blanks.added.name ≡ K.added) × (blanks.removed.name ≡ K.removed) }
     requires parts { (blanks.steps.parts ≡ K.parts) × (blanks.counted.parts ≡ K.parts) × (blanks.added.parts ≡ K.parts) × (blanks.removed.parts ≡ K.parts) × (K.parts ≡ 1025) }
 {
-    let shared: Shared<K> = Shared::open(alloc, Config::new(true, 85, 30, 60_000)?, 0, 2, blanks)?;
+    let shared: Shared<K> = Shared::open(alloc, Config::new(true, 85, 30, 60_000)?, 0, 8, blanks)?;
     let told = work_after(rt, alloc, &shared, trouble);
     drop(shared);
     told
@@ -453,7 +453,7 @@ const ALL: Told = Told {
     answered: 1,
     early: 0,
     sent: 2,
-    drained: 21,
+    drained: 81,
     all: Ended {
         turns: 6,
         refused: 0,

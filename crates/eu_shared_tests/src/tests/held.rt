@@ -311,34 +311,67 @@ fn made<K: Label>(alloc: Global, held: &mut Held<K>) -> Result<u64, Fault> {
     Ok(number)
 }
 
-/// The number of the last of 1,024 new passes.
-fn last_of_all<K: Label>(alloc: Global, held: &mut Held<K>) -> Result<u64, Fault> {
-    let mut last = 0;
+/// Makes 1,024 passes, and has each end a minute.
+fn make_all<K: Label>(
+    alloc: Global,
+    held: &mut Held<K>,
+    passes: &mut Vec<Pass<K>>,
+) -> Result<(), Fault> {
     for _ in 0..MOST_PASSES {
-        last = made(alloc, held)?;
+        let mut pass = held.pass(alloc)?;
+        let rolled = held.ask(alloc, &mut pass, Command::Roll, at(0), &mut FirstChooser);
+        passes.push(pass)?;
+        drop(rolled?);
     }
-    Ok(last)
+    Ok(())
 }
 
-/// The number of the last of 1,024 passes, and the fault that the next one is refused by.
-fn make_all<K: Label>(alloc: Global, blanks: Blanks) -> Result<(u64, Option<Fault>), Fault>
+/// The fault that a pass more is refused by, what was done in all, and the number and the length of the last log of the book that is closed.
+#[derive(Clone, Copy, PartialEq, Eq)]
+struct OfAll {
+    fault: Option<Fault>,
+    steps: u64,
+    last: Option<(u64, usize)>,
+}
+
+/// What comes of a book that is closed with all passes.
+fn close_all<K: Label>(
+    alloc: Global,
+    held: Held<K>,
+    passes: Vec<Pass<K>>,
+    fault: Option<Fault>,
+) -> Result<OfAll, Fault> {
+    let closed = close(alloc, held, passes)?;
+    let last = closed.logs.last().map(|log| (log.pass, log.log.len()));
+    let steps = closed.totals.steps;
+    drop(closed);
+    Ok(OfAll { fault, steps, last })
+}
+
+/// The same, once 1,024 passes were made.
+fn find_all<K: Label>(alloc: Global, blanks: Blanks) -> Result<OfAll, Fault>
     requires names { (blanks.steps.name ≡ K.steps) × (blanks.counted.name ≡ K.counted) × (blanks.added.name ≡ K.added) × (blanks.removed.name ≡ K.removed) }
     requires parts { (blanks.steps.parts ≡ K.parts) × (blanks.counted.parts ≡ K.parts) × (blanks.added.parts ≡ K.parts) × (blanks.removed.parts ≡ K.parts) × (K.parts ≡ 1025) }
 {
     let mut held = open::<K>(alloc, blanks)?;
-    let last = last_of_all(alloc, &mut held);
+    let mut passes = Vec::new(alloc);
+    make_all(alloc, &mut held, &mut passes)?;
     let fault = made(alloc, &mut held).err();
-    drop(held);
-    Ok((last?, fault))
+    close_all(alloc, held, passes, fault)
 }
 
-fn last_pass(alloc: Global) -> Result<(u64, Option<Fault>), Fault> {
-    make_all::<Brand>(alloc, Blanks::new())
+fn of_all(alloc: Global) -> Result<OfAll, Fault> {
+    find_all::<Brand>(alloc, Blanks::new())
 }
 
 #[test]
 fn passes_are_1024(rt: HostRuntime) -> Result<(), Fail> {
-    assert!(rt; last_pass(rt.alloc()) == Ok((1_023, Some(Fault::TooManyPasses))));
+    let wanted = OfAll {
+        fault: Some(Fault::TooManyPasses),
+        steps: 1_024,
+        last: Some((1_023, 1)),
+    };
+    assert!(rt; of_all(rt.alloc())? == wanted);
     Ok(())
 }
 

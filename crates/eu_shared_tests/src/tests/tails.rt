@@ -1,4 +1,4 @@
-//! A book with a peer, through the lock, until its journal is full and beyond.
+//! A book with a peer, through the lock, until its journal is full twice, and beyond.
 ghost use Rattle.std.specs.Prelude.{◌≡◌};
 
 use crate::tests::asks::{WithOne, ask, close_alone, registration, renewal, with_pass};
@@ -37,7 +37,7 @@ const STEPS: [(Step, &str); 8] = [
     (Step::Drain, "a task"),
 ];
 
-/// What is asked for once the journal is full.
+/// What is asked for once the journal is full; and but for the last, with which no batch is in flight any more, once it is so again.
 const LATER: [(Step, &str); 3] = [
     (Step::Roll, "other"),
     (Step::Renew, "done"),
@@ -93,15 +93,16 @@ fn are_answered<K: Label, R: Wait>(
     true
 }
 
-/// Whether a pass fills a journal that has so many entries, by ends of minutes.
+/// Whether a pass ends minutes, and is answered by numbers from one on up to another.
 fn fills<K: Label, R: Wait>(
     rt: &R,
     shared: &Shared<K>,
     alloc: Global,
     pass: &mut Pass<K>,
     from: u64,
+    to: u64,
 ) -> bool {
-    for number in from..MOST_ENTRIES as u64 {
+    for number in from..to {
         if ask(rt, shared, alloc, pass, Ok(Command::Roll), 0) != (number, "other") {
             return false;
         }
@@ -128,8 +129,10 @@ fn are_all_answered<K: Label, R: Wait>(
     pass: &mut Pass<K>,
 ) -> bool {
     are_answered(rt, shared, alloc, pass, 0, STEPS.as_slice())
-        && fills(rt, shared, alloc, pass, 8)
+        && fills(rt, shared, alloc, pass, 8, MOST_ENTRIES as u64)
         && are_answered(rt, shared, alloc, pass, 65_536, LATER.as_slice())
+        && fills(rt, shared, alloc, pass, 65_539, 2 * MOST_ENTRIES as u64)
+        && are_answered(rt, shared, alloc, pass, 131_072, &LATER[..2])
 }
 
 /// The log of a pass is trimmed, and its book closed, once it has asked, and was answered so.
@@ -173,9 +176,9 @@ fn found<R: Wait>(rt: &R, alloc: Global) -> Result<Findings, Fault> {
 fn a_full_journal_begins_anew_with_leases_and_queues(rt: HostRuntime) -> Result<(), Fail> {
     let wanted = Findings {
         answered: true,
-        logged: 3,
-        first: 65_536,
-        entries: 3,
+        logged: 2,
+        first: 131_072,
+        entries: 2,
         settled: true,
     };
     assert!(rt; found(&rt, rt.alloc())? == wanted);

@@ -17,15 +17,12 @@ use Rattle.eu_model.specs.View.{view}
 use Rattle.eu_shared.specs.Passes.{Caller, IsAnswer, IsBegun, IsRefused, IsShown, answered, shown}
 
 module _ (c : Command) (t : ℕ) where
-  pub is_answer : {S : Type 0} (asks : Asks S) (x x' : S) (p p' q : Caller) (a b : Account) (r : Result Receipt Fault) → IsLawful a → OnOk r (IsLawful b)
-      → IfOk r (λ y. Applies asks a x p.number c t y.reply y.number b x') → IfOk r (λ y. p' ≡ answered p (logged c t y.reply y.number) b.first) → q ≡ p'
-      → IfOk r (λ y. IsAnswer asks x p c t y.reply y.number x' q)
-  is_answer asks x x' p p' q a b (Ok y) before after is told same = (a, b, before, after, is, ap (λ (k : Caller). k.seen) (same ∙ told))
-  is_answer asks x x' p p' q a b (Err f) before after is told same = is
+  pub is_answer : {S : Type 0} (asks : Asks S) (x x' : S) (p p' : Caller) (a b : Account) (y : Receipt) → IsLawful a → IsLawful b → Applies asks a x p.number c t y.reply y.number b x'
+      → p' ≡ answered p (logged c t y.reply y.number) b.first → IsAnswer asks x p c t y.reply y.number x' p'
+  is_answer asks x x' p p' a b y before after is told = (a, b, before, after, is, ap (λ (k : Caller). k.seen) told)
 
-  pub is_refused : (a : Account) (r : Result Receipt Fault) → IsLawful a → IfErr r (λ f. Refuses a c t f) → IfErr r (λ f. IsRefused c t f)
-  is_refused a (Ok y) before is = is
-  is_refused a (Err f) before is = (a, before, is)
+  pub is_refused : (a : Account) (f : Fault) → IsLawful a → Refuses a c t f → IsRefused c t f
+  is_refused a f before is = (a, before, is)
 
   any_config : Config
   any_config = record { preservation = true; percent = 85; interval = 30; evict_ms = 60000; percent_bound = omega arith; interval_bound = (omega arith, omega arith) }
@@ -39,6 +36,5 @@ pub is_shown : (q : Query) (t : ℕ) (p p' : Caller) (a : Account) (r : Result V
 is_shown q t p p' a (Ok v) lawful is told = (a, lawful, is, ap (λ (k : Caller). k.seen) told)
 is_shown q t p p' a (Err e) lawful is told = is
 
-pub is_begun : {T : Type 0} (p p' q : Caller) (a : Account) (r : Result T AllocError) → IsLawful a → OnOk r (p' ≡ shown p a.totals.steps) → q ≡ p' → OnOk r (IsBegun p q)
-is_begun p p' q a (Ok v) lawful told same = (a, lawful, ap (λ (k : Caller). k.seen) (same ∙ told))
-is_begun p p' q a (Err e) lawful told same = told
+pub is_begun : (p p' : Caller) (a : Account) → IsLawful a → p' ≡ shown p a.totals.steps → IsBegun p p'
+is_begun p p' a lawful told = (a, lawful, ap (λ (k : Caller). k.seen) told)

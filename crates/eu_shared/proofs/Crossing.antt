@@ -2,7 +2,7 @@
 use denote.Param.Send.{IsSend, IsSync, sendable}
 use denote.RattleType.{RattleType}
 use Rattle.std.proofs.Crossing as heap
-use Rattle.eu_book.proofs.Crossing.{Book-send, Journal-send, Logged-send}
+use Rattle.eu_book.proofs.Crossing.{Book-send, Logged-send}
 use Rattle.eu_shared.proofs.shares.Shares.TheSendSync as shares
 use Rattle.eu_shared.proofs.shares.Totals.TheSendSync as totals
 use Rattle.eu_shared.specs.contracts.held.Held as held
@@ -12,7 +12,7 @@ use Rattle.eu_shared.specs.declared.shares.Label.{Ghosts}
 
 module _ (K : RattleType) (g : Ghosts K.Denot) (s : IsSend K) where
   pub Pass-send : IsSend (pass.the_field K g).row
-  Pass-send = search (shares.the_send, Journal-send, Logged-send, sendable, heap.crosses) depth 40 fits 20000
+  Pass-send = search (shares.the_send, Logged-send, sendable, heap.crosses) depth 40 fits 20000
 
   Held-send : IsSend (held.the_row K g)
   Held-send = search (Book-send, shares.the_send, totals.the_send, sendable, heap.crosses) depth 40 fits 20000

@@ -1,6 +1,7 @@
 //! The book behind the lock, with its part of the ledgers.
 ghost use Rattle.std.specs.Prelude.{◌≡◌, ◌↔◌, ◌+◌, ◌<◌, ◌≤◌, ◌^◌, Err, vec_len, IfOk, IfErr, OnOk, OnErr};
 ghost use Rattle.eu_book.specs.Account.{cleared, logged, Applies, IsLawful, Refuses};
+ghost use Rattle.eu_book.specs.Renewed.{IsJournal, IsRetired};
 ghost use Rattle.eu_model.specs.Answers.{Shows};
 ghost use Rattle.eu_model.specs.Delta.{plus};
 ghost use Rattle.eu_model.specs.View.{view};
@@ -10,7 +11,7 @@ use crate::pass::{Pass, is_stale_with, see};
 use crate::shares::{Blanks, Label, Shares, Totals};
 use crate::sums::sum_up;
 use eu_base::{Config, Fault, Moment};
-use eu_book::{Book, Receipt};
+use eu_book::{Book, Journal, Receipt};
 use eu_clock::Chooser;
 use eu_model::{Command, Query, Tally, View};
 use std::alloc::{AllocError, Global};
@@ -18,6 +19,26 @@ use std::marker::Model;
 
 /// The most passes that are made of a book.
 pub const MOST_PASSES: u64 = 1_024;
+
+/// What an accepted command is given, and the journal as it was, where it was full and has begun anew.
+#[derive(Drop)]
+pub(crate) struct Told {
+    receipt: Receipt,
+    retired: Option<Box<Journal>>,
+}
+
+impl Told {
+    /// What the command is given. Lets go of the journal: that takes its time, so it is done where nobody waits for a lock.
+    pub(crate) fn into_receipt(self) -> Receipt
+        ensures { result ≡ self.receipt }
+    {
+        let Told {
+            receipt,
+            retired: _,
+        } = self;
+        receipt
+    }
+}
 
 /// A book with its part of four ledgers: what lies behind the lock. None of its calls waits for anybody.
 ///
@@ -120,7 +141,6 @@ impl<K: Label> Held<K> {
             tally: Tally::nothing(),
             seen: 0,
             is_stale: false,
-            retired: None,
             shares: self.rest.split_off(1),
         })
     }
@@ -163,10 +183,12 @@ impl<K: Label> Held<K> {
             drop(command);
             return Err(Fault::OutOfMemory);
         };
-        self.ask_with(alloc, pass, command, mine, moment, chooser)
+        let told = self.ask_with(alloc, pass, command, mine, moment, chooser)?;
+        Ok(told.into_receipt())
     }
 
-    /// As `ask`, where the command was copied before: `mine` is for the pass's log.
+    /// As `ask`, where the command was copied before: `mine` is for the pass's log. A journal that has begun anew is handed out, for who
+    /// holds a lock.
     pub(crate) fn ask_with<C: Chooser>(
         &mut self,
         alloc: Global,
@@ -175,11 +197,12 @@ impl<K: Label> Held<K> {
         mine: Command,
         moment: Moment,
         chooser: &mut C,
-    ) -> Result<Receipt, Fault>
+    ) -> Result<Told, Fault>
         requires same { mine ≡ command }
-        ensures applied { IfOk result (λ r. Applies C.asks self.old.book chooser.old pass.old.number command moment r.reply r.number self.new.book chooser.new) }
-        ensures pass { IfOk result (λ r. pass.new ≡ answered pass.old (logged command moment r.reply r.number) self.new.book.first) }
-        ensures fresh { IfOk result (λ r. pass.old.tally.steps ≤ r.number) }
+        ensures applied { IfOk result (λ t. Applies C.asks self.old.book chooser.old pass.old.number command moment t.receipt.reply t.receipt.number self.new.book chooser.new) }
+        ensures pass { IfOk result (λ t. pass.new ≡ answered pass.old (logged command moment t.receipt.reply t.receipt.number) self.new.book.first) }
+        ensures fresh { IfOk result (λ t. pass.old.tally.steps ≤ t.receipt.number) }
+        ensures retired { IfOk result (λ t. IsRetired self.old.book t.retired) }
         ensures before { IsLawful self.old.book }
         ensures after { OnOk result (IsLawful self.new.book) }
         ensures made { self.new.made ≡ self.old.made }
@@ -208,8 +231,10 @@ impl<K: Label> Held<K> {
         );
         pass.is_stale = is_stale_with(pass.is_stale, pass.seen, told.logged.number);
         pass.log.push_reserved(told.logged);
-        pass.retired = told.retired;
-        Ok(told.receipt)
+        Ok(Told {
+            receipt: told.receipt,
+            retired: told.retired,
+        })
     }
 
     /// What a query sees at a moment (`Book::read`). The pass has then seen where the journal begins, and nothing else changes.
@@ -235,13 +260,14 @@ impl<K: Label> Held<K> {
     }
 
     /// Begins the journal anew (`Book::checkpoint`), for a pass, which has seen then where it begins. Registry, queues, totals, and
-    /// the pass's log and tallies stay; the pass keeps the journal as it was until it is answered again or makes another checkpoint.
-    /// `AllocError` where no memory is left, which changes neither the book nor the pass.
-    pub fn checkpoint(&mut self, alloc: Global, pass: &mut Pass<K>) -> Result<(), AllocError>
+    /// the pass's log and tallies stay. Gives the journal as it was. `AllocError` where no memory is left, which changes neither the book
+    /// nor the pass.
+    pub fn checkpoint(&mut self, alloc: Global, pass: &mut Pass<K>) -> Result<Box<Journal>, AllocError>
         ensures book { OnOk result (self.new ≡ record { book = cleared self.old.book; made = self.old.made }) }
         ensures pass { OnOk result (pass.new ≡ shown pass.old self.old.book.totals.steps) }
         ensures fresh { OnOk result (pass.old.tally.steps ≤ self.old.book.totals.steps) }
         ensures before { IsLawful self.old.book }
+        ensures retired { IfOk result (λ j. IsJournal self.old.book j.value) }
         ensures err { OnErr result ((self.new ≡ self.old) × (pass.new ≡ pass.old)) }
     {
         let _as_it_was = self.book.journal();
@@ -252,8 +278,7 @@ impl<K: Label> Held<K> {
             &mut pass.is_stale,
             self.book.journal().first,
         );
-        pass.retired = Some(retired);
-        Ok(())
+        Ok(retired)
     }
 }
 

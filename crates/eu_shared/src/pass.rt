@@ -5,7 +5,7 @@ ghost use Rattle.eu_shared.specs.Closing.{log_of, logged_by};
 ghost use Rattle.eu_shared.specs.Passes.{trimmed};
 
 use crate::shares::{Label, Shares};
-use eu_book::{Journal, Logged};
+use eu_book::Logged;
 use eu_model::{Command, Tally};
 use eu_settle::PassLog;
 use std::alloc::{AllocError, Global};
@@ -24,9 +24,6 @@ pub struct Pass<K: Label> {
     pub(crate) seen: u64,
     /// Whether its log may have what is numbered below that.
     pub(crate) is_stale: bool,
-    /// The journal as it was before its last call, where that had it begin anew: a call that takes the lock lets go of it once the lock
-    /// is free.
-    pub(crate) retired: Option<Box<Journal>>,
     pub(crate) shares: Shares<K>,
 }
 
@@ -75,13 +72,6 @@ impl<K: Label> Pass<K> {
         trim_log(&mut self.log, self.seen, &mut self.is_stale);
     }
 
-    /// Lets go of a journal that has begun anew: that takes its time, and nobody waits for it where the lock is free.
-    pub(crate) fn let_go(&mut self)
-        ensures { self.new ≡ self.old }
-    {
-        self.retired = None;
-    }
-
     /// Makes room in its log for what it is answered next, and gives the command once more, to be kept there. `AllocError` where no
     /// memory is left.
     pub(crate) fn prepare(
@@ -106,7 +96,6 @@ impl<K: Label> Pass<K> {
             tally: _,
             seen: _,
             is_stale: _,
-            retired: _,
             shares: _,
         } = self;
         PassLog { pass: number, log }

@@ -1,7 +1,7 @@
 //! The book behind its lock.
 //!
 //! Each call takes the lock once, makes the one call of its name on what lies behind it (`Held`; an ask has copied its command before),
-//! and releases it. What is behind a lock is known by its type alone: so a clause says of an answer that some lawful book gives it, and
+//! and releases it; a journal that has begun anew is let go only then. What is behind a lock is known by its type alone: so a clause says of an answer that some lawful book gives it, and
 //! not which.
 ghost use Rattle.std.specs.Prelude.{◌≡◌, ◌∷◌, ◌++◌, ◌≤◌, [], map, vec_len, IfOk, IfErr, OnErr, OnOk, IsPermutation};
 ghost use Rattle.std.specs.List.Sorted.{IsNonDecreasingBy};
@@ -104,11 +104,10 @@ impl<K: Label> Pass<K> {
             drop(command);
             return Err(Fault::OutOfMemory);
         };
-        let answer = shared
+        let told = shared
             .lock(rt)
-            .ask_with(alloc, self, command, mine, moment, chooser);
-        self.let_go();
-        answer
+            .ask_with(alloc, self, command, mine, moment, chooser)?;
+        Ok(told.into_receipt())
     }
 
     /// What a query sees of the shared book, at a moment (`Held::read`). `AllocError` where no memory is left, which leaves the pass
@@ -142,9 +141,9 @@ impl<K: Label> Pass<K> {
         ensures fresh { OnOk result (self.old.tally.steps ≤ self.new.seen) }
         ensures err { OnErr result (self.new ≡ self.old) }
     {
-        let done = shared.lock(rt).checkpoint(alloc, self);
-        self.let_go();
-        done
+        let retired = shared.lock(rt).checkpoint(alloc, self)?;
+        drop(retired);
+        Ok(())
     }
 }
 

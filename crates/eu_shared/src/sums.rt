@@ -40,7 +40,6 @@ pub(crate) fn sum_up<K: Label>(
         tally,
         seen,
         is_stale,
-        retired,
         mut shares,
     } = pass;
     shares.lend(all, 1, tally);
@@ -53,7 +52,6 @@ pub(crate) fn sum_up<K: Label>(
         tally,
         seen,
         is_stale,
-        retired,
         shares,
     });
     sums

@@ -1,3 +1,4 @@
+use Rattle.std.proofs.lemmas.Result.{err_from_is_err_and}
 use Rattle.eu_shared.proofs.AnswerLemmas.{is_answer, is_refused, memory_is_wanted}
 use Rattle.eu_shared.proofs.pass.Pass.ask.Goals as goal
 
@@ -6,8 +7,10 @@ returns-in_default-clause-refused g c = memory_is_wanted c.args.command c.args.m
 
 pub returns-clause-answer : goal.returns-clause-answer
 returns-clause-answer g c =
-    rw (← c.prepare.ensures.pass) (is_answer c.args.command c.args.moment g.C.Chooser.asks _ _ _ _ _ _ _ c.ask_with-answer.result c.ask_with-answer.ensures.before c.ask_with-answer.ensures.after c.ask_with-answer.ensures.applied
-    c.ask_with-answer.ensures.pass c.let_go.ensures)
+    rw (c.into_receipt.ensures, ← c.prepare.ensures.pass) (is_answer c.args.command c.args.moment g.C.Chooser.asks _ _ _ _ _ _ c.in_ok-told.told.receipt c.ask_with.ensures.before c.in_ok-told.ensures.after
+    c.in_ok-told.ensures.applied c.in_ok-told.ensures.pass)
 
-pub returns-clause-refused : goal.returns-clause-refused
-returns-clause-refused g c = is_refused c.args.command c.args.moment _ c.ask_with-answer.result c.ask_with-answer.ensures.before c.ask_with-answer.ensures.refused
+pub returns-in_err-told-clause-refused : goal.returns-in_err-told-clause-refused
+returns-in_err-told-clause-refused g c =
+    let p = err_from_is_err_and c.from_residual.result c.from_residual.ensures.1 in
+    rw (p.1, p.2) (is_refused c.args.command c.args.moment _ _ c.ask_with.ensures.before c.in_err-told.ensures.refused)

@@ -10,7 +10,7 @@ use eu_gate::{Gate, Go, Point, Timer};
 use eu_model::Command;
 use eu_seat::Seat;
 use eu_shared::{Blanks, Label, Shared};
-use std::alloc::Global;
+use std::alloc::{AllocError, Global};
 use std::marker::Brand;
 use std::sync::Wait;
 use std::sync::atomic::{AtomicU64, Ordering};
@@ -51,27 +51,36 @@ impl<K: Label, R: Wait> Asks for RefusedOnce<'_, K, R> {
         self.seat.ask_once(alloc, command, moment, chooser)
     }
 
-    fn end_turn(&mut self, alloc: Global, timer: Timer, turns: u64) {
-        self.seat.end_turn(alloc, timer, turns);
+    fn end_turn(&mut self, alloc: Global, timer: Timer, turns: u64) -> Result<(), AllocError> {
+        self.seat.end_turn(alloc, timer, turns)
     }
 }
 
-/// What three turns did, how often it was asked in them, and how many answers are logged.
+/// What turns did, how often it was asked in them, and how many answers are logged.
 type Done = (Ended, u64, usize);
 
-/// What three turns of a timer's worker do, at a book that is shared.
+/// What so many turns of a timer's worker do, at a book that is shared.
 fn turns_at<K: Label, R: Wait>(
     rt: &R,
     alloc: Global,
     shared: &Shared<K>,
     timer: Timer,
+    limit: u64,
 ) -> Result<Done, Fault> {
     let pass = shared.pass(rt, alloc)?;
     let seat = Seat { pass, shared, rt };
     let mut asker = RefusedOnce { seat, count: 0 };
     let mut clock = ListClock::new(Vec::new(alloc));
     let mut chooser = FirstChooser;
-    let ended = take_turns(&Open, alloc, timer, &mut asker, &mut clock, &mut chooser, 3);
+    let ended = take_turns(
+        &Open,
+        alloc,
+        timer,
+        &mut asker,
+        &mut clock,
+        &mut chooser,
+        limit,
+    );
     drop(clock);
     let done = (ended, asker.count, asker.seat.pass.log().len());
     drop(asker);
@@ -84,18 +93,19 @@ fn turns_of<K: Label, R: Wait>(
     alloc: Global,
     blanks: Blanks,
     timer: Timer,
+    limit: u64,
 ) -> Result<Done, Fault>
     requires names { (blanks.steps.name ≡ K.steps) × (blanks.counted.name ≡ K.counted) × (blanks.added.name ≡ K.added) × (blanks.removed.name ≡ K.removed) }
     requires parts { (blanks.steps.parts ≡ K.parts) × (blanks.counted.parts ≡ K.parts) × (blanks.added.parts ≡ K.parts) × (blanks.removed.parts ≡ K.parts) × (K.parts ≡ 1025) }
 {
     let shared: Shared<K> = Shared::open(alloc, Config::new(true, 85, 30, 60_000)?, 0, 0, blanks)?;
-    let done = turns_at(rt, alloc, &shared, timer);
+    let done = turns_at(rt, alloc, &shared, timer, limit);
     drop(shared);
     done
 }
 
-fn turns<R: Wait>(rt: &R, alloc: Global, timer: Timer) -> Result<Done, Fault> {
-    turns_of::<Brand, R>(rt, alloc, Blanks::new(), timer)
+fn turns<R: Wait>(rt: &R, alloc: Global, timer: Timer, limit: u64) -> Result<Done, Fault> {
+    turns_of::<Brand, R>(rt, alloc, Blanks::new(), timer, limit)
 }
 
 /// The turns that follow are asked and answered.
@@ -106,7 +116,21 @@ fn a_timer_goes_on_after_a_refused_turn(rt: HostRuntime) -> Result<(), Fail> {
         refused: 1,
     };
     for timer in [Timer::Evictor, Timer::Bucket, Timer::Threshold] {
-        assert!(rt; turns(&rt, rt.alloc(), timer)? == (ended, 3, 2));
+        assert!(rt; turns(&rt, rt.alloc(), timer, 3)? == (ended, 3, 2));
+    }
+    Ok(())
+}
+
+/// A turn that was refused is one of the sixty after which the journal begins anew.
+#[test]
+fn a_refused_turn_is_one_of_an_hour(rt: HostRuntime) -> Result<(), Fail> {
+    for (limit, logged) in [(59, 58), (60, 0), (61, 1)] {
+        let ended = Ended {
+            turns: limit,
+            refused: 1,
+        };
+        let done = turns(&rt, rt.alloc(), Timer::Bucket, limit)?;
+        assert!(rt; done == (ended, limit, logged), "{limit} turns");
     }
     Ok(())
 }

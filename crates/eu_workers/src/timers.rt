@@ -1,5 +1,5 @@
 //! Workers that ask for the same command, turn after turn.
-ghost use Rattle.std.specs.Prelude.{◌≡◌, ◌<◌, ◌≤◌, ◌∷◌, ◌++◌, [], IfOk, OnErr};
+ghost use Rattle.std.specs.Prelude.{◌≡◌, ◌<◌, ◌≤◌, ◌∷◌, ◌++◌, [], true, false, IfOk, OnOk, OnErr};
 ghost use Rattle.eu_book.specs.Account.{logged};
 ghost use Rattle.eu_model.specs.Delta.{delta, plus};
 ghost use Rattle.eu_model.specs.declared.commands.Command.TheVariants as command;
@@ -16,7 +16,7 @@ use eu_gate::{Gate, Go, Point, Timer};
 use eu_model::Command;
 use eu_seat::Seat;
 use eu_shared::{Label, Pass};
-use std::alloc::Global;
+use std::alloc::{AllocError, Global};
 use std::sync::Wait;
 
 /// After so many turns of the bucket's worker, an hour by Eureka's minutes, the journal begins anew.
@@ -64,12 +64,14 @@ pub(crate) trait Asks {
         ensures err { OnErr result (pass self.new ≡ pass self.old) }
         ensures unasked { OnErr result (chooser.new ≡ chooser.old) };
 
-    /// Ends a turn, the last of so many: has the journal begin anew where that is due, and trims the log of the pass.
-    fn end_turn(&mut self, alloc: Global, timer: Timer, turns: u64)
-        ensures { Tidies (pass self.old) (pass self.new) };
+    /// Ends a turn, the last of so many: has the journal begin anew where that is due, behind all that was done for the pass, and trims
+    /// the log of the pass. `AllocError` where no memory is left for a journal that is due.
+    fn end_turn(&mut self, alloc: Global, timer: Timer, turns: u64) -> Result<(), AllocError>
+        ensures tidies { Tidies (pass self.old) (pass self.new) }
+        ensures begun { is_due_after timer turns ≡ true → OnOk result ((pass self.old).tally.steps ≤ (pass self.new).seen) }
+        ensures left { is_due_after timer turns ≡ false → (pass self.new).seen ≡ (pass self.old).seen };
 }
 
-/// A checkpoint that finds no memory isn't made, and counts nowhere.
 impl<K: Label, R: Wait> Asks for Seat<'_, K, R> {
     ghost pass = { λ s. s.pass };
 
@@ -84,15 +86,19 @@ impl<K: Label, R: Wait> Asks for Seat<'_, K, R> {
             .ask(self.rt, self.shared, alloc, command, moment, chooser)
     }
 
-    fn end_turn(&mut self, alloc: Global, timer: Timer, turns: u64) {
-        if is_checkpoint_due(timer, turns) {
-            drop(self.pass.checkpoint(self.rt, self.shared, alloc));
-        }
+    fn end_turn(&mut self, alloc: Global, timer: Timer, turns: u64) -> Result<(), AllocError> {
+        let ended = if is_checkpoint_due(timer, turns) {
+            self.pass.checkpoint(self.rt, self.shared, alloc)
+        } else {
+            Ok(())
+        };
         self.pass.trim();
+        ended
     }
 }
 
-/// Asks for a timer's command at most so many times, until the gate stops it.
+/// Asks for a timer's command at most so many times, until the gate stops it. A journal for which no memory is left doesn't begin anew,
+/// and that counts nowhere.
 pub(crate) fn take_turns<G: Gate, A: Asks, C: Clock, H: Chooser>(
     gate: &G,
     alloc: Global,
@@ -114,7 +120,7 @@ pub(crate) fn take_turns<G: Gate, A: Asks, C: Clock, H: Chooser>(
         let asked = asker.ask_once(alloc, command(timer), moment, chooser);
         ended.count(&asked);
         drop(asked);
-        asker.end_turn(alloc, timer, ended.turns);
+        let _ = asker.end_turn(alloc, timer, ended.turns);
     }
     ended
 }

@@ -40,6 +40,8 @@ fn plan_of(config: Config, serving: Serving) -> Plan
     ensures expected { result.expected ≡ serving.expected }
     ensures workers { result.workers ≡ serving.workers }
     ensures sessions { result.sessions ≡ serving.sessions }
+    ensures periods { result.periods ≡ record { evictor = config.evict_ms; bucket = 60000; threshold = 900000 } }
+    ensures timeouts { result.timeouts ≡ record { read = 10000; write = 10000; linger = 1000; linger_bytes = 65536 } }
 {
     Plan::of_server(config, serving.expected, serving.workers, serving.sessions)
 }

@@ -262,7 +262,11 @@ impl<K: Label> Held<K> {
     /// Begins the journal anew (`Book::checkpoint`), for a pass, which has seen then where it begins. Registry, queues, totals, and
     /// the pass's log and tallies stay. Gives the journal as it was. `AllocError` where no memory is left, which changes neither the book
     /// nor the pass.
-    pub fn checkpoint(&mut self, alloc: Global, pass: &mut Pass<K>) -> Result<Box<Journal>, AllocError>
+    pub fn checkpoint(
+        &mut self,
+        alloc: Global,
+        pass: &mut Pass<K>,
+    ) -> Result<Box<Journal>, AllocError>
         ensures book { OnOk result (self.new ≡ record { book = cleared self.old.book; made = self.old.made }) }
         ensures pass { OnOk result (pass.new ≡ shown pass.old self.old.book.totals.steps) }
         ensures fresh { OnOk result (pass.old.tally.steps ≤ self.old.book.totals.steps) }

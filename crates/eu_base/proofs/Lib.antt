@@ -1,4 +1,5 @@
 pub mod InstanceLemmas
 pub mod KeyLemmas
+pub mod NameLemmas
 pub mod RestLemmas
 pub mod Crossing

@@ -1,5 +1,5 @@
 //! Applications, instance ids, and the keys of leases.
-ghost use Rattle.std.specs.Prelude.{ℕ, List, ◌≡◌, ◌<◌, ◌≤◌, ◌↔◌, ◌⊎◌, refl, [], length, string_bytes, nat_eq, IfOk, IfErr, IfSome};
+ghost use Rattle.std.specs.Prelude.{ℕ, List, false, ◌≡◌, ◌<◌, ◌≤◌, ◌↔◌, ◌⊎◌, refl, [], length, string_bytes, nat_eq, IfOk, IfErr};
 ghost use Rattle.std.specs.Ordering.{nat_cmp, as_partial_cmp};
 ghost use Rattle.std.specs.Hash as fed;
 ghost use Rattle.std.specs.Cmp.Rules.{hashing};
@@ -15,7 +15,6 @@ use std::alloc::{AllocError, Global};
 use std::cmp::Ordering;
 use std::hash::{Hash, Hasher};
 use std::marker::Model;
-use std::str;
 
 /// The most bytes of a name.
 pub const LONGEST_NAME: usize = 255;
@@ -43,14 +42,14 @@ impl Text {
         }
     }
 
-    /// A text in capitals: its ASCII letters are. Takes memory for a long one alone.
+    /// A text in capitals: its ASCII letters are. Takes memory for a long one, or where a letter is small.
     fn in_capitals(alloc: Global, text: &str) -> Result<Text, AllocError>
         ensures { IfOk result (λ t. bytes_of t ≡ str_to_ascii_uppercase text.now) }
     {
-        match short_capitals(text) {
-            Some(short) => Ok(Text::Short(short)),
-            None => Ok(Text::Long(text.to_ascii_uppercase(alloc)?)),
+        if has_small_letter(text.as_bytes()) {
+            return Text::new(alloc, &text.to_ascii_uppercase(alloc)?);
         }
+        Text::new(alloc, text)
     }
 
     fn as_str(&self) -> &str
@@ -73,15 +72,16 @@ impl Text {
     }
 }
 
-/// A short text in capitals; none where it isn't short.
-fn short_capitals(text: &str) -> Option<ArrayString<SHORT_NAME>>
-    ensures { IfSome result (λ t. t.bytes ≡ str_to_ascii_uppercase text.now) }
+/// Whether a small ASCII letter is among the bytes of a text.
+fn has_small_letter(bytes: &[u8]) -> bool
+    ensures { result ≡ false → str_to_ascii_uppercase bytes.now ≡ bytes.now }
 {
-    let mut bytes = [0; SHORT_NAME];
-    let capitals = bytes.get_mut(..text.len())?;
-    capitals.copy_from_slice(text.as_bytes());
-    capitals.make_ascii_uppercase();
-    ArrayString::from(str::from_utf8(capitals).ok()?).ok()
+    for byte in bytes {
+        if byte.is_ascii_lowercase() {
+            return true;
+        }
+    }
+    false
 }
 
 /// A name: 1 to 255 bytes of UTF-8, ordered by its bytes. Contracts see the bytes.

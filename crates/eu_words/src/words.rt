@@ -1,5 +1,5 @@
 //! The words of a line.
-ghost use Rattle.std.specs.Prelude.{◌≡◌, ◌≢◌, ◌∷◌, ◌^◌, ◌<◌, ◌≤◌, List, ℕ, IfOk, IsSome, Err};
+ghost use Rattle.std.specs.Prelude.{◌≡◌, ◌≢◌, ◌∷◌, ◌^◌, ◌<◌, ◌≤◌, List, ℕ, IfOk, IfSome, IsSome, None, Err, true, IsAscii, IsUtf8};
 ghost use Rattle.std.specs.Str.{bytes_eq};
 ghost use Rattle.eu_base.specs.Settings.{settings_of};
 ghost use Rattle.eu_words.specs.Words.{words_of, words_left, number, digits, Gives, word_at, absent_at, number_at, moment_at, app_at, id_at, key_at, status_at, maybe_status_at, secs_at, number_of, stamp_at, dirty_at, source_at, peers_at, u32_at, peer_at, switch_at, settings_at, code_at, codes_of, IsCodes, end_at};
@@ -198,7 +198,7 @@ impl<'a> Words<'a> {
         ensures memory { result ≡ Err LineError.OutOfMemory → IsSome (app_at self.old) }
     {
         let word = self.next_word()?;
-        let Ok(text) = str::from_utf8(word) else {
+        let Some(text) = text_of(word) else {
             return Err(LineError::Bad);
         };
         match App::read(alloc, text) {
@@ -215,7 +215,7 @@ impl<'a> Words<'a> {
         ensures memory { result ≡ Err LineError.OutOfMemory → IsSome (id_at self.old) }
     {
         let word = self.next_word()?;
-        let Ok(text) = str::from_utf8(word) else {
+        let Some(text) = text_of(word) else {
             return Err(LineError::Bad);
         };
         match Id::read(alloc, text) {
@@ -353,6 +353,32 @@ fn digits(word: &[u8]) -> Option<u64>
         value = value * 10 + u64::from(*byte - b'0');
     }
     Some(value)
+}
+
+/// A word as text; none where it isn't UTF-8. Most words are short and ASCII: for these, a look at each byte is the quickest test.
+fn text_of(word: &[u8]) -> Option<&str>
+    ensures some { IfSome result (λ text. (text.now ≡ word.now) × IsUtf8 word.now) }
+    ensures none { result ≡ None → IsUtf8 word.now → ⊥ }
+{
+    if is_ascii(word) {
+        return Some(unsafe { str::from_utf8_unchecked(word) });
+    }
+    match str::from_utf8(word) {
+        Ok(text) => Some(text),
+        Err(_) => None,
+    }
+}
+
+/// Whether a word is ASCII.
+fn is_ascii(word: &[u8]) -> bool
+    ensures { result ≡ true → IsAscii word.now }
+{
+    for byte in word {
+        if !byte.is_ascii() {
+            return false;
+        }
+    }
+    true
 }
 
 /// Whether a word is this text.

@@ -6,19 +6,19 @@ use Rattle.eu_words.proofs.words.Words.app_at.Goals as goal
 
 pub returns-in_default-clause-said : goal.returns-in_default-clause-said
 unfolding app_at
-returns-in_default-clause-said c = rw (c.in_ok-word.ensures.said, no_name _ c.in_default.ensures.cases.0) refl
+returns-in_default-clause-said c = rw (c.in_ok-word.ensures.said, no_name _ (c.in_default.ensures.none refl)) refl
 
-pub returns-in-Ok-read-clause-said : goal.returns-in-Ok-read-clause-said
+pub returns-in-Ok-clause-said : goal.returns-in-Ok-clause-said
 unfolding app_at
-returns-in-Ok-read-clause-said c =
-    let utf8 = c.in-Ok.ensures.cases in
-    let read = c.in-Ok-read.ensures in
+returns-in-Ok-clause-said c =
+    let utf8 = c.in-Some.ensures.some in
+    let read = c.in-Ok.ensures in
     rw (c.in_ok-word.ensures.said, some_name _ (λ e. let h = read.empty.1 (utf8.0 ∙ e) in cc) (λ e. let h = read.too_long.1 (rw utf8.0 e) in cc) utf8.1, read.value, utf8.0) refl
 
 pub returns-in-Err-OutOfMemory-clause-memory : goal.returns-in-Err-OutOfMemory-clause-memory
 unfolding app_at
 returns-in-Err-OutOfMemory-clause-memory c =
-    let utf8 = c.in-Ok.ensures.cases in
+    let utf8 = c.in-Some.ensures.some in
     let read = c.read.ensures in
     let fault = c.in-Err-OutOfMemory in
     λ _. rw (

@@ -1,6 +1,6 @@
 -- What is decided is a change of the rule book, and carried out it is a step of the machine
-use Rattle.std.proofs.Common.{◌≡◌, ℕ, ◌+◌, Bool, true, false, true≢false, refl, sym, ◌∙◌, subst}
-use Rattle.std.specs.Prelude.{if◌then◌else◌, Option, Ok}
+use Rattle.std.proofs.Common.{◌≡◌, ℕ, ◌+◌, ◌≤◌, ◌^◌, Bool, true, false, true≢false, refl, sym, ap, subst}
+use Rattle.std.specs.Prelude.{if◌then◌else◌, Option, None, Ok}
 use Rattle.std.specs.FinMap.{FinMap, get}
 use Rattle.eu_base.specs.declared.names.Key.{Key}
 use Rattle.eu_base.specs.Key.{key_cmp}
@@ -11,11 +11,11 @@ use Rattle.eu_model.specs.Change.{Change}
 use Rattle.eu_model.specs.Kept.{after}
 use Rattle.eu_model.specs.Maps.{with_value}
 use Rattle.eu_model.specs.Plain.{Plain}
-use Rattle.eu_meter.specs.Meter.{Counted, Expectation}
+use Rattle.eu_core.specs.declared.decision.Change.{Change as Decided}
 use Rattle.eu_core.specs.declared.decision.Decision.{Decision}
 use Rattle.eu_core.specs.declared.decision.LeaseChange.{LeaseChange}
 use Rattle.eu_core.specs.declared.decision.LeaseChange.TheVariants.{Stays, Renewed, Amended, Rejoined, Replaced, Begun, Ended}
-use Rattle.eu_core.specs.Decided.{begins, counted, expectation, is_in_place, left, IsChange, IsNew, IsOf}
+use Rattle.eu_core.specs.Decided.{begins, count_fault, is_in_place, left, IsChange, IsNew, IsOf, IsReady}
 
 -- ---- changes in place
 
@@ -48,32 +48,35 @@ in_place-begins Ended e = refl
 
 -- ---- a decision that is a change is a step
 
-counted_since : (b : Bool) (x : Counted) → (if b then (let more : Counted = record x { since = x.since + 1 } in more) else x) ≡ (let y : Counted = record x { since = if b then x.since + 1 else x.since } in y)
-counted_since true x = refl
-counted_since false x = refl
-
-is_after : (p : Plain) (k : Key) (d : Decision) (c : Change Listed) → IsChange d (get p.leases k) (expectation p) (counted p) c → left p k d ≡ after p k c
+is_after : (p : Plain) (k : Key) (d : Decision) (c : Change Listed) → IsChange d (get p.leases k) c → left p k d.change ≡ after p k c
 is_after p k d c h =
-    let counts = h.counted_is ∙ counted_since c.counted (counted p) in
     λ i. record p {
-      config = (h.expected_is i).config;
       leases = with_value p.leases k (h.lease i);
-      rows = with_value p.rows k.id (h.row i);
-      expected = (h.expected_is i).expected;
-      last = (counts i).last;
-      since = (counts i).since;
+      rows = with_value p.rows k.id (h.row_is i);
+      expected = h.expected_is i;
+      since = if h.counted_is i then p.since + 1 else p.since;
     }
 
 pub answered : (p : Plain) (command : Command) (t : ℕ) (k : Key) (d : Decision) (held : Option Listed) (c c' : Change Listed) → held ≡ get p.leases k
-    → IsChange d held (expectation p) (counted p) c → c ≡ c' → Answers p command t (Ok c'.reply) (after p k c') → Answers p command t (Ok d.reply) (left p k d)
+    → IsChange d held c → c ≡ c' → Answers p command t (Ok c'.reply) (after p k c') → Answers p command t (Ok d.reply) (left p k d.change)
 answered p command t k d held c c' at change same answers =
-    let h : IsChange d (get p.leases k) (expectation p) (counted p) c' = subst (λ o. IsChange d o (expectation p) (counted p) c') at (subst (λ x. IsChange d held (expectation p) (counted p) x) same change) in
-    subst (λ r. Answers p command t (Ok r) (left p k d)) (sym h.reply) (subst (λ q. Answers p command t (Ok c'.reply) q) (sym (is_after p k d c' h)) answers)
+    let h : IsChange d (get p.leases k) c' = subst (λ o. IsChange d o c') at (subst (λ x. IsChange d held x) same change) in
+    subst (λ r. Answers p command t (Ok r) (left p k d.change)) (sym h.reply) (subst (λ q. Answers p command t (Ok c'.reply) q) (sym (is_after p k d c' h)) answers)
 
 -- the same, where a decision was made of what is known
-pub known : (p : Plain) (command : Command) (t : ℕ) (k : Key) (d : Decision) (held : Option Listed) (x : Expectation) (y : Counted) (change : ℕ → Change Listed) (c : Change Listed)
-    → held ≡ get p.leases k → x ≡ expectation p → y ≡ counted p → IsChange d held x y (change x.expected) → change p.expected ≡ c
-    → Answers p command t (Ok c.reply) (after p k c) → Answers p command t (Ok d.reply) (left p k d)
-known p command t k d held x y change c at ex counts h same answers =
-    let h' : IsChange d held (expectation p) (counted p) (change p.expected) = subst (λ z. IsChange d held (expectation p) z (change p.expected)) counts (subst (λ z. IsChange d held z y (change z.expected)) ex h) in
-    answered p command t k d held (change p.expected) c at h' same answers
+pub known : (p : Plain) (command : Command) (t : ℕ) (k : Key) (d : Decision) (held : Option Listed) (x : ℕ) (change : ℕ → Change Listed) (c : Change Listed)
+    → held ≡ get p.leases k → x ≡ p.expected → IsChange d held (change x) → change p.expected ≡ c
+    → Answers p command t (Ok c.reply) (after p k c) → Answers p command t (Ok d.reply) (left p k d.change)
+known p command t k d held x change c at ex h same answers = answered p command t k d held (change p.expected) c at (subst (λ z. IsChange d held (change z)) ex h) same answers
+
+-- what is decided in place, and counts nothing, can be carried out
+pub ready_in_place : (p : Plain) (k : Key) (x : Decided) → is_in_place x.lease ≡ true → x.expected ≤ 2 ^ 40 → count_fault x.counted p.since ≡ None → IsReady p k x
+ready_in_place p k x in_place bound countable = record {
+  of = in_place-of k x.lease in_place;
+  new = in_place-new p.leases x.lease in_place;
+  bound = bound;
+  countable = countable;
+}
+
+pub uncounted_ready : (b : Bool) (since : ℕ) → b ≡ false → count_fault b since ≡ None
+uncounted_ready b since e = ap (λ c. count_fault c since) e

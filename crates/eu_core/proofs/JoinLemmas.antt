@@ -12,7 +12,6 @@ use Rattle.eu_model.specs.Override.{rule, is_status}
 use Rattle.eu_model.specs.Change.{newer, row_after, under_row, up_after}
 use Rattle.eu_model.specs.declared.commands.Reply.TheVariants.{Registered}
 use Rattle.eu_model.specs.Kept.{kept_register}
-use Rattle.eu_meter.specs.Meter.{Counted, Expectation}
 use Rattle.eu_core.specs.declared.decision.Decision.{Decision}
 use Rattle.eu_core.specs.Decided.{lease_left}
 use Rattle.eu_core.specs.Joins.{Joins}
@@ -66,15 +65,15 @@ row_joined None row n replicated t = refl
 row_joined (Some l) row n replicated t = refl
 
 -- from what the calls find: j is the instance that was chosen
-module _ (d : Decision) (expected : Expectation) (counts : Counted) (n j : Instance) (replicated : Bool) (t : ℕ) (held : Option Listed) (x : Listed) (row : Option Status) (status overridden : Status) where
-  pub joins_from : lease_left d.lease held ≡ Some x → d.threshold ≡ expected → d.rate ≡ counts → d.reply ≡ Registered (not (is_some held))
+module _ (d : Decision) (expected : ℕ) (n j : Instance) (replicated : Bool) (t : ℕ) (held : Option Listed) (x : Listed) (row : Option Status) (status overridden : Status) where
+  pub joins_from : lease_left d.change.lease held ≡ Some x → d.change.expected ≡ expected → d.change.counted ≡ false → d.reply ≡ Registered (not (is_some held))
       → j ≡ chosen held n
-      → d.row ≡ row_after row j.overridden
+      → d.change.row ≡ row_after row j.overridden
       → overridden ≡ unwrap_or (row_after row j.overridden) j.overridden
       → status ≡ rule j.status (row_after row j.overridden) (held_status held) replicated
       → data_of x.instance ≡ (j.key, status, overridden, j.dirty, j.secs, j.interval, j.rest)
       → x.times ≡ record { registered = t; updated = t; up = up_after (held_up held) status t }
-      → Joins d held row expected counts n replicated t
+      → Joins d held row expected n replicated t
   joins_from leaves is_expected is_counted is_reply chose is_row is_overridden is_status facts_are times_are =
       let facts : ◌≡◌ {A = Data} (j.key, status, overridden, j.dirty, j.secs, j.interval, j.rest) (joined_data j row (held_status held) replicated) = λ i. (j.key, is_status i, is_overridden i, j.dirty, j.secs, j.interval, j.rest) in
       let times : ◌≡◌ {A = Times} (record { registered = t; updated = t; up = up_after (held_up held) status t }) (joined_times j row (held_status held) replicated (held_up held) t) =

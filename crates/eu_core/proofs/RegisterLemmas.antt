@@ -1,6 +1,6 @@
 -- What is decided of a registration, where its faults are known
-use Rattle.std.proofs.Common.{◌≡◌, ℕ, ◌+◌, Bool, false, refl, ap, ◌∙◌, subst}
-use Rattle.std.specs.Prelude.{if◌then◌else◌, Option, Some, None, Result, is_some, not}
+use Rattle.std.proofs.Common.{◌≡◌, ℕ, Bool, false, refl, ◌∙◌, subst}
+use Rattle.std.specs.Prelude.{Option, Some, None, Result, is_some, not}
 use Rattle.eu_base.specs.declared.statuses.Status.{Status}
 use Rattle.eu_base.specs.declared.faults.Fault.{Fault}
 use Rattle.eu_base.specs.declared.instances.Instance.{Instance}
@@ -11,7 +11,6 @@ use Rattle.eu_model.specs.Change.{one_more}
 use Rattle.eu_model.specs.Plain.{Plain}
 use Rattle.eu_model.specs.Answers.{Answers}
 use Rattle.eu_model.specs.Kept.{kept_register}
-use Rattle.eu_meter.specs.Meter.{Counted, Expectation}
 use Rattle.eu_core.specs.declared.decision.Decision.{Decision}
 use Rattle.eu_core.specs.Decided.{IsChange}
 use Rattle.eu_core.specs.Joins.{Joins}
@@ -38,18 +37,15 @@ module _ (row : Option Status) (e : ℕ) (n : Instance) (r : Bool) (t : ℕ) whe
   uncounted_of None = refl
   uncounted_of (Some l) = refl
 
-pub joined_is : (d : Decision) (held : Option Listed) (row : Option Status) (expected after : Expectation) (counts : Counted) (n : Instance) (r : Bool) (t : ℕ)
-    → Joins d held row after counts n r t → after ≡ record expected { expected = one_more (not (is_some held)) expected.expected }
-    → IsChange d held expected counts (kept_register held row expected.expected n r t)
-joined_is d held row expected after counts n r t joins is =
-    let e = expected.expected in
-    record {
-      lease = joins.lease ∙ lease_of_any row e n r t held;
-      row = joins.row_is ∙ row_of_any row e n r t held;
-      expected_is = joins.expected_is ∙ is ∙ ap (λ x. let y : Expectation = record expected { expected = x } in y) (expected_of row e n r t held);
-      counted_is = joins.counted_is ∙ ap (λ b. if b then (let more : Counted = record counts { since = counts.since + 1 } in more) else counts) (uncounted_of row e n r t held);
-      reply = joins.reply ∙ reply_of_any row e n r t held;
-    }
+pub joined_is : (d : Decision) (held : Option Listed) (row : Option Status) (e after : ℕ) (n : Instance) (r : Bool) (t : ℕ)
+    → Joins d held row after n r t → after ≡ one_more (not (is_some held)) e → IsChange d held (kept_register held row e n r t)
+joined_is d held row e after n r t joins is = record {
+  lease = joins.lease ∙ lease_of_any row e n r t held;
+  row_is = joins.row_is ∙ row_of_any row e n r t held;
+  expected_is = joins.expected_is ∙ is ∙ expected_of row e n r t held;
+  counted_is = joins.counted_is ∙ uncounted_of row e n r t held;
+  reply = joins.reply ∙ reply_of_any row e n r t held;
+}
 
 -- ---- an answer of what the fields mean
 

@@ -1,5 +1,5 @@
 -- What is decided of a renewal is the rule book's change
-use Rattle.std.proofs.Common.{◌≡◌, ℕ, ◌<◌, Bool, true, false, refl, sym, ap, ◌∙◌, subst, arith}
+use Rattle.std.proofs.Common.{◌≡◌, ℕ, ◌<◌, ◌≤◌, ◌^◌, Bool, true, false, refl, sym, ap, ◌∙◌, subst, arith}
 use Rattle.std.specs.Prelude.{cond, Option, Some, None, Result, Ok, Err, IfOk, IfErr, OnOk, ◌&&◌, nat_lt}
 use Rattle.std.proofs.lemmas.Bool.Decides.{nat_tests}
 use Rattle.eu_base.specs.declared.statuses.Status.{Status}
@@ -17,10 +17,10 @@ use Rattle.eu_model.specs.Answers.{Answers, IsRefusal}
 use Rattle.eu_model.specs.Plain.{Plain}
 use Rattle.eu_model.specs.Kept.{kept_renew, kept_renew_fault}
 use Rattle.eu_model.proofs.RenewLemmas.{renews, renew_answers, renew_refused}
-use Rattle.eu_meter.specs.Meter.{Counted, Expectation}
+use Rattle.eu_meter.specs.Meter.{Counted}
 use Rattle.eu_core.specs.declared.decision.Decision.{Decision}
-use Rattle.eu_core.specs.Decided.{count_fault, counted, expectation, is_in_place, Decides, IsChange}
-use Rattle.eu_core.proofs.DecidedLemmas.{in_place-new, in_place-of, known}
+use Rattle.eu_core.specs.Decided.{count_fault, counted, is_in_place, Decides, IsChange}
+use Rattle.eu_core.proofs.DecidedLemmas.{known, ready_in_place}
 
 -- a peer with a smaller stamp is told the instance
 pub conflict_reply : (i : Instance) (d : Stamp) (r : Bool) → d.value < i.dirty → r ≡ true → renew_reply (Some d) i r ≡ Conflict i
@@ -33,36 +33,35 @@ conflict_reply i d r less replicated =
 -- ---- what is decided, where a registry is renewed
 
 module _ (p : Plain) (k : Key) (dirty : Option Stamp) (overridden : Option Status) (r : Bool) (t : ℕ) (decision : Result Decision Fault)
-    (held : Option Listed) (row : Option Status) (x : Expectation) (y : Counted)
-    (at : held ≡ get p.leases k) (has : row ≡ get p.rows k.id) (ex : x ≡ expectation p) (counts : y ≡ counted p) where
+    (held : Option Listed) (row : Option Status) (x : ℕ) (y : Counted)
+    (at : held ≡ get p.leases k) (has : row ≡ get p.rows k.id) (ex : x ≡ p.expected) (counts : y ≡ counted p) where
   abbrev changes : ℕ → Change Listed
   changes e = kept_renew held row e dirty overridden r t
 
   same : changes p.expected ≡ renews k dirty overridden r t p
   same i = kept_renew (at i) (has i) p.expected dirty overridden r t
 
-  fault : count_fault (changes x.expected).counted y.since ≡ kept_renew_fault p (renews k dirty overridden r t p).counted
+  fault : count_fault (changes x).counted y.since ≡ kept_renew_fault p (renews k dirty overridden r t p).counted
   fault =
-      (λ i. count_fault (changes (ex i).expected).counted (counts i).since)
+      (λ i. count_fault (changes (ex i)).counted (counts i).since)
       ∙ ap (λ (z : Change Listed). count_fault z.counted p.since) same
 
-  pub renewal_decides : IfOk decision (λ d. IsChange d held x y (changes x.expected)) → OnOk decision (count_fault (changes x.expected).counted y.since ≡ None) → IfOk decision (λ d. is_in_place d.lease ≡ true)
+  pub renewal_decides : IfOk decision (λ d. IsChange d held (changes x)) → OnOk decision (count_fault (changes x).counted y.since ≡ None) → IfOk decision (λ d. is_in_place d.change.lease ≡ true) → IfOk decision (λ d. d.change.expected ≤ 2 ^ 40)
       → IfOk decision (Decides p (Renew k dirty overridden r) t k)
   renewal_decides = by decision
     where
-      by : (z : Result Decision Fault) → IfOk z (λ d. IsChange d held x y (changes x.expected)) → OnOk z (count_fault (changes x.expected).counted y.since ≡ None) → IfOk z (λ d. is_in_place d.lease ≡ true)
+      by : (z : Result Decision Fault) → IfOk z (λ d. IsChange d held (changes x)) → OnOk z (count_fault (changes x).counted y.since ≡ None) → IfOk z (λ d. is_in_place d.change.lease ≡ true) → IfOk z (λ d. d.change.expected ≤ 2 ^ 40)
           → IfOk z (Decides p (Renew k dirty overridden r) t k)
-      by (Err f) h none in_place = tt
-      by (Ok d) h none in_place = record {
-        answers = known p (Renew k dirty overridden r) t k d held x y changes (renews k dirty overridden r t p) at ex counts h same (renew_answers k dirty overridden r t p (sym fault ∙ none));
+      by (Err f) h none in_place bound = tt
+      by (Ok d) h none in_place bound = record {
+        answers = known p (Renew k dirty overridden r) t k d held x changes (renews k dirty overridden r t p) at ex h same (renew_answers k dirty overridden r t p (sym fault ∙ none));
         memory = renew_refused k dirty overridden r t p OutOfMemory (subst (λ o. IsRefusal o OutOfMemory) (sym (sym fault ∙ none)) refl);
-        of = in_place-of k d.lease in_place;
-        new = in_place-new p.leases d.lease in_place;
+        ready = ready_in_place p k d.change in_place bound ((λ i. count_fault (h.counted_is i) ((sym counts) i).since) ∙ none);
       }
 
-  pub renewal_refused : IfErr decision (λ f. IsRefusal (count_fault (changes x.expected).counted y.since) f) → IfErr decision (λ f. Answers p (Renew k dirty overridden r) t (Err f) p)
+  pub renewal_refused : IfErr decision (λ f. IsRefusal (count_fault (changes x).counted y.since) f) → IfErr decision (λ f. Answers p (Renew k dirty overridden r) t (Err f) p)
   renewal_refused = by decision
     where
-      by : (z : Result Decision Fault) → IfErr z (λ f. IsRefusal (count_fault (changes x.expected).counted y.since) f) → IfErr z (λ f. Answers p (Renew k dirty overridden r) t (Err f) p)
+      by : (z : Result Decision Fault) → IfErr z (λ f. IsRefusal (count_fault (changes x).counted y.since) f) → IfErr z (λ f. Answers p (Renew k dirty overridden r) t (Err f) p)
       by (Ok d) h = tt
       by (Err f) h = renew_refused k dirty overridden r t p f (subst (λ o. IsRefusal o f) fault h)

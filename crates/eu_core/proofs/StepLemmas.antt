@@ -28,7 +28,7 @@ use Rattle.eu_model.proofs.DeterminedLemmas.{reply_is}
 use Rattle.eu_model.proofs.MinuteLemmas.{roll_is_kept, update_is_kept, reconfigure_is_kept}
 use Rattle.eu_store.proofs.TableLemmas.{by_key, get_inserted}
 use Rattle.eu_choice.specs.Front.{Asks}
-use Rattle.eu_core.specs.declared.decision.Decision.{Decision}
+use Rattle.eu_core.specs.declared.decision.Change.{Change}
 use Rattle.eu_core.specs.Decided.{lease_left, left}
 use Rattle.eu_core.specs.Stepped.{Chooses, instance_held}
 
@@ -42,10 +42,10 @@ get_changed m k None = get_removed m k
 get_changed m k (Some l) = get_inserted by_key m k l
 
 -- it is what the decision leaves
-pub held_left : (p q : Plain) (c : Command) (k : Key) (d : Decision) → key_of c ≡ Some k → q ≡ left p k d
-    → option_map (λ (l : Listed). l.instance) (lease_left d.lease (get p.leases k)) ≡ instance_held q c
-held_left p q c k d key is =
-    sym (ap (held_under q) key ∙ ap (λ (x : Plain). kept_instance x k) is ∙ ap (option_map (λ (l : Listed). l.instance)) (get_changed p.leases k (lease_left d.lease (get p.leases k))))
+pub held_left : (p q : Plain) (c : Command) (k : Key) (x : Change) → key_of c ≡ Some k → q ≡ left p k x
+    → option_map (λ (l : Listed). l.instance) (lease_left x.lease (get p.leases k)) ≡ instance_held q c
+held_left p q c k x key is =
+    sym (ap (held_under q) key ∙ ap (λ (y : Plain). kept_instance y k) is ∙ ap (option_map (λ (l : Listed). l.instance)) (get_changed p.leases k (lease_left x.lease (get p.leases k))))
 
 -- a command on a lease asks no word
 pub unasked : {S : Type 0} (asks : Asks S) (p : Plain) (x : S) (c : Command) (k : Key) (t : ℕ) (reply : Reply) → key_of c ≡ Some k → Chooses asks p x c t reply x

@@ -1,5 +1,5 @@
 -- What is decided of a command on a lease, and what is left once that is carried out
-use Rattle.std.specs.Prelude.{◌≡◌, ℕ, ◌+◌, ◌^◌, ◌<◌, ◌==◌, ◌&&◌, ◌⊎◌, Bool, true, false, if◌then◌else◌, List, Option, Some, None, Ok, Err}
+use Rattle.std.specs.Prelude.{◌≡◌, ℕ, ◌+◌, ◌^◌, ◌<◌, ◌≤◌, ◌==◌, ◌&&◌, ◌⊎◌, Bool, true, false, if◌then◌else◌, List, Option, Some, None, Ok, Err}
 use Rattle.std.specs.Option.{option_map}
 use Rattle.std.specs.FinMap.{FinMap, get, len, remove}
 use Rattle.eu_base.specs.declared.faults.Fault.{Fault}
@@ -14,9 +14,10 @@ use Rattle.eu_model.specs.Answers.{Answers}
 use Rattle.eu_model.specs.Change.{Change}
 use Rattle.eu_model.specs.Maps.{with_value}
 use Rattle.eu_model.specs.Plain.{Plain}
-use Rattle.eu_meter.specs.Meter.{Counted, Expectation}
+use Rattle.eu_meter.specs.Meter.{Counted}
 use Rattle.eu_store.specs.Stored.{renewed_at, amended, upped_at, rejoined}
 use Rattle.eu_eviction.specs.Rows.{with_put}
+use Rattle.eu_core.specs.declared.decision.Change.{Change as Decided}
 use Rattle.eu_core.specs.declared.decision.Decision.{Decision}
 use Rattle.eu_core.specs.declared.decision.LeaseChange.{LeaseChange}
 use Rattle.eu_core.specs.declared.decision.LeaseChange.TheVariants.{Stays, Renewed, Amended, Rejoined, Replaced, Begun, Ended}
@@ -36,7 +37,7 @@ lease_left (Renewed t) held = option_map (renewed_at t) held
 lease_left (Amended t status overridden dirty comes_up) held =
     option_map (λ l. marked comes_up t (amended status overridden dirty (renewed_at t l))) held
 lease_left (Rejoined by) held = option_map (rejoined by.value.newcomer by.value.status by.value.overridden by.value.lease) held
-lease_left (Replaced by) held = option_map (λ l. by.value) held
+lease_left (Replaced by) held = option_map (λ l. by) held
 lease_left (Begun begun) held = Some begun.value.held
 lease_left Ended held = None
 
@@ -54,7 +55,7 @@ begins _ = false
 -- a change of the lease of that key
 abbrev pub IsOf : Key → LeaseChange → Type 0
 IsOf k (Rejoined by) = (by.value.newcomer.key ≡ k) × (by.value.lease.secs ≡ by.value.newcomer.secs)
-IsOf k (Replaced by) = by.value.instance.key ≡ k
+IsOf k (Replaced by) = by.instance.key ≡ k
 IsOf k (Begun begun) = begun.value.key ≡ k
 IsOf k _ = Unit {0}
 
@@ -75,46 +76,47 @@ puts _ = false
 
 -- ---- decisions
 
-abbrev pub decided : LeaseChange → Option Status → Expectation → Counted → Reply → Decision
-decided lease row expected counted reply = record { lease = lease; row = row; threshold = expected; rate = counted; reply = reply }
+abbrev pub decided : LeaseChange → Option Status → ℕ → Reply → Decision
+decided lease row expected reply = record { change = record { lease = lease; row = row; expected = expected; counted = false }; reply = reply }
 
--- what is decided is that change of what is held, where so many are expected and counted
-pub record IsChange (d : Decision) (held : Option Listed) (expected : Expectation) (counted : Counted) (c : Change Listed) : Type 0 where
-  pub lease : lease_left d.lease held ≡ c.lease
-  pub row : d.row ≡ c.row
-  pub expected_is : d.threshold ≡ record expected { expected = c.expected }
-  pub counted_is : d.rate ≡ (if c.counted then (let more : Counted = record counted { since = counted.since + 1 } in more) else counted)
+-- what is decided is that change of what is held
+pub record IsChange (d : Decision) (held : Option Listed) (c : Change Listed) : Type 0 where
+  pub lease : lease_left d.change.lease held ≡ c.lease
+  pub row_is : d.change.row ≡ c.row
+  pub expected_is : d.change.expected ≡ c.expected
+  pub counted_is : d.change.counted ≡ c.counted
   pub reply : d.reply ≡ c.reply
 
 -- why a renewal isn't counted
 abbrev pub count_fault : Bool → ℕ → Option Fault
 count_fault counts since = if counts && (since == 2 ^ 62) then Some Exhausted else None
 
-abbrev pub expectation : Plain → Expectation
-expectation p = record { config = p.config; expected = p.expected }
-
 abbrev pub counted : Plain → Counted
 counted p = record { last = p.last; since = p.since }
 
--- the plain form that is left once a decision on the lease of a key is carried out
-abbrev pub left : Plain → Key → Decision → Plain
-left p k d = record p {
-  config = d.threshold.config;
-  leases = with_value p.leases k (lease_left d.lease (get p.leases k));
-  rows = with_value p.rows k.id d.row;
-  expected = d.threshold.expected;
-  last = d.rate.last;
-  since = d.rate.since;
+-- the plain form that is left once what was decided of the lease of a key is carried out
+abbrev pub left : Plain → Key → Decided → Plain
+left p k x = record p {
+  leases = with_value p.leases k (lease_left x.lease (get p.leases k));
+  rows = with_value p.rows k.id x.row;
+  expected = x.expected;
+  since = if x.counted then p.since + 1 else p.since;
 }
+
+-- it can be carried out: nothing but want of memory stands in its way
+pub record IsReady (p : Plain) (k : Key) (x : Decided) : Type 0 where
+  pub of : IsOf k x.lease
+  pub new : IsNew p.leases x.lease
+  pub bound : x.expected ≤ 2 ^ 40
+  pub countable : count_fault x.counted p.since ≡ None
 
 -- a decision on the lease of a key is that of a command: carried out it is a step of the machine, and memory may be wanted for it
 pub record Decides (p : Plain) (c : Command) (t : ℕ) (k : Key) (d : Decision) : Type 0 where
-  pub answers : Answers p c t (Ok d.reply) (left p k d)
+  pub answers : Answers p c t (Ok d.reply) (left p k d.change)
   pub memory : Answers p c t (Err OutOfMemory) p
-  pub of : IsOf k d.lease
-  pub new : IsNew p.leases d.lease
+  pub ready : IsReady p k d.change
 
 -- it wants no memory
-pub record IsFrugal (row : Option Status) (d : Decision) : Type 0 where
-  pub lease : is_in_place d.lease ≡ true
-  pub row_is : (d.row ≡ row) ⊎ (d.row ≡ None)
+pub record IsFrugal (row : Option Status) (x : Decided) : Type 0 where
+  pub lease : is_in_place x.lease ≡ true
+  pub row_is : (x.row ≡ row) ⊎ (x.row ≡ None)

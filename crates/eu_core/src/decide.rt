@@ -1,5 +1,5 @@
 //! What each command on a lease does to it: a function for each equation of the rule book.
-ghost use Rattle.std.specs.Prelude.{◌≡◌, ◌≢◌, ◌⊎◌, false, true, Err, IfErr, IfOk, IsOk, None, OnOk, Option, Some};
+ghost use Rattle.std.specs.Prelude.{◌≡◌, ◌≢◌, ◌≤◌, ◌⊎◌, false, true, Err, IfErr, IfOk, IsOk, None, OnOk, Option, Some};
 ghost use Rattle.std.specs.Option.{option_copied};
 ghost use Rattle.eu_base.specs.declared.statuses.Status.{Status};
 ghost use Rattle.eu_model.specs.declared.views.Listed.{Listed};
@@ -8,11 +8,11 @@ ghost use Rattle.eu_model.specs.Change.{renew_reply};
 ghost use Rattle.eu_model.specs.Kept.{kept_cancel, kept_register, kept_renew, kept_set_status, kept_unset_status};
 ghost use Rattle.eu_core.specs.Decided.{count_fault, decided, is_in_place, IsChange};
 
-use crate::decision::{Decision, LeaseChange};
+use crate::decision::{Change, Decision, LeaseChange};
 use crate::statuses::brought;
 use eu_base::{BoxedInstance, Fault, Instance, Moment, Stamp, Status};
 use eu_lease::{is_status, override_rule};
-use eu_meter::{Rate, Threshold};
+use eu_meter::Rate;
 use eu_model::Reply;
 use eu_store::Held;
 use std::alloc::{AllocError, Global};
@@ -23,7 +23,7 @@ pub struct Known {
     /// The override row of its id.
     pub row: Option<Status>,
     /// How many clients are expected.
-    pub threshold: Threshold,
+    pub expected: u64,
     /// The renewals that are counted.
     pub rate: Rate,
 }
@@ -38,11 +38,12 @@ pub fn decide_renewal(
     replicated: bool,
     moment: Moment,
 ) -> Result<Decision, Fault>
-    ensures change { IfOk result (λ d. IsChange d (option_copied held.entry) known.threshold known.rate (kept_renew (option_copied held.entry) known.row known.threshold.expected dirty overridden replicated moment)) }
-    ensures counted { OnOk result (count_fault (kept_renew (option_copied held.entry) known.row known.threshold.expected dirty overridden replicated moment).counted known.rate.since ≡ None) }
-    ensures in_place { IfOk result (λ d. is_in_place d.lease ≡ true) }
-    ensures frugal { (dirty ≡ None) ⊎ (replicated ≡ false) → IfOk result (λ d. d.row ≡ known.row) }
-    ensures refused { IfErr result (λ f. IsRefusal (count_fault (kept_renew (option_copied held.entry) known.row known.threshold.expected dirty overridden replicated moment).counted known.rate.since) f) }
+    ensures change { IfOk result (λ d. IsChange d (option_copied held.entry) (kept_renew (option_copied held.entry) known.row known.expected dirty overridden replicated moment)) }
+    ensures counted { OnOk result (count_fault (kept_renew (option_copied held.entry) known.row known.expected dirty overridden replicated moment).counted known.rate.since ≡ None) }
+    ensures in_place { IfOk result (λ d. is_in_place d.change.lease ≡ true) }
+    ensures few { IfOk result (λ d. d.change.expected ≤ known.expected) }
+    ensures frugal { (dirty ≡ None) ⊎ (replicated ≡ false) → IfOk result (λ d. d.change.row ≡ known.row) }
+    ensures refused { IfErr result (λ f. IsRefusal (count_fault (kept_renew (option_copied held.entry) known.row known.expected dirty overridden replicated moment).counted known.rate.since) f) }
     ensures memory { (dirty ≡ None) ⊎ (replicated ≡ false) → result ≢ Err Fault.OutOfMemory }
 {
     let Some(held) = held else {
@@ -54,21 +55,22 @@ pub fn decide_renewal(
     if is_status(status, Status::Unknown) {
         return Ok(unchanged(known, Reply::NotFound));
     }
-    let mut rate = known.rate;
-    rate.count()?;
+    known.rate.check()?;
     let reply = renew_reply(alloc, instance, status, dirty, replicated)?;
     let brought = brought(&reply, overridden, known.row, replicated);
     Ok(Decision {
-        lease: LeaseChange::Amended {
-            moment,
-            status,
-            overridden: brought.unwrap_or(instance.overridden),
-            dirty: None,
-            comes_up: false,
+        change: Change {
+            lease: LeaseChange::Amended {
+                moment,
+                status,
+                overridden: brought.unwrap_or(instance.overridden),
+                dirty: None,
+                comes_up: false,
+            },
+            row: brought.or(known.row),
+            expected: known.expected,
+            counted: true,
         },
-        row: brought.or(known.row),
-        threshold: known.threshold,
-        rate,
         reply,
     })
 }
@@ -109,8 +111,10 @@ pub fn decide_status(
     moment: Moment,
 ) -> Decision
     ensures change { (held : Option Listed) → ((l : Listed) → option_copied seen.entry ≡ Some l → held ≡ Some l)
-        → IsChange result held known.threshold known.rate (kept_set_status (option_copied seen.entry) held known.row known.threshold.expected status dirty moment) }
-    ensures in_place { is_in_place result.lease ≡ true }
+        → IsChange result held (kept_set_status (option_copied seen.entry) held known.row known.expected status dirty moment) }
+    ensures in_place { is_in_place result.change.lease ≡ true }
+    ensures few { result.change.expected ≤ known.expected }
+    ensures uncounted { result.change.counted ≡ false }
 {
     let Some(seen) = seen else {
         return unchanged(known, Reply::NotFound);
@@ -119,16 +123,18 @@ pub fn decide_status(
         return renewed(known, moment);
     }
     Decision {
-        lease: LeaseChange::Amended {
-            moment,
-            status,
-            overridden: status,
-            dirty,
-            comes_up: is_status(status, Status::Up),
+        change: Change {
+            lease: LeaseChange::Amended {
+                moment,
+                status,
+                overridden: status,
+                dirty,
+                comes_up: is_status(status, Status::Up),
+            },
+            row: Some(status),
+            expected: known.expected,
+            counted: false,
         },
-        row: Some(status),
-        threshold: known.threshold,
-        rate: known.rate,
         reply: Reply::Done,
     }
 }
@@ -142,9 +148,11 @@ pub fn decide_no_status(
     moment: Moment,
 ) -> Decision
     ensures change { (held : Option Listed) → ((l : Listed) → option_copied seen.entry ≡ Some l → held ≡ Some l)
-        → IsChange result held known.threshold known.rate (kept_unset_status (option_copied seen.entry) held known.row known.threshold.expected status dirty moment) }
-    ensures in_place { is_in_place result.lease ≡ true }
-    ensures frugal { (result.row ≡ known.row) ⊎ (result.row ≡ None) }
+        → IsChange result held (kept_unset_status (option_copied seen.entry) held known.row known.expected status dirty moment) }
+    ensures in_place { is_in_place result.change.lease ≡ true }
+    ensures few { result.change.expected ≤ known.expected }
+    ensures uncounted { result.change.counted ≡ false }
+    ensures frugal { (result.change.row ≡ known.row) ⊎ (result.change.row ≡ None) }
 {
     let Some(_seen) = seen else {
         return unchanged(known, Reply::NotFound);
@@ -153,69 +161,77 @@ pub fn decide_no_status(
         return renewed(known, moment);
     };
     Decision {
-        lease: LeaseChange::Amended {
-            moment,
-            status: status.unwrap_or(Status::Unknown),
-            overridden: Status::Unknown,
-            dirty,
-            comes_up: false,
+        change: Change {
+            lease: LeaseChange::Amended {
+                moment,
+                status: status.unwrap_or(Status::Unknown),
+                overridden: Status::Unknown,
+                dirty,
+                comes_up: false,
+            },
+            row: None,
+            expected: known.expected,
+            counted: false,
         },
-        row: None,
-        threshold: known.threshold,
-        rate: known.rate,
         reply: Reply::Done,
     }
 }
 
 /// A cancel (`AbstractInstanceRegistry.internalCancel`).
 pub fn decide_cancel(held: Option<&Held>, known: Known) -> Decision
-    ensures change { IsChange result (option_copied held.entry) known.threshold known.rate (kept_cancel (option_copied held.entry) known.threshold.expected) }
-    ensures in_place { is_in_place result.lease ≡ true }
-    ensures row { result.row ≡ None }
+    ensures change { IsChange result (option_copied held.entry) (kept_cancel (option_copied held.entry) known.expected) }
+    ensures in_place { is_in_place result.change.lease ≡ true }
+    ensures few { result.change.expected ≤ known.expected }
+    ensures uncounted { result.change.counted ≡ false }
+    ensures row { result.change.row ≡ None }
 {
-    let Some(_held) = held else {
-        return ended(known.threshold, known.rate, Reply::NotFound);
-    };
-    let mut threshold = known.threshold;
-    threshold.left();
-    ended(threshold, known.rate, Reply::Done)
+    match held {
+        Some(_) => ended(known.expected.saturating_sub(1), Reply::Done),
+        None => ended(known.expected, Reply::NotFound),
+    }
 }
 
 /// The lease stays, if one is held, and so does all else.
 fn unchanged(known: Known, reply: Reply) -> Decision
-    ensures { result ≡ decided LeaseChange.Stays known.row known.threshold known.rate reply }
+    ensures { result ≡ decided LeaseChange.Stays known.row known.expected reply }
 {
     Decision {
-        lease: LeaseChange::Stays,
-        row: known.row,
-        threshold: known.threshold,
-        rate: known.rate,
+        change: Change {
+            lease: LeaseChange::Stays,
+            row: known.row,
+            expected: known.expected,
+            counted: false,
+        },
         reply,
     }
 }
 
 /// The lease is renewed, and not counted.
 fn renewed(known: Known, moment: Moment) -> Decision
-    ensures { result ≡ decided (LeaseChange.Renewed moment) known.row known.threshold known.rate Reply.Done }
+    ensures { result ≡ decided (LeaseChange.Renewed moment) known.row known.expected Reply.Done }
 {
     Decision {
-        lease: LeaseChange::Renewed { moment },
-        row: known.row,
-        threshold: known.threshold,
-        rate: known.rate,
+        change: Change {
+            lease: LeaseChange::Renewed { moment },
+            row: known.row,
+            expected: known.expected,
+            counted: false,
+        },
         reply: Reply::Done,
     }
 }
 
 /// The lease ends, and the row of its id goes.
-fn ended(threshold: Threshold, rate: Rate, reply: Reply) -> Decision
-    ensures { result ≡ decided LeaseChange.Ended None threshold rate reply }
+fn ended(expected: u64, reply: Reply) -> Decision
+    ensures { result ≡ decided LeaseChange.Ended None expected reply }
 {
     Decision {
-        lease: LeaseChange::Ended,
-        row: None,
-        threshold,
-        rate,
+        change: Change {
+            lease: LeaseChange::Ended,
+            row: None,
+            expected,
+            counted: false,
+        },
         reply,
     }
 }

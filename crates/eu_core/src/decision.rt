@@ -11,9 +11,8 @@ ghost use Rattle.eu_store.specs.Stored.{changed, renewed_at, amended};
 use eu_base::{Fault, Id, Instance, Key, Moment, Stamp, Status};
 use eu_eviction::Overrides;
 use eu_lease::Lease;
-use eu_meter::{Rate, Threshold};
 use eu_model::Reply;
-use eu_store::{Held, Leases};
+use eu_store::{Held, Leases, Place};
 use std::alloc::{AllocError, Global};
 
 /// What becomes of the lease of a key.
@@ -37,7 +36,7 @@ pub enum LeaseChange {
     /// It begins anew, and keeps its instance, but for some statuses and a newcomer's duration.
     Rejoined(Box<Rejoining>),
     /// This takes its place.
-    Replaced(Box<Held>),
+    Replaced(Held),
     /// It begins.
     Begun(Box<Beginning>),
     /// It ends.
@@ -66,17 +65,24 @@ pub struct Beginning {
     pub held: Held,
 }
 
-/// What a command on a lease does. The rule book calls it a change.
+/// What a command on a lease changes.
 #[derive(Drop)]
-pub struct Decision {
+pub struct Change {
     /// What becomes of the lease.
     pub lease: LeaseChange,
     /// The override row that its id has then.
     pub row: Option<Status>,
-    /// How many clients are expected then.
-    pub threshold: Threshold,
-    /// The renewals that are counted then.
-    pub rate: Rate,
+    /// How many clients are expected then: at most 2^40.
+    pub expected: u64,
+    /// Whether a renewal is counted.
+    pub counted: bool,
+}
+
+/// What a command on a lease does. The rule book calls both a change.
+#[derive(Drop)]
+pub struct Decision {
+    /// What it changes.
+    pub change: Change,
     /// The reply.
     pub reply: Reply,
 }
@@ -99,21 +105,22 @@ pub fn make_room(leases: &mut Leases, change: &LeaseChange) -> Result<(), Fault>
     ensures memory { is_in_place change.now ≡ true → IsOk result }
 {
     match change {
-        LeaseChange::Begun(begun) => leases.prepare_put(&begun.key),
+        LeaseChange::Begun(_) => leases.reserve(),
         _ => Ok(()),
     }
 }
 
-/// Carries out what becomes of the lease of a key. Takes no memory.
-pub fn write_lease(leases: &mut Leases, key: &Key, change: LeaseChange)
+/// Carries out what becomes of the lease of a key, which was found at that place. Takes no memory.
+pub fn write_lease(leases: &mut Leases, key: &Key, place: Place, change: LeaseChange)
     requires of { IsOf key.now change }
+    requires new { IsNew leases.old.held change }
     requires room { begins change ≡ true → 0 < leases.old.room }
     ensures { leases.new.held ≡ with_value leases.old.held key.now (lease_left change (map.get leases.old.held key.now)) }
 {
     match change {
         LeaseChange::Stays => {}
         LeaseChange::Renewed { moment } => {
-            leases.renew(key, moment);
+            leases.renew(key, place, moment);
         }
         LeaseChange::Amended {
             moment,
@@ -122,22 +129,23 @@ pub fn write_lease(leases: &mut Leases, key: &Key, change: LeaseChange)
             dirty,
             comes_up,
         } => {
-            amend(leases, key, moment, status, overridden, dirty, comes_up);
+            amend(
+                leases, key, place, moment, status, overridden, dirty, comes_up,
+            );
         }
         LeaseChange::Rejoined(by) => {
             let by = Box::into_inner(by);
-            leases.rejoin(&by.newcomer, by.status, by.overridden, by.lease);
+            leases.rejoin(place, &by.newcomer, by.status, by.overridden, by.lease);
         }
         LeaseChange::Replaced(held) => {
-            let held = Box::into_inner(held);
-            leases.replace(held);
+            leases.replace(place, held);
         }
         LeaseChange::Begun(begun) => {
             let Beginning { key, held } = Box::into_inner(begun);
-            leases.put_prepared(key, held);
+            leases.insert(key, held);
         }
         LeaseChange::Ended => {
-            leases.take(key);
+            leases.take(key, place);
         }
     }
 }
@@ -146,6 +154,7 @@ pub fn write_lease(leases: &mut Leases, key: &Key, change: LeaseChange)
 fn amend(
     leases: &mut Leases,
     key: &Key,
+    place: Place,
     moment: Moment,
     status: Status,
     overridden: Status,
@@ -154,9 +163,9 @@ fn amend(
 )
     ensures { leases.new.held ≡ changed (λ l. marked comes_up moment (amended status overridden dirty (renewed_at moment l))) leases.old.held key.now }
 {
-    leases.renew_as(key, moment, status, overridden, dirty);
+    leases.renew_as(key, place, moment, status, overridden, dirty);
     if comes_up {
-        leases.mark_up(key, moment);
+        leases.mark_up(key, place, moment);
     }
 }
 

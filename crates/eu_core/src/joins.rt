@@ -10,7 +10,7 @@ ghost use Rattle.eu_core.specs.Decided.{IsNew, IsOf};
 ghost use Rattle.eu_core.specs.Joins.{Joins};
 
 use crate::decide::Known;
-use crate::decision::{Beginning, Decision, LeaseChange, Rejoining};
+use crate::decision::{Beginning, Change, Decision, LeaseChange, Rejoining};
 use crate::statuses::settle;
 use eu_base::{Instance, Moment, Status};
 use eu_lease::Lease;
@@ -39,9 +39,9 @@ pub fn decide_join(
     replicated: bool,
     moment: Moment,
 ) -> Result<Decision, AllocError>
-    ensures joins { IfOk result (λ d. Joins d (option_copied held.entry) known.row known.threshold known.rate instance.now replicated moment) }
-    ensures of { IfOk result (λ d. IsOf instance.now.key d.lease) }
-    ensures new { IfOk result (λ d. (leases : FinMap key_cmp Listed) → option_copied held.entry ≡ map.get leases instance.now.key → (option_copied held.entry ≡ None → map.len leases < 65536) → IsNew leases d.lease) }
+    ensures joins { IfOk result (λ d. Joins d (option_copied held.entry) known.row known.expected instance.now replicated moment) }
+    ensures of { IfOk result (λ d. IsOf instance.now.key d.change.lease) }
+    ensures new { IfOk result (λ d. (leases : FinMap key_cmp Listed) → option_copied held.entry ≡ map.get leases instance.now.key → (option_copied held.entry ≡ None → map.len leases < 65536) → IsNew leases d.change.lease) }
 {
     let instance = instance.copy(alloc)?;
     match held {
@@ -61,9 +61,9 @@ fn join_new(
     replicated: bool,
     moment: Moment,
 ) -> Result<Decision, AllocError>
-    ensures joins { IfOk result (λ d. Joins d None known.row known.threshold known.rate instance replicated moment) }
-    ensures of { IfOk result (λ d. IsOf instance.key d.lease) }
-    ensures new { IfOk result (λ d. (leases : FinMap key_cmp Listed) → map.get leases instance.key ≡ None → map.len leases < 65536 → IsNew leases d.lease) }
+    ensures joins { IfOk result (λ d. Joins d None known.row known.expected instance replicated moment) }
+    ensures of { IfOk result (λ d. IsOf instance.key d.change.lease) }
+    ensures new { IfOk result (λ d. (leases : FinMap key_cmp Listed) → map.get leases instance.key ≡ None → map.len leases < 65536 → IsNew leases d.change.lease) }
 {
     let settled = settle(
         instance.status,
@@ -77,12 +77,16 @@ fn join_new(
     let lease = begun(fresh, settled.status, moment);
     instance.status = settled.status;
     instance.overridden = settled.overridden;
+    let instance = Box::new(alloc, instance)?;
     let held = Held::new(instance, lease);
+    let begun = Box::new(alloc, Beginning { key, held })?;
     Ok(Decision {
-        lease: LeaseChange::Begun(Box::new(alloc, Beginning { key, held })?),
-        row: settled.row,
-        threshold: known.threshold,
-        rate: known.rate,
+        change: Change {
+            lease: LeaseChange::Begun(begun),
+            row: settled.row,
+            expected: known.expected,
+            counted: false,
+        },
         reply: Reply::Registered { fresh: true },
     })
 }
@@ -97,9 +101,9 @@ fn join_over(
     moment: Moment,
 ) -> Result<Decision, AllocError>
     requires { held.now.instance.dirty ≤ instance.dirty }
-    ensures joins { IfOk result (λ d. Joins d (Some held.now) known.row known.threshold known.rate instance replicated moment) }
-    ensures of { IfOk result (λ d. IsOf instance.key d.lease) }
-    ensures new { IfOk result (λ d. (leases : FinMap key_cmp Listed) → IsNew leases d.lease) }
+    ensures joins { IfOk result (λ d. Joins d (Some held.now) known.row known.expected instance replicated moment) }
+    ensures of { IfOk result (λ d. IsOf instance.key d.change.lease) }
+    ensures new { IfOk result (λ d. (leases : FinMap key_cmp Listed) → IsNew leases d.change.lease) }
 {
     let settled = settle(
         instance.status,
@@ -112,12 +116,15 @@ fn join_over(
     let lease = begun(anew, settled.status, moment);
     instance.status = settled.status;
     instance.overridden = settled.overridden;
+    let instance = Box::new(alloc, instance)?;
     let held = Held::new(instance, lease);
     Ok(Decision {
-        lease: LeaseChange::Replaced(Box::new(alloc, held)?),
-        row: settled.row,
-        threshold: known.threshold,
-        rate: known.rate,
+        change: Change {
+            lease: LeaseChange::Replaced(held),
+            row: settled.row,
+            expected: known.expected,
+            counted: false,
+        },
         reply: Reply::Registered { fresh: false },
     })
 }
@@ -132,9 +139,9 @@ fn join_under(
     moment: Moment,
 ) -> Result<Decision, AllocError>
     requires { newcomer.dirty < held.now.instance.dirty }
-    ensures joins { IfOk result (λ d. Joins d (Some held.now) known.row known.threshold known.rate newcomer replicated moment) }
-    ensures of { IfOk result (λ d. IsOf newcomer.key d.lease) }
-    ensures new { IfOk result (λ d. (leases : FinMap key_cmp Listed) → IsNew leases d.lease) }
+    ensures joins { IfOk result (λ d. Joins d (Some held.now) known.row known.expected newcomer replicated moment) }
+    ensures of { IfOk result (λ d. IsOf newcomer.key d.change.lease) }
+    ensures new { IfOk result (λ d. (leases : FinMap key_cmp Listed) → IsNew leases d.change.lease) }
 {
     let own = held.instance();
     let settled = settle(
@@ -153,10 +160,12 @@ fn join_under(
         lease,
     };
     Ok(Decision {
-        lease: LeaseChange::Rejoined(Box::new(alloc, rejoining)?),
-        row: settled.row,
-        threshold: known.threshold,
-        rate: known.rate,
+        change: Change {
+            lease: LeaseChange::Rejoined(Box::new(alloc, rejoining)?),
+            row: settled.row,
+            expected: known.expected,
+            counted: false,
+        },
         reply: Reply::Registered { fresh: false },
     })
 }

@@ -1,5 +1,5 @@
 //! The registry.
-ghost use Rattle.std.specs.Prelude.{◌≡◌, ◌≢◌, ◌<◌, ◌⊎◌, ℕ, Bool, false, not, replicate, IsOk, OnOk, OnErr, Option, None, Some, Ok, Err, List, IfOk, IfErr, is_some};
+ghost use Rattle.std.specs.Prelude.{◌≡◌, ◌≢◌, ◌+◌, ◌^◌, ◌<◌, ◌≤◌, ◌⊎◌, ℕ, Bool, false, if◌then◌else◌, not, replicate, IsOk, OnOk, OnErr, Option, None, Some, Ok, Err, List, IfOk, IfErr, is_some};
 ghost use Rattle.std.specs.Option.{option_copied};
 ghost use Rattle.std.specs.FinMap as map;
 ghost use Rattle.eu_base.specs.declared.names.Key.{Key};
@@ -11,13 +11,15 @@ ghost use Rattle.eu_model.specs.Answers.{Answers, Shows};
 ghost use Rattle.eu_model.specs.View.{counts, one, listing};
 ghost use Rattle.eu_model.specs.Kept.{kept_join_fault, kept_seen};
 ghost use Rattle.eu_model.specs.Evict.{extra_time};
-ghost use Rattle.eu_core.specs.Decided.{counted, expectation, left, Decides, IsFrugal, IsNew, IsOf};
+ghost use Rattle.eu_core.specs.Decided.{count_fault, counted, left, Decides, IsFrugal, IsReady};
 ghost use Rattle.eu_core.specs.Evicts.{Draws};
 ghost use Rattle.eu_core.specs.Shown.{shown};
 ghost use Rattle.eu_core.specs.State.{state_of};
 
 use crate::decide::{Known, decide_cancel, decide_no_status, decide_renewal, decide_status};
-use crate::decision::{Decision, make_room, prepare_row, without_memory, write_lease, write_row};
+use crate::decision::{
+    Change, Decision, make_room, prepare_row, without_memory, write_lease, write_row,
+};
 use crate::joins::decide_join;
 use crate::statuses::told;
 use eu_base::{App, Config, Fault, Instance, Key, Moment, Stamp, Status};
@@ -25,7 +27,7 @@ use eu_clock::Chooser;
 use eu_eviction::{Overrides, Passed, run_pass};
 use eu_meter::{Rate, Threshold};
 use eu_model::{Command, Counts, Keys, Listed, Listing, Queues, Reply, State, Times};
-use eu_store::{Held, Leases, MOST_LEASES};
+use eu_store::{Held, Leases, MOST_LEASES, Place};
 use std::alloc::{AllocError, Global};
 use std::marker::Model;
 
@@ -106,9 +108,12 @@ impl Registry {
         ensures answers { Answers self.old (Command.Register instance.now replicated) moment result self.new }
         ensures err { OnErr result (self.new ≡ self.old) }
     {
-        let (held, row) = self.find(&instance.key);
-        let decision = self.registration(alloc, instance, held, row, replicated, moment)?;
-        self.carry_out(alloc, &instance.key, row, decision)
+        let (place, held, row) = self.find(&instance.key);
+        let Decision { change, reply } = self.registration(
+            alloc, instance, held, row, replicated, moment,
+        )?;
+        self.carry_out(alloc, &instance.key, place, row, change)?;
+        Ok(reply)
     }
 
     /// Adopts an instance of which a peer told (`PeerEurekaNode.syncInstancesIfTimestampDiffers` in Eureka).
@@ -124,9 +129,10 @@ impl Registry {
         ensures answers { Answers self.old (Command.Adopt instance.now) moment result self.new }
         ensures err { OnErr result (self.new ≡ self.old) }
     {
-        let (held, row) = self.find(&instance.key);
-        let decision = self.adoption(alloc, instance, held, row, moment)?;
-        self.carry_out(alloc, &instance.key, row, decision)
+        let (place, held, row) = self.find(&instance.key);
+        let Decision { change, reply } = self.adoption(alloc, instance, held, row, moment)?;
+        self.carry_out(alloc, &instance.key, place, row, change)?;
+        Ok(reply)
     }
 
     /// Renews a lease at the moment, also one that has expired: a heartbeat (`AbstractInstanceRegistry.renew` and
@@ -154,9 +160,12 @@ impl Registry {
         ensures memory { dirty ≡ None → result ≢ Err Fault.OutOfMemory }
         ensures client { replicated ≡ false → result ≢ Err Fault.OutOfMemory }
     {
-        let (held, row) = self.find(key);
-        let decision = self.renewal(alloc, key, held, row, dirty, overridden, replicated, moment)?;
-        self.carry_out(alloc, key, row, decision)
+        let (place, held, row) = self.find(key);
+        let Decision { change, reply } = self.renewal(
+            alloc, key, held, row, dirty, overridden, replicated, moment,
+        )?;
+        self.carry_out(alloc, key, place, row, change)?;
+        Ok(reply)
     }
 
     /// Overrides the status of an instance whose lease is visible (`AbstractInstanceRegistry.statusUpdate` in Eureka).
@@ -178,9 +187,10 @@ impl Registry {
         ensures answers { (replicated : Bool) → Answers self.old (Command.SetStatus key.now status dirty replicated) moment result self.new }
         ensures err { OnErr result (self.new ≡ self.old) }
     {
-        let (held, row) = self.find(key);
-        let decision = self.status(key, held, row, status, dirty, moment);
-        self.carry_out(alloc, key, row, decision)
+        let (place, held, row) = self.find(key);
+        let Decision { change, reply } = self.status(key, held, row, status, dirty, moment);
+        self.carry_out(alloc, key, place, row, change)?;
+        Ok(reply)
     }
 
     /// Takes an override back from an instance whose lease is visible (`AbstractInstanceRegistry.deleteStatusOverride` in
@@ -199,9 +209,10 @@ impl Registry {
     ) -> Reply
         ensures { (replicated : Bool) → Answers self.old (Command.UnsetStatus key.now status dirty replicated) moment (Ok result) self.new }
     {
-        let (held, row) = self.find(key);
-        let decision = self.no_status(key, held, row, status, dirty, moment);
-        self.carry_out_in_place(key, row, decision)
+        let (place, held, row) = self.find(key);
+        let Decision { change, reply } = self.no_status(key, held, row, status, dirty, moment);
+        self.carry_out_in_place(key, place, row, change);
+        reply
     }
 
     /// Ends a lease, and removes the override row of its id, also where no lease is held
@@ -212,9 +223,10 @@ impl Registry {
     pub fn cancel(&mut self, key: &Key) -> Reply
         ensures { (replicated : Bool) (t : ℕ) → Answers self.old (Command.Cancel key.now replicated) t (Ok result) self.new }
     {
-        let (held, row) = self.find(key);
-        let decision = self.cancellation(key, held, row);
-        self.carry_out_in_place(key, row, decision)
+        let (place, held, row) = self.find(key);
+        let Decision { change, reply } = self.cancellation(key, held, row);
+        self.carry_out_in_place(key, place, row, change);
+        reply
     }
 
     /// Ends a minute (the timer of `MeasuredRate` in Eureka).
@@ -356,23 +368,25 @@ impl Registry {
         })
     }
 
-    /// What is held under that key, and the override row of its id. Takes no memory.
-    pub(crate) fn find(&self, key: &Key) -> (Option<&Held>, Option<Status>)
-        ensures held { option_copied result.0 ≡ map.get self.now.leases key.now }
-        ensures row { result.1 ≡ map.get self.now.rows key.now.id }
+    /// What is held under that key, and where, and the override row of its id. Takes no memory.
+    pub(crate) fn find(&self, key: &Key) -> (Place, Option<&Held>, Option<Status>)
+        ensures held { option_copied result.1 ≡ map.get self.now.leases key.now }
+        ensures row { result.2 ≡ map.get self.now.rows key.now.id }
     {
-        (self.leases.get(key), self.rows.get(&key.id))
+        let (place, held) = self.leases.find(key);
+        (place, held, self.rows.get(&key.id))
     }
 
     /// What is known beside a lease whose id has that row.
     fn known(&self, row: Option<Status>) -> Known
         ensures row { result.row ≡ row }
-        ensures threshold { result.threshold ≡ expectation self.now }
+        ensures expected { result.expected ≡ self.now.expected }
+        ensures bound { result.expected ≤ 2 ^ 40 }
         ensures rate { result.rate ≡ counted self.now }
     {
         Known {
             row,
-            threshold: self.threshold,
+            expected: self.threshold.expected(),
             rate: self.rate,
         }
     }
@@ -390,21 +404,20 @@ impl Registry {
 
     /// Whether a lease can be registered, where that is held under its key, and how many clients are expected then. `Full` or `Exhausted`
     /// where the machine has that fault. Takes no memory.
-    fn check_join(&self, held: Option<&Held>) -> Result<Threshold, Fault>
+    fn check_join(&self, held: Option<&Held>) -> Result<u64, Fault>
         ensures ok { (k : Key) → option_copied held.entry ≡ map.get self.now.leases k → OnOk result (kept_join_fault self.now k ≡ None) }
-        ensures threshold { IfOk result (λ threshold. threshold ≡ record (expectation self.now) { expected = one_more (not (is_some (option_copied held.entry))) self.now.expected }) }
+        ensures expected { IfOk result (λ expected. expected ≡ one_more (not (is_some (option_copied held.entry))) self.now.expected) }
+        ensures bound { IfOk result (λ expected. expected ≤ 2 ^ 40) }
         ensures few { option_copied held.entry ≡ None → OnOk result (map.len self.now.leases < 65536) }
         ensures refused { (k : Key) → option_copied held.entry ≡ map.get self.now.leases k → IfErr result (λ f. kept_join_fault self.now k ≡ Some f) }
     {
         if held.is_some() {
-            return Ok(self.threshold);
+            return Ok(self.threshold.expected());
         }
         if self.leases.len() == MOST_LEASES {
             return Err(Fault::Full);
         }
-        let mut threshold = self.threshold;
-        threshold.joined()?;
-        Ok(threshold)
+        self.threshold.one_more()
     }
 
     /// What a registration does to the lease of its key, where that is held and its id has that row.
@@ -422,10 +435,10 @@ impl Registry {
         ensures decides { IfOk result (Decides self.now (Command.Register instance.now replicated) moment instance.now.key) }
         ensures refused { IfErr result (λ f. Answers self.now (Command.Register instance.now replicated) moment (Err f) self.now) }
     {
-        let threshold = self.check_join(held)?;
+        let expected = self.check_join(held)?;
         let known = Known {
             row,
-            threshold,
+            expected,
             rate: self.rate,
         };
         Ok(decide_join(alloc, instance, held, known, replicated, moment)?)
@@ -445,10 +458,10 @@ impl Registry {
         ensures decides { IfOk result (Decides self.now (Command.Adopt instance.now) moment instance.now.key) }
         ensures refused { IfErr result (λ f. Answers self.now (Command.Adopt instance.now) moment (Err f) self.now) }
     {
-        let threshold = self.check_join(held)?;
+        let expected = self.check_join(held)?;
         let known = Known {
             row: told(instance.overridden).or(row),
-            threshold,
+            expected,
             rate: self.rate,
         };
         Ok(decide_join(alloc, instance, held, known, true, moment)?)
@@ -470,7 +483,7 @@ impl Registry {
         requires row { row ≡ map.get self.now.rows key.now.id }
         ensures decides { IfOk result (Decides self.now (Command.Renew key.now dirty overridden replicated) moment key.now) }
         ensures refused { IfErr result (λ f. Answers self.now (Command.Renew key.now dirty overridden replicated) moment (Err f) self.now) }
-        ensures frugal { (dirty ≡ None) ⊎ (replicated ≡ false) → IfOk result (IsFrugal row) }
+        ensures frugal { (dirty ≡ None) ⊎ (replicated ≡ false) → IfOk result (λ d. IsFrugal row d.change) }
         ensures memory { (dirty ≡ None) ⊎ (replicated ≡ false) → result ≢ Err Fault.OutOfMemory }
     {
         let known = self.known(row);
@@ -508,7 +521,7 @@ impl Registry {
         requires held { option_copied held ≡ map.get self.now.leases key.now }
         requires row { row ≡ map.get self.now.rows key.now.id }
         ensures decides { (replicated : Bool) → Decides self.now (Command.UnsetStatus key.now status dirty replicated) moment key.now result }
-        ensures frugal { IsFrugal row result }
+        ensures frugal { IsFrugal row result.change }
     {
         let seen = self.seen(held, moment);
         decide_no_status(seen, self.known(row), status, dirty, moment)
@@ -523,65 +536,59 @@ impl Registry {
     ) -> Decision
         requires held { option_copied held ≡ map.get self.now.leases key.now }
         ensures decides { (replicated : Bool) (t : ℕ) → Decides self.now (Command.Cancel key.now replicated) t key.now result }
-        ensures frugal { IsFrugal row result }
+        ensures frugal { IsFrugal row result.change }
     {
         decide_cancel(held, self.known(row))
     }
 
-    /// Carries out what was decided of the lease of that key, whose id has that row. All memory is taken first: `OutOfMemory` alone
-    /// refuses, which changes nothing.
+    /// Carries out what was decided of the lease of that key, which was found at that place, and whose id has that row. All memory is
+    /// taken first: `OutOfMemory` alone refuses, which changes nothing.
     pub(crate) fn carry_out(
         &mut self,
         alloc: Global,
         key: &Key,
+        place: Place,
         row: Option<Status>,
-        decision: Decision,
-    ) -> Result<Reply, Fault>
+        change: Change,
+    ) -> Result<(), Fault>
         requires row { row ≡ map.get self.old.rows key.now.id }
-        requires of { IsOf key.now decision.lease }
-        requires new { IsNew self.old.leases decision.lease }
-        ensures ok { OnOk result (self.new ≡ left self.old key.now decision) }
-        ensures reply { IfOk result (λ reply. reply ≡ decision.reply) }
+        requires ready { IsReady self.old key.now change }
+        ensures ok { OnOk result (self.new ≡ left self.old key.now change) }
         ensures no_other { IfErr result (λ f. f ≡ Fault.OutOfMemory) }
         ensures err { OnErr result (self.new ≡ self.old) }
-        ensures memory { IsFrugal row decision → IsOk result }
+        ensures memory { IsFrugal row change → IsOk result }
     {
-        let Decision {
-            lease,
-            row: after,
-            threshold,
-            rate,
-            reply,
-        } = decision;
-        let row = prepare_row(&mut self.rows, alloc, &key.id, row, after)?;
-        make_room(&mut self.leases, &lease)?;
-        write_lease(&mut self.leases, key, lease);
+        let row = prepare_row(&mut self.rows, alloc, &key.id, row, change.row)?;
+        make_room(&mut self.leases, &change.lease)?;
+        write_lease(&mut self.leases, key, place, change.lease);
         write_row(&mut self.rows, &key.id, row);
-        self.threshold = threshold;
-        self.rate = rate;
-        Ok(reply)
+        self.count(change.expected, change.counted);
+        Ok(())
     }
 
-    /// Carries out what was decided of the lease of that key, whose id has that row, where that wants no memory.
-    fn carry_out_in_place(&mut self, key: &Key, row: Option<Status>, decision: Decision) -> Reply
+    /// The same, where that wants no memory.
+    fn carry_out_in_place(&mut self, key: &Key, place: Place, row: Option<Status>, change: Change)
         requires row { row ≡ map.get self.old.rows key.now.id }
-        requires frugal { IsFrugal row decision }
-        ensures registry { self.new ≡ left self.old key.now decision }
-        ensures reply { result ≡ decision.reply }
+        requires ready { IsReady self.old key.now change }
+        requires frugal { IsFrugal row change }
+        ensures { self.new ≡ left self.old key.now change }
     {
-        let Decision {
-            lease,
-            row: after,
-            threshold,
-            rate,
-            reply,
-        } = decision;
-        let row = without_memory(row, after);
-        write_lease(&mut self.leases, key, lease);
+        let row = without_memory(row, change.row);
+        write_lease(&mut self.leases, key, place, change.lease);
         write_row(&mut self.rows, &key.id, row);
-        self.threshold = threshold;
-        self.rate = rate;
-        reply
+        self.count(change.expected, change.counted);
+    }
+
+    /// So many clients are expected from now on; a renewal is counted, where one is.
+    fn count(&mut self, expected: u64, counted: bool)
+        requires bound { expected ≤ 2 ^ 40 }
+        requires countable { count_fault counted self.old.since ≡ None }
+        ensures { self.new ≡ record self.old { expected = expected; since = if counted then self.old.since + 1 else self.old.since } }
+    {
+        self.threshold.expect(expected);
+        if counted {
+            self.rate.count();
+        }
     }
 }
 

@@ -11,7 +11,7 @@ ghost use Rattle.eu_core.specs.Stepped.{copies_of};
 use crate::decision::LeaseChange;
 use eu_base::{Instance, Stamp, Status};
 use eu_model::Reply;
-use eu_store::Held;
+use eu_store::{Held, amend};
 use std::alloc::{AllocError, Global};
 
 /// What a command is answered: equal replies, each for its use.
@@ -74,6 +74,21 @@ pub(crate) fn for_log(alloc: Global, reply: &Reply, logs: bool) -> Result<Option
 /// So many copies of the instance that is held once a change of a lease is carried out; none where no lease is. `AllocError` where no
 /// memory is left.
 pub(crate) fn copies_left(
+    alloc: Global,
+    change: &LeaseChange,
+    held: Option<&Held>,
+    number: u32,
+) -> Result<Vec<Instance>, AllocError>
+    ensures { IfOk result (λ v. v.items ≡ copies_of number (option_map (λ (l : Listed). l.instance) (lease_left change.now (option_copied held.entry)))) }
+{
+    if number == 0 {
+        return Ok(Vec::new(alloc));
+    }
+    made_copies(alloc, change, held, number)
+}
+
+/// The same, however many are made.
+fn made_copies(
     alloc: Global,
     change: &LeaseChange,
     held: Option<&Held>,
@@ -145,22 +160,6 @@ fn amended_copy(
     let mut instance = held.instance().copy(alloc)?;
     amend(&mut instance, status, overridden, dirty);
     Ok(Some(instance))
-}
-
-/// Puts an instance in these statuses; a greater stamp replaces its own.
-fn amend(instance: &mut Instance, status: Status, overridden: Status, dirty: Option<Stamp>)
-    ensures { instance.new ≡ stamped dirty (record instance.old { status = status; overridden = overridden }) }
-{
-    instance.status = status;
-    instance.overridden = overridden;
-    match dirty {
-        Some(stamp) => {
-            if stamp.value > instance.dirty {
-                instance.dirty = stamp.value;
-            }
-        }
-        None => {}
-    }
 }
 
 /// The same in these statuses, with a newcomer's duration.

@@ -54,39 +54,16 @@ impl Registry {
         ensures err { OnErr result (self.new ≡ self.old) }
         ensures unasked { OnErr result (chooser.new ≡ chooser.old) }
     {
-        match command {
-            Command::Roll => Ok(self.step_roll(alloc, logs)),
-            Command::Update => Ok(self.step_update(alloc, logs)),
-            Command::Reconfigure { config } => Ok(self.step_reconfigure(alloc, config, logs)),
-            Command::Evict => self.step_evict(alloc, moment, logs, chooser),
-            command => match key_of(command) {
-                Some(key) => self.step_on_lease(alloc, command, key, moment, logs, held),
-                None => unreachable!(),
-            },
-        }
-    }
-
-    /// The step of a command on the lease of that key.
-    fn step_on_lease(
-        &mut self,
-        alloc: Global,
-        command: &Command,
-        key: &Key,
-        moment: Moment,
-        logs: bool,
-        held: u32,
-    ) -> Result<Stepped, Fault>
-        requires { key_of command.now ≡ Some key.now }
-        ensures ok { IfOk result (λ s. Acts self.old command.now moment logs held s self.new) }
-        ensures refused { IfErr result (λ f. Answers self.old command.now moment (Err f) self.old) }
-        ensures err { OnErr result (self.new ≡ self.old) }
-    {
-        let (found, row) = self.find(key);
+        let Some(key) = key_of(command) else {
+            return self.step_by_timer(alloc, command, moment, logs, chooser);
+        };
+        let (place, found, row) = self.find(key);
         let decision = self.decide(alloc, command, key, found, row, moment)?;
-        let told = decision.reply.copy(alloc)?;
-        let logged = for_log(alloc, &decision.reply, logs)?;
-        let held = copies_left(alloc, &decision.lease, found, held)?;
-        let reply = self.carry_out(alloc, key, row, decision)?;
+        let Decision { change, reply } = decision;
+        let told = reply.copy(alloc)?;
+        let logged = for_log(alloc, &reply, logs)?;
+        let held = copies_left(alloc, &change.lease, found, held)?;
+        self.carry_out(alloc, key, place, row, change)?;
         Ok(Stepped {
             answered: Answered {
                 reply,
@@ -95,6 +72,30 @@ impl Registry {
             },
             held,
         })
+    }
+
+    /// The step of a command that is on no lease.
+    fn step_by_timer<C: Chooser>(
+        &mut self,
+        alloc: Global,
+        command: &Command,
+        moment: Moment,
+        logs: bool,
+        chooser: &mut C,
+    ) -> Result<Stepped, Fault>
+        requires { (is_for_peers command.now ≡ false) × (key_of command.now ≡ None) }
+        ensures ok { IfOk result (λ s. (m : ℕ) → Steps C.asks self.old chooser.old command.now moment logs m s self.new chooser.new) }
+        ensures refused { IfErr result (λ f. Answers self.old command.now moment (Err f) self.old) }
+        ensures err { OnErr result (self.new ≡ self.old) }
+        ensures unasked { OnErr result (chooser.new ≡ chooser.old) }
+    {
+        match command {
+            Command::Roll => Ok(self.step_roll(alloc, logs)),
+            Command::Update => Ok(self.step_update(alloc, logs)),
+            Command::Reconfigure { config } => Ok(self.step_reconfigure(alloc, config, logs)),
+            Command::Evict => self.step_evict(alloc, moment, logs, chooser),
+            _ => unreachable!(),
+        }
     }
 
     /// What a command does to the lease of its key, where that is held and its id has that row.

@@ -44,6 +44,9 @@ impl Overrides {
     pub fn get(&self, id: &Id) -> Option<Status>
         ensures { result ≡ map.get self.now.rows id.now }
     {
+        if self.table.is_empty() {
+            return None;
+        }
         self.table.get(id).copied()
     }
 

@@ -91,7 +91,8 @@ fn remove_all(leases: &mut Leases, rows: &mut Overrides, keys: &[Key])
     ensures rows { rows.new.rows ≡ without rows.old.rows (map (λ k. k.id) keys.now) }
 {
     for key in keys {
-        leases.take(key);
+        let (place, _held) = leases.find(key);
+        leases.take(key, place);
         rows.take(&key.id);
     }
 }

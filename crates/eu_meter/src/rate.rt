@@ -1,5 +1,5 @@
 //! Renewals, counted by the minute.
-ghost use Rattle.std.specs.Prelude.{◌≡◌, ◌+◌, ◌^◌, ◌↔◌, ◌++◌, ◌∷◌, [], List, IfErr, OnOk, OnErr};
+ghost use Rattle.std.specs.Prelude.{◌≡◌, ◌≢◌, ◌+◌, ◌^◌, ◌↔◌, ◌++◌, ◌∷◌, [], List, IfErr};
 ghost use Rattle.eu_model.specs.Marks.{Mark};
 ghost use Rattle.eu_model.specs.Marks.Mark.{Renewal, Minute};
 ghost use Rattle.eu_meter.specs.Meter.{CountsMarks};
@@ -41,19 +41,24 @@ impl Rate {
         Rate { last: 0, since: 0 }
     }
 
-    /// Counts a renewal. `Exhausted` exactly where 2^62 were counted in this minute; that changes nothing.
-    pub fn count(&mut self) -> Result<(), Fault>
-        ensures counts { OnOk result (self.new ≡ record self.old { since = self.old.since + 1 }) }
-        ensures marks { OnOk result ((marks : List Mark) → CountsMarks marks self.old → CountsMarks (marks ++ Renewal ∷ []) self.new) }
-        ensures exhausted { (result ≡ Err Fault.Exhausted) ↔ (self.old.since ≡ 2 ^ 62) }
+    /// Whether one renewal more can be counted. `Exhausted` exactly where 2^62 were counted in this minute.
+    pub fn check(&self) -> Result<(), Fault>
+        ensures exhausted { (result ≡ Err Fault.Exhausted) ↔ (self.now.since ≡ 2 ^ 62) }
         ensures no_other { IfErr result (λ f. f ≡ Fault.Exhausted) }
-        ensures err { OnErr result (self.new ≡ self.old) }
     {
         if self.since == MOST_RENEWALS {
             return Err(Fault::Exhausted);
         }
-        self.since += 1;
         Ok(())
+    }
+
+    /// Counts a renewal, where one more can be.
+    pub fn count(&mut self)
+        requires { self.old.since ≢ 2 ^ 62 }
+        ensures counts { self.new ≡ record self.old { since = self.old.since + 1 } }
+        ensures marks { (marks : List Mark) → CountsMarks marks self.old → CountsMarks (marks ++ Renewal ∷ []) self.new }
+    {
+        self.since += 1;
     }
 
     /// The renewals of the last whole minute.

@@ -1,5 +1,5 @@
 //! The renewal threshold, and the number of clients that are expected.
-ghost use Rattle.std.specs.Prelude.{◌≡◌, ◌≤◌, ◌-◌, ◌*◌, ◌/◌, ◌^◌, ◌↔◌, true, IfErr, OnOk, OnErr};
+ghost use Rattle.std.specs.Prelude.{◌≡◌, ◌≤◌, ◌-◌, ◌*◌, ◌/◌, ◌^◌, ◌↔◌, true, IfOk, IfErr};
 ghost use Rattle.eu_model.specs.Meter.{threshold, is_permitted, expected_after};
 ghost use Rattle.eu_model.specs.Change.{one_more};
 
@@ -106,29 +106,30 @@ impl Threshold {
         !self.config.preservation || (self.value > 0 && renewals > self.value)
     }
 
-    /// A client has come: one more is expected, but none where none was (`AbstractInstanceRegistry.register` in Eureka). `Exhausted`
-    /// exactly where 2^40 are; that changes nothing.
-    pub fn joined(&mut self) -> Result<(), Fault>
-        ensures one_more { OnOk result (self.new ≡ record self.old { expected = one_more true self.old.expected }) }
-        ensures exhausted { (result ≡ Err Fault.Exhausted) ↔ (self.old.expected ≡ 2 ^ 40) }
+    /// How many clients are expected once one more has come: none where none was (`AbstractInstanceRegistry.register` in Eureka).
+    /// `Exhausted` exactly where 2^40 are.
+    pub fn one_more(&self) -> Result<u64, Fault>
+        ensures one_more { IfOk result (λ clients. clients ≡ one_more true self.now.expected) }
+        ensures bound { IfOk result (λ clients. clients ≤ 2 ^ 40) }
+        ensures exhausted { (result ≡ Err Fault.Exhausted) ↔ (self.now.expected ≡ 2 ^ 40) }
         ensures no_other { IfErr result (λ f. f ≡ Fault.Exhausted) }
-        ensures err { OnErr result (self.new ≡ self.old) }
     {
-        if self.expected == MOST_EXPECTED {
-            return Err(Fault::Exhausted);
+        match self.expected {
+            0 => Ok(0),
+            MOST_EXPECTED => Err(Fault::Exhausted),
+            clients => Ok(clients + 1),
         }
-        if self.expected > 0 {
-            self.expected += 1;
-        }
-        self.value = value_of(&self.config, self.expected);
-        Ok(())
     }
 
-    /// A client has left: one fewer is expected, but never fewer than none (`AbstractInstanceRegistry.internalCancel` in Eureka).
-    pub fn left(&mut self)
-        ensures { self.new ≡ record self.old { expected = self.old.expected - 1 } }
+    /// So many clients are expected from now on, at most 2^40. The threshold is computed anew.
+    pub fn expect(&mut self, clients: u64)
+        requires { clients ≤ 2 ^ 40 }
+        ensures { self.new ≡ record self.old { expected = clients } }
     {
-        self.left_by(1);
+        if clients != self.expected {
+            self.expected = clients;
+            self.value = value_of(&self.config, clients);
+        }
     }
 
     /// So many clients have left at once, as when a pass evicts their leases: so many fewer are expected, but never fewer than none

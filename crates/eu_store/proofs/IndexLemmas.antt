@@ -1,26 +1,24 @@
 -- A change of the table is the same change of its deadlines.
-use Rattle.std.proofs.Common.{◌≡◌, ℕ, suc, zero, ◌+◌, ◌-◌, ◌<◌, Bool, true, false, cond, List, [], ◌∷◌, ◌++◌, length, set, take, get_or, position, slice_get, refl, sym, ap, subst, ◌∙◌, arith, Option, Some, None, true≢false}
-use Rattle.std.specs.Option.{option_map, option_map_or}
+use Rattle.std.proofs.Common.{◌≡◌, ℕ, suc, zero, ◌+◌, ◌-◌, ◌<◌, Bool, true, cond, List, [], ◌∷◌, ◌++◌, length, set, take, get_or, position, slice_get, refl, sym, ap, subst, ◌∙◌, arith, Option, Some, None, true≢false}
+use Rattle.std.specs.Option.{option_map}
 use Rattle.std.specs.List.{swap_remove}
-use Rattle.std.specs.Map.{keys_of, values_of, lookup, set_value}
+use Rattle.std.specs.Map.{keys_of, values_of, lookup}
 use Rattle.std.specs.declared.cmp.Ordering.{Ordering}
 use Rattle.std.specs.declared.cmp.Ordering.TheVariants.{Less, Equal, Greater}
 use Rattle.std.specs.Ordering.{is_eq}
 use Rattle.std.specs.Cmp.{IsEquivalence, eq_by_cmp_equiv}
 use Rattle.std.proofs.lemmas.List.Quantifiers.{position-Some}
-use Rattle.indexmap.specs.IndexMap.{IndexMap, IsUnique, set_value_at, swap_remove_entry}
+use Rattle.indexmap.specs.IndexMap.{IndexMap, IsUnique, set_value_at}
 use Rattle.indexmap.proofs.CallerLemmas.{updates-with_value_at}
+use Rattle.indexmap.proofs.MapLemmas.{index-first}
+use Rattle.indexmap.proofs.RemoveLemmas.{own_first}
+use Rattle.std.proofs.lemmas.Map.Entries.{lookup_from_place}
+use Rattle.std.proofs.lemmas.Option.{slice_get-map}
 use Rattle.eu_base.specs.declared.names.Key.{Key}
 use Rattle.eu_base.specs.Key.{key_cmp, key_eq}
 use Rattle.eu_base.proofs.KeyLemmas.{keys_total, keys_exact, key_eq-ties, key_eq-tie}
 use Rattle.eu_model.specs.declared.views.Listed.{Listed}
-use Rattle.std.proofs.lemmas.Map.{length-set_value}
-use Rattle.std.proofs.Common.{◌≤◌, nat_lt}
-use Rattle.eu_base.specs.declared.statuses.Status.{Status}
-use Rattle.eu_base.specs.declared.times.Stamp.{Stamp}
-use Rattle.eu_model.specs.Record.{duration}
-use Rattle.eu_store.specs.declared.leases.Leases.TheInside.{Inside}
-use Rattle.eu_store.specs.Stored.{deadline_of, deadlines, amended}
+use Rattle.eu_store.specs.Stored.{deadline_of, deadlines}
 
 -- ---- the list of deadlines
 
@@ -52,31 +50,11 @@ deadlines-put [] i f = refl
 deadlines-put (e ∷ es) zero f = refl
 deadlines-put (e ∷ es) (suc i) f = ap (λ ds. deadline_of e.1 ∷ ds) (deadlines-put es i f)
 
-deadlines-swap_remove : (es : List (Key × Listed)) (i : ℕ) (d : Key × Listed) → 0 < length es → deadlines (swap_remove es i d) ≡ swap_remove (deadlines es) i 0
+pub deadlines-swap_remove : (es : List (Key × Listed)) (i : ℕ) (d : Key × Listed) → 0 < length es → deadlines (swap_remove es i d) ≡ swap_remove (deadlines es) i 0
 deadlines-swap_remove es i d some =
     deadlines-take (length es - 1) (set es i (get_or es (length es - 1) d))
     ∙ ap (take (length es - 1)) (deadlines-put es i (get_or es (length es - 1) d) ∙ ap (set (deadlines es) i) (deadline_at es (length es - 1) d (omega arith)))
     ∙ ap (λ n. take (n - 1) (set (deadlines es) i (get_or (deadlines es) (n - 1) 0))) (sym (length-deadlines es))
-
--- the key at a place is taken out
-pub deadlines-taken : (test : Key → Bool) (es fs : List (Key × Listed)) (i : ℕ) → position test (keys_of es) ≡ Some i → fs ≡ swap_remove_entry test es → deadlines fs ≡ swap_remove (deadlines es) i 0
-deadlines-taken test [] fs i found made = absurd (none≢some found)
-  where
-    none≢some : None ≡ Some i → ⊥
-    none≢some e = cc
-deadlines-taken test (e ∷ es) fs i found made = ap deadlines (made ∙ ap (λ o. option_map_or (λ j. swap_remove (e ∷ es) j e) o (e ∷ es)) found) ∙ deadlines-swap_remove (e ∷ es) i e (omega arith)
-
--- a value whose deadline is the held one's is written at a key
-pub deadlines-kept : (test : Key → Bool) (es : List (Key × Listed)) (l n : Listed) → Some l ≡ lookup test es → deadline_of n ≡ deadline_of l → deadlines (set_value test es n) ≡ deadlines es
-deadlines-kept test [] l n found same = refl
-deadlines-kept test (e ∷ es) l n found same = by (test e.0) found (λ h. deadlines-kept test es l n h same)
-  where
-    held : (x y : Listed) → ◌≡◌ {A = Option Listed} (Some x) (Some y) → x ≡ y
-    held x y h = cc
-
-    by : (b : Bool) → Some l ≡ cond b (Some e.1) (lookup test es) → (Some l ≡ lookup test es → deadlines (set_value test es n) ≡ deadlines es) → deadlines (cond b ((e.0, n) ∷ es) (e ∷ set_value test es n)) ≡ deadlines (e ∷ es)
-    by true h rest = ap (λ d. d ∷ deadlines es) (same ∙ ap deadline_of (held l e.1 h))
-    by false h rest = ap (λ ds. deadline_of e.1 ∷ ds) (rest h)
 
 -- ---- a write by place
 
@@ -98,8 +76,8 @@ same_key : (k x : Key) → key_eq k x ≡ true → x ≡ k
 same_key k x e = sym (keys_exact k x (tied (key_cmp k x) (sym (key_eq-ties k x) ∙ e)))
 
 -- where a key was found, the entry has that key
-place_of : (k : Key) (es : List (Key × Listed)) (i : ℕ) (l : Listed) → position (key_eq k) (keys_of es) ≡ Some i → slice_get (values_of es) i ≡ Some l → slice_get es i ≡ Some (k, l)
-place_of k es i l found there =
+entry_of : (k : Key) (es : List (Key × Listed)) (i : ℕ) (l : Listed) → position (key_eq k) (keys_of es) ≡ Some i → slice_get (values_of es) i ≡ Some l → slice_get es i ≡ Some (k, l)
+entry_of k es i l found there =
     let at = position-Some (key_eq k) (keys_of es) i k found in
     entry_at es i l k there ∙ ap (λ (x : Key). Some (x, l)) (same_key k (get_or (keys_of es) i k) at.1)
 
@@ -109,31 +87,40 @@ key_equiv = subst (λ (e : Key → Key → Bool). IsEquivalence e) (sym key_eq-t
 -- a write at the place of a key is a write at the key
 pub written_at : {S : Type 0} (m : IndexMap Key Listed S) (k : Key) (i : ℕ) (l n : Listed) → IsUnique key_eq m → position (key_eq k) (keys_of m.entries) ≡ Some i → slice_get (values_of m.entries) i ≡ Some l
     → (q : Key) → lookup (key_eq q) (set_value_at m.entries i n) ≡ cond (key_eq k q) (Some n) (lookup (key_eq q) m.entries)
-written_at m k i l n unique found there = (updates-with_value_at m i n key_equiv unique k l (place_of k m.entries i l found there)).0
+written_at m k i l n unique found there = (updates-with_value_at m i n key_equiv unique k l (entry_of k m.entries i l found there)).0
+
+-- where an entry has a key, that key is found
+pub stands_at : {S : Type 0} (m : IndexMap Key Listed S) (k x : Key) (i : ℕ) (l : Listed) → IsUnique key_eq m → slice_get m.entries i ≡ Some (x, l) → key_eq x k ≡ true
+    → (position (key_eq k) (keys_of m.entries) ≡ Some i) × (lookup (key_eq k) m.entries ≡ Some l) × (slice_get (values_of m.entries) i ≡ Some l)
+stands_at m k x i l unique at same =
+    let there : slice_get m.entries i ≡ Some (k, l) = at ∙ ap (λ (y : Key). Some (y, l)) (sym (same_key x k same)) in (
+      index-first (key_eq k) m.entries i (own_first key_eq key_equiv m.entries i k l unique there),
+      lookup_from_place key_equiv m.entries i k l unique there,
+      slice_get-map (λ e. e.1) m.entries i ∙ ap (option_map (λ (e : Key × Listed). e.1)) there,
+    )
 
 pub length-set_value_at : (es : List (Key × Listed)) (i : ℕ) (l : Listed) → length (set_value_at es i l) ≡ length es
 length-set_value_at [] i l = refl
 length-set_value_at (e ∷ es) zero l = refl
 length-set_value_at (e ∷ es) (suc i) l = ap suc (length-set_value_at es i l)
 
--- what table and index are to each other
-abbrev pub IsIndexed : Inside → Type 0
-IsIndexed a = (length a.table.entries ≤ 65536) × (a.index.list ≡ deadlines a.table.entries)
-
--- a value with the held one's deadline is written at a key: table and index still agree
-pub still_indexed : (test : Key → Bool) (es fs : List (Key × Listed)) (list : List ℕ) (l n : Listed) → Some l ≡ lookup test es → fs ≡ set_value test es n → deadline_of n ≡ deadline_of l
-    → (length es ≤ 65536) × (list ≡ deadlines es) → (length fs ≤ 65536) × (list ≡ deadlines fs)
-still_indexed test es fs list l n found made same held =
-    let short : length fs ≤ 65536 = omega (arith, held.0, ap length made, length-set_value test es n) in
-    (short, held.1 ∙ sym (ap deadlines made ∙ deadlines-kept test es l n found same))
-
-pub amended-deadline : (status overridden : Status) (dirty : Option Stamp) (l : Listed) → deadline_of (amended status overridden dirty l) ≡ deadline_of l
-amended-deadline status overridden None l = refl
-amended-deadline status overridden (Some d) l = by (nat_lt l.instance.dirty d.value)
+-- a value with the deadline of the one that stands at a place is written there
+pub deadlines-stay : (es : List (Key × Listed)) (i : ℕ) (l n : Listed) → slice_get (values_of es) i ≡ Some l → deadline_of n ≡ deadline_of l → deadlines (set_value_at es i n) ≡ deadlines es
+deadlines-stay [] i l n there same = refl
+deadlines-stay (e ∷ es) zero l n there same = ap (λ d. d ∷ deadlines es) (same ∙ sym (ap deadline_of (first there)))
   where
-    by : (b : Bool) → l.times.updated + duration (cond b (record l.instance { status = status; overridden = overridden; dirty = d.value; dirty_bound = d.bound }) (record l.instance { status = status; overridden = overridden })) ≡ deadline_of l
-    by true = refl
-    by false = refl
+    first : ◌≡◌ {A = Option Listed} (Some e.1) (Some l) → e.1 ≡ l
+    first h = cc
+deadlines-stay (e ∷ es) (suc i) l n there same = ap (λ ds. deadline_of e.1 ∷ ds) (deadlines-stay es i l n there same)
+
+-- what stands at a place where a key was found
+pub taken_at : (k : Key) (es : List (Key × Listed)) (i : ℕ) (e : Key × Listed) (o : Option Listed) → position (key_eq k) (keys_of es) ≡ Some i → slice_get (values_of es) i ≡ o → Some e ≡ slice_get es i → (e.0 ≡ k) × (Some e.1 ≡ o)
+taken_at k es i e o found there at =
+    let value : slice_get (values_of es) i ≡ Some e.1 = slice_get-map (λ f. f.1) es i ∙ ap (option_map (λ (f : Key × Listed). f.1)) (sym at) in
+    (same (at ∙ entry_of k es i e.1 found value), sym value ∙ there)
+  where
+    same : ◌≡◌ {A = Option (Key × Listed)} (Some e) (Some (k, e.1)) → e.0 ≡ k
+    same h = cc
 
 pub length-push : (es : List (Key × Listed)) (k : Key) (l : Listed) → length (es ++ (k, l) ∷ []) ≡ length es + 1
 length-push [] k l = refl

@@ -1,5 +1,5 @@
 -- What the table's clauses say of the finite map that its entries make.
-use Rattle.std.proofs.Common.{◌≡◌, ℕ, ◌≤◌, IfOk, if◌then◌else◌, Result, Ok, Err, OnOk, subst, ◌+◌, ◌⊎◌, inl, inr, IsSome, true≢false, Bool, true, false, List, [], ◌∷◌, length, refl, ap, sym, ◌∙◌, Option, None, Some, is_some, arith}
+use Rattle.std.proofs.Common.{◌≡◌, ℕ, IfSome, Result, Ok, Err, OnOk, subst, ◌+◌, ◌⊎◌, inl, inr, true≢false, Bool, true, false, List, [], ◌∷◌, length, refl, ap, sym, ◌∙◌, Option, None, Some, is_some, arith}
 use Rattle.std.specs.Map.{keys_of}
 use Rattle.std.specs.List.{IsDistinct}
 use Rattle.std.specs.Ordering.{eq_by_cmp}
@@ -24,14 +24,6 @@ use Rattle.eu_store.proofs.TableLemmas.{map_of}
 use Rattle.eu_base.specs.Key.{key_cmp, key_eq}
 use Rattle.eu_base.proofs.KeyLemmas.{keys_total, keys_exact, key_eq-tie}
 
--- what is not there cannot be there
-pub none_is_not_some : {X : Type 0} (o : Option X) → o ≡ None → is_some o ≡ true → ⊥
-none_is_not_some o none some = true≢false (sym some ∙ ap is_some none)
-
-pub the_other : {X : Type 0} {P : Type 0} (o : Option X) → o ≡ None → IsSome o ⊎ P → P
-the_other o none (inl some) = absurd (none_is_not_some o none some)
-the_other o none (inr p) = p
-
 pub at_ok : {X E : Type 0} {r : Result X E} {x : X} (P : Type 0) → OnOk r P → r ≡ Ok x → P
 at_ok P h e = subst (λ s. OnOk s P) e h
 
@@ -42,12 +34,8 @@ pub none_from_is_some : {X : Type 0} (o : Option X) → is_some o ≡ false → 
 none_from_is_some None e = refl
 none_from_is_some (Some x) e = absurd (true≢false e)
 
-pub at_ok_value : {X E : Type 0} {r : Result X E} {x : X} (P : X → Type 0) → IfOk r P → r ≡ Ok x → P x
-at_ok_value P h e = subst (λ s. IfOk s P) e h
-
-pub one_at_most : (b : Bool) → (if b then 0 else 1) ≤ 1
-one_at_most true = omega arith
-one_at_most false = omega arith
+pub at_some : {X : Type 0} {o : Option X} {x : X} (P : X → Type 0) → IfSome o P → o ≡ Some x → P x
+at_some P h e = subst (λ s. IfSome s P) e h
 
 ltb_of : (a b : ℕ) → a < b → ltb a b ≡ true
 ltb_of a b h = by (cases_Bool (ltb a b))

@@ -1,6 +1,7 @@
 //! What is held under a key.
 ghost use Rattle.std.specs.Prelude.{◌≡◌, IfOk};
 ghost use Rattle.eu_lease.specs.Term.{listed_with};
+ghost use Rattle.eu_model.specs.Change.{stamped};
 ghost use Rattle.eu_model.specs.Kept.{kept_expired};
 ghost use Rattle.eu_store.specs.Stored.{term_of, deadline_of, renewed_at, upped_at, amended, rejoined};
 
@@ -11,9 +12,11 @@ use std::alloc::{AllocError, Global};
 use std::marker::Model;
 
 /// An instance with its lease, which lasts as long as the instance says. Contracts see both as they are listed.
+///
+/// The instance lies on the heap, so that little is moved where a lease is.
 #[derive(Debug, Drop)]
 pub struct Held {
-    instance: Instance,
+    instance: Box<Instance>,
     lease: Lease,
 }
 
@@ -27,16 +30,16 @@ impl Model for Held {
 
     ghost coded = { listed.the_row.coded };
 
-    ghost view = { λ h. listed_with h.instance h.lease };
+    ghost view = { λ h. listed_with h.instance.value h.lease };
 
-    ghost invariant = { λ h. h.lease.secs ≡ h.instance.secs };
+    ghost invariant = { λ h. h.lease.secs ≡ h.instance.value.secs };
 }
 
 impl Held {
     /// An instance with a lease that lasts as long as the instance says.
-    pub fn new(instance: Instance, lease: Lease) -> Held
-        requires { lease.secs ≡ instance.secs }
-        ensures { result ≡ listed_with instance lease }
+    pub fn new(instance: Box<Instance>, lease: Lease) -> Held
+        requires { lease.secs ≡ instance.value.secs }
+        ensures { result ≡ listed_with instance.value lease }
     {
         Held { instance, lease }
     }
@@ -105,16 +108,7 @@ impl Held {
     pub fn amend(&mut self, status: Status, overridden: Status, dirty: Option<Stamp>)
         ensures { self.new ≡ amended status overridden dirty self.old }
     {
-        self.instance.status = status;
-        self.instance.overridden = overridden;
-        match dirty {
-            Some(stamp) => {
-                if stamp.value > self.instance.dirty {
-                    self.instance.dirty = stamp.value;
-                }
-            }
-            None => {}
-        }
+        amend(self.instance.as_mut(), status, overridden, dirty);
     }
 
     /// Renews its lease and amends the instance.
@@ -136,9 +130,32 @@ impl Held {
         requires { lease.secs ≡ newcomer.now.secs }
         ensures { self.new ≡ rejoined newcomer.now status overridden lease self.old }
     {
-        self.instance.status = status;
-        self.instance.overridden = overridden;
-        self.instance.secs = newcomer.secs;
+        keep_but(self.instance.as_mut(), newcomer, status, overridden);
         self.lease = lease;
     }
+}
+
+/// Puts an instance in these statuses; a greater stamp replaces its own.
+pub fn amend(instance: &mut Instance, status: Status, overridden: Status, dirty: Option<Stamp>)
+    ensures { instance.new ≡ stamped dirty (record instance.old { status = status; overridden = overridden }) }
+{
+    instance.status = status;
+    instance.overridden = overridden;
+    match dirty {
+        Some(stamp) => {
+            if stamp.value > instance.dirty {
+                instance.dirty = stamp.value;
+            }
+        }
+        None => {}
+    }
+}
+
+/// Keeps an instance, but for the statuses and a newcomer's duration.
+fn keep_but(instance: &mut Instance, newcomer: &Instance, status: Status, overridden: Status)
+    ensures { instance.new ≡ record instance.old { status = status; overridden = overridden; secs = newcomer.now.secs; secs_bound = newcomer.now.secs_bound } }
+{
+    instance.status = status;
+    instance.overridden = overridden;
+    instance.secs = newcomer.secs;
 }

@@ -1,7 +1,9 @@
 //! The leases that are held, by their keys.
-ghost use Rattle.std.specs.Prelude.{◌≡◌, ◌↔◌, ◌<◌, ◌≤◌, ◌+◌, ◌*◌, ◌⊎◌, length, map, None, if◌then◌else◌, is_some, IsSome, IfOk, IfErr, OnOk};
+ghost use Rattle.std.specs.Prelude.{◌≡◌, ◌↔◌, ◌<◌, ◌≤◌, ◌+◌, ◌*◌, ◌⊎◌, length, map, None, slice_get, is_some, IfSome, IfOk, IfErr, OnOk};
 ghost use Rattle.std.specs.Option.{option_copied};
 ghost use Rattle.std.specs.FinMap as map;
+ghost use Rattle.indexmap.specs.IndexMap.{values, index_map_len, get_by, index_of_by, IsUnique};
+ghost use Rattle.eu_base.specs.Key.{key_eq};
 ghost use Rattle.eu_store.specs.Stored.{changed, renewed_at, amended, upped_at, rejoined, expired_keys, rows_of, listing_of};
 ghost use Rattle.eu_model.specs.View.{is_of};
 ghost use Rattle.std.specs.Map.Iter.{deref_pair};
@@ -18,6 +20,26 @@ use std::mem;
 
 /// The most leases that are held.
 pub const MOST_LEASES: usize = 65_536;
+
+/// Where a lease was found. It's a hint: where another lease stands there now, the key is looked up once more.
+#[derive(Clone, Copy, Debug)]
+pub struct Place {
+    index: usize,
+}
+
+/// Where that key stands in the table, if it does: where it was found, or else where a look-up finds it.
+fn place_of(table: &IndexMap<Key, Held>, key: &Key, hint: Place) -> Option<usize>
+    ensures index { result ≡ index_of_by (key_eq key.now) table.now }
+    ensures found { is_some result ≡ is_some (get_by (key_eq key.now) table.now) }
+    ensures within { IfSome result (λ i. i < index_map_len table.now) }
+    ensures value { IfSome result (λ i. slice_get (values table.now) i ≡ get_by (key_eq key.now) table.now) }
+    ensures unique { IsUnique key_eq table.now }
+{
+    match table.as_slice().get_index(hint.index) {
+        Some((found, _held)) if found == key => Some(hint.index),
+        _ => table.get_index_of(key),
+    }
+}
 
 /// The leases that are held. Contracts see a finite map from keys to what is listed, and how many more can be put without
 /// taking memory.
@@ -63,6 +85,16 @@ impl Leases {
         self.table.get(key)
     }
 
+    /// The same, and where it was found, for who changes it then.
+    pub fn find(&self, key: &Key) -> (Place, Option<&Held>)
+        ensures { option_copied result.1 ≡ map.get self.now.held key.now }
+    {
+        match self.table.get_full(key) {
+            Some((index, _key, held)) => (Place { index }, Some(held)),
+            None => (Place { index: 0 }, None),
+        }
+    }
+
     /// How many leases are held: at most 65,536.
     pub fn len(&self) -> usize
         ensures value { result ≡ map.len self.now.held }
@@ -71,19 +103,13 @@ impl Leases {
         self.table.len()
     }
 
-    /// Makes room for a lease of that key, so that it can be put without taking memory.
-    ///
-    /// `Full` exactly where 65,536 leases are held and none of that key; else `OutOfMemory`. Neither changes what is held.
-    pub fn prepare_put(&mut self, key: &Key) -> Result<(), Fault>
+    /// Makes room for one lease more. `Full` exactly where 65,536 are held; else `OutOfMemory`. Neither changes what is held.
+    pub fn reserve(&mut self) -> Result<(), Fault>
         ensures held { self.new.held ≡ self.old.held }
-        ensures room { self.old.room ≤ self.new.room }
-        ensures ready { OnOk result (IsSome (map.get self.old.held key.now) ⊎ (0 < self.new.room)) }
-        ensures full { (result ≡ Err Fault.Full) ↔ ((map.len self.old.held ≡ 65536) × (map.get self.old.held key.now ≡ None)) }
+        ensures room { OnOk result (0 < self.new.room) }
+        ensures full { (result ≡ Err Fault.Full) ↔ (map.len self.old.held ≡ 65536) }
         ensures no_other { IfErr result (λ f. (f ≡ Fault.Full) ⊎ (f ≡ Fault.OutOfMemory)) }
     {
-        if self.table.contains_key(key) {
-            return Ok(());
-        }
         if self.table.len() >= MOST_LEASES {
             return Err(Fault::Full);
         }
@@ -92,58 +118,48 @@ impl Leases {
         Ok(())
     }
 
-    /// Puts a lease under that key, in place of the one that is held or into the room that was made, and hands back the one
-    /// that was held. Takes no memory.
-    pub fn put_prepared(&mut self, key: Key, held: Held) -> Option<Held>
-        requires { IsSome (map.get self.old.held key) ⊎ (0 < self.old.room) }
-        ensures before { result ≡ map.get self.old.held key }
+    /// Puts a lease under a key that has none, into the room that was made. Takes no memory.
+    pub fn insert(&mut self, key: Key, held: Held)
+        requires new { map.get self.old.held key ≡ None }
+        requires room { 0 < self.old.room }
         ensures held { self.new.held ≡ map.insert self.old.held key held }
-        ensures room { self.old.room ≤ self.new.room + (if is_some result then 0 else 1) }
+        ensures room { self.old.room ≤ self.new.room + 1 }
     {
-        let deadline = held.deadline();
-        match self.table.get_index_of(&key) {
-            Some(place) => {
-                self.index.set(place, deadline);
-                Some(mem::replace(&mut self.table[place], held))
-            }
-            None => {
-                self.index.push(deadline);
-                self.table.insert(key, held).unwrap();
-                None
-            }
-        }
+        self.index.push(held.deadline());
+        self.table.insert(key, held).unwrap();
     }
 
     /// Puts a lease in place of the one that is held under its instance's key, and hands back that one; where none is held,
     /// nothing changes. Takes no memory.
-    pub fn replace(&mut self, held: Held) -> Option<Held>
+    pub fn replace(&mut self, hint: Place, held: Held) -> Option<Held>
         ensures before { result ≡ map.get self.old.held held.instance.key }
         ensures held { self.new.held ≡ changed (λ _. held) self.old.held held.instance.key }
         ensures room { self.new.room ≡ self.old.room }
     {
-        let place = self.table.get_index_of(&held.instance().key)?;
+        let place = place_of(&self.table, &held.instance().key, hint)?;
         self.index.set(place, held.deadline());
         Some(mem::replace(&mut self.table[place], held))
     }
 
     /// Takes out what is held under that key. Takes no memory.
-    pub fn take(&mut self, key: &Key) -> Option<Held>
+    pub fn take(&mut self, key: &Key, hint: Place) -> Option<Held>
         ensures before { result ≡ map.get self.old.held key.now }
         ensures held { self.new.held ≡ map.remove self.old.held key.now }
         ensures room { self.old.room ≤ self.new.room }
     {
-        let (place, _key, held) = self.table.swap_remove_full(key)?;
+        let place = place_of(&self.table, key, hint)?;
+        let (_key, held) = self.table.swap_remove_index(place).unwrap();
         self.index.swap_remove(place);
         Some(held)
     }
 
     /// Renews the lease of that key, and tells whether one is held. Takes no memory.
-    pub fn renew(&mut self, key: &Key, moment: Moment) -> bool
+    pub fn renew(&mut self, key: &Key, hint: Place, moment: Moment) -> bool
         ensures found { result ≡ is_some (map.get self.old.held key.now) }
         ensures held { self.new.held ≡ changed (renewed_at moment) self.old.held key.now }
         ensures room { self.new.room ≡ self.old.room }
     {
-        let Some(place) = self.table.get_index_of(key) else {
+        let Some(place) = place_of(&self.table, key, hint) else {
             return false;
         };
         let held = &mut self.table[place];
@@ -152,32 +168,11 @@ impl Leases {
         true
     }
 
-    /// Puts the instance of that key in these statuses; a greater stamp replaces the held one. Tells whether one is held. Takes
-    /// no memory.
-    pub fn amend(
-        &mut self,
-        key: &Key,
-        status: Status,
-        overridden: Status,
-        dirty: Option<Stamp>,
-    ) -> bool
-        ensures found { result ≡ is_some (map.get self.old.held key.now) }
-        ensures held { self.new.held ≡ changed (amended status overridden dirty) self.old.held key.now }
-        ensures room { self.new.room ≡ self.old.room }
-    {
-        match self.table.get_mut(key) {
-            Some(held) => {
-                held.amend(status, overridden, dirty);
-                true
-            }
-            None => false,
-        }
-    }
-
     /// Renews the lease of that key, and amends its instance. Tells whether one is held. Takes no memory.
     pub fn renew_as(
         &mut self,
         key: &Key,
+        hint: Place,
         moment: Moment,
         status: Status,
         overridden: Status,
@@ -187,7 +182,7 @@ impl Leases {
         ensures held { self.new.held ≡ changed (λ l. amended status overridden dirty (renewed_at moment l)) self.old.held key.now }
         ensures room { self.new.room ≡ self.old.room }
     {
-        let Some(place) = self.table.get_index_of(key) else {
+        let Some(place) = place_of(&self.table, key, hint) else {
             return false;
         };
         let held = &mut self.table[place];
@@ -198,24 +193,23 @@ impl Leases {
 
     /// The instance of that key is up now: the moment is kept, where it is the first. Tells whether a lease is held. Takes no
     /// memory.
-    pub fn mark_up(&mut self, key: &Key, moment: Moment) -> bool
+    pub fn mark_up(&mut self, key: &Key, hint: Place, moment: Moment) -> bool
         ensures found { result ≡ is_some (map.get self.old.held key.now) }
         ensures held { self.new.held ≡ changed (upped_at moment) self.old.held key.now }
         ensures room { self.new.room ≡ self.old.room }
     {
-        match self.table.get_mut(key) {
-            Some(held) => {
-                held.mark_up(moment);
-                true
-            }
-            None => false,
-        }
+        let Some(place) = place_of(&self.table, key, hint) else {
+            return false;
+        };
+        self.table[place].mark_up(moment);
+        true
     }
 
     /// Begins the held lease of a newcomer's key anew: it keeps its instance, but for these statuses and the newcomer's
     /// duration. Tells whether one is held. Takes no memory.
     pub fn rejoin(
         &mut self,
+        hint: Place,
         newcomer: &Instance,
         status: Status,
         overridden: Status,
@@ -226,7 +220,7 @@ impl Leases {
         ensures held { self.new.held ≡ changed (rejoined newcomer.now status overridden lease) self.old.held newcomer.now.key }
         ensures room { self.new.room ≡ self.old.room }
     {
-        let Some(place) = self.table.get_index_of(&newcomer.key) else {
+        let Some(place) = place_of(&self.table, &newcomer.key, hint) else {
             return false;
         };
         let held = &mut self.table[place];

@@ -21,9 +21,9 @@ fn key(alloc: Global, number: u64) -> Result<Key, Fault> {
     Ok(Key { app, id })
 }
 
-/// Puts a lease of 90 s under a key, made at that moment.
+/// Puts a lease of 90 s under a key, made at that moment, where none is held.
 fn put(alloc: Global, leases: &mut Leases, key: &Key, moment: Moment) -> Result<(), Fault> {
-    leases.prepare_put(key)?;
+    leases.reserve()?;
     let instance = Instance {
         key: key.copy(alloc)?,
         status: Status::Up,
@@ -34,7 +34,11 @@ fn put(alloc: Global, leases: &mut Leases, key: &Key, moment: Moment) -> Result<
         rest: Rest::of_host(alloc, "h")?,
     };
     let lease = Lease::fresh(moment, instance.secs);
-    drop(leases.put_prepared(key.copy(alloc)?, Held::new(instance, lease)));
+    let held = Held::new(Box::new(alloc, instance)?, lease);
+    let key = key.copy(alloc)?;
+    if leases.get(&key).is_none() {
+        leases.insert(key, held);
+    }
     Ok(())
 }
 
@@ -56,7 +60,8 @@ fn renew(leases: &mut Leases, keys: &[Key], times: u64) -> Result<u64, Fault> {
         let Some(key) = keys.get(drawn) else {
             return Ok(renewed);
         };
-        if leases.renew(key, at(time)?) {
+        let (place, _held) = leases.find(key);
+        if leases.renew(key, place, at(time)?) {
             renewed = renewed.saturating_add(1);
         }
     }

@@ -2,7 +2,7 @@
 use eu_base::{App, Fault, Id, Instance, Key, Moment, Rest, Status};
 use eu_clock::{Chooser, RngChooser};
 use eu_lease::Lease;
-use eu_store::{Held, Leases};
+use eu_store::{Held, Leases, Place};
 use std::alloc::{AllocError, Global};
 use std::test::Fail;
 
@@ -65,15 +65,20 @@ fn held(alloc: Global, number: u64, ms: u64, term: Term) -> Result<Held, Fault> 
     let moment = at(ms)?;
     let instance = instance(alloc, number, term)?;
     let lease = Lease::fresh(moment, instance.secs);
-    Ok(Held::new(instance, lease))
+    Ok(Held::new(Box::new(alloc, instance)?, lease))
 }
 
-/// Puts a lease of that number, made at that moment.
+/// Puts a lease of that number, made at that moment, in the place of the one that is held, if any.
 fn put(alloc: Global, leases: &mut Leases, number: u64, ms: u64, term: Term) -> Result<(), Fault> {
     let key = key(alloc, number)?;
-    leases.prepare_put(&key)?;
     let held = held(alloc, number, ms, term)?;
-    drop(leases.put_prepared(key, held));
+    leases.reserve()?;
+    if leases.get(&key).is_none() {
+        leases.insert(key, held);
+        return Ok(());
+    }
+    let place = leases.find(&key).0;
+    drop(leases.replace(place, held));
     Ok(())
 }
 
@@ -84,11 +89,12 @@ fn rejoin(
     number: u64,
     ms: u64,
     term: Term,
+    hint: Place,
 ) -> Result<bool, Fault> {
     let moment = at(ms)?;
     let instance = instance(alloc, number, term)?;
     let lease = Lease::fresh(moment, instance.secs);
-    Ok(leases.rejoin(&instance, Status::Up, Status::Unknown, lease))
+    Ok(leases.rejoin(hint, &instance, Status::Up, Status::Unknown, lease))
 }
 
 /// A lease as the plain list keeps it: the number of its id, its last update, and how long it lasts.
@@ -204,11 +210,12 @@ fn are_expired(
     Ok(text.as_str() == wanted && read <= few)
 }
 
-/// What is drawn for a call.
+/// What is drawn for a call. The hint is a number too: the lease that is held of it may be another one.
 #[derive(Clone, Copy)]
 struct Drawn {
     call: u64,
     number: u64,
+    hint: u64,
     ms: u64,
     term: Term,
 }
@@ -218,10 +225,24 @@ impl Drawn {
         Drawn {
             call: chooser.below(9),
             number: chooser.below(300),
+            hint: chooser.below(600),
             ms: chooser.below(60_000),
             term: Term::drawn(chooser),
         }
     }
+}
+
+/// Where the lease of the drawn number was found, or, as often, where another one was.
+fn hint(alloc: Global, leases: &Leases, drawn: Drawn) -> Result<Place, Fault> {
+    let other = if drawn.hint < 300 {
+        drawn.hint
+    } else {
+        drawn.number
+    };
+    let key = key(alloc, other)?;
+    let place = leases.find(&key).0;
+    drop(key);
+    Ok(place)
 }
 
 /// Puts a lease of that number, made at that moment, in the place of the one that is held. Tells whether one is.
@@ -231,17 +252,18 @@ fn replace(
     number: u64,
     ms: u64,
     term: Term,
+    hint: Place,
 ) -> Result<bool, Fault> {
     let held = held(alloc, number, ms, term)?;
-    let before = leases.replace(held);
+    let before = leases.replace(hint, held);
     let was_held = before.is_some();
     drop(before);
     Ok(was_held)
 }
 
 /// Takes a lease out. Tells whether it was held.
-fn take(leases: &mut Leases, key: &Key) -> bool {
-    let taken = leases.take(key);
+fn take(leases: &mut Leases, key: &Key, hint: Place) -> bool {
+    let taken = leases.take(key, hint);
     let was_held = taken.is_some();
     drop(taken);
     was_held
@@ -252,18 +274,19 @@ fn changes_held_alike(
     leases: &mut Leases,
     slow: &mut Slow,
     key: &Key,
+    hint: Place,
     moment: Moment,
     drawn: Drawn,
 ) -> bool {
     let (down, none) = (Status::Down, Status::Unknown);
     match drawn.call {
-        0 => take(leases, key) == slow.take(drawn.number),
-        1 => leases.renew(key, moment) == slow.renew(drawn.number, drawn.ms),
-        2 => {
-            leases.renew_as(key, moment, down, none, None) == slow.renew(drawn.number, drawn.ms)
+        0 => take(leases, key, hint) == slow.take(drawn.number),
+        1 => leases.renew(key, hint, moment) == slow.renew(drawn.number, drawn.ms),
+        2 | 5 => {
+            leases.renew_as(key, hint, moment, down, none, None)
+                == slow.renew(drawn.number, drawn.ms)
         }
-        5 => leases.amend(key, down, none, None) == slow.has(drawn.number),
-        _ => leases.mark_up(key, moment) == slow.has(drawn.number),
+        _ => leases.mark_up(key, hint, moment) == slow.has(drawn.number),
     }
 }
 
@@ -276,7 +299,8 @@ fn changes_alike(
 ) -> Result<bool, Fault> {
     let moment = at(drawn.ms)?;
     let key = key(alloc, drawn.number)?;
-    let alike = changes_held_alike(leases, slow, &key, moment, drawn);
+    let hint = hint(alloc, leases, drawn)?;
+    let alike = changes_held_alike(leases, slow, &key, hint, moment, drawn);
     drop(key);
     Ok(alike)
 }
@@ -288,9 +312,10 @@ fn replaces_alike(
     slow: &mut Slow,
     drawn: Drawn,
 ) -> Result<bool, Fault> {
+    let hint = hint(alloc, leases, drawn)?;
     let was_held = match drawn.call {
-        3 => rejoin(alloc, leases, drawn.number, drawn.ms, drawn.term)?,
-        _ => replace(alloc, leases, drawn.number, drawn.ms, drawn.term)?,
+        3 => rejoin(alloc, leases, drawn.number, drawn.ms, drawn.term, hint)?,
+        _ => replace(alloc, leases, drawn.number, drawn.ms, drawn.term, hint)?,
     };
     Ok(was_held == slow.replace(drawn.number, drawn.ms, drawn.term))
 }

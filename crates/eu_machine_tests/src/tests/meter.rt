@@ -11,8 +11,10 @@ fn opened(preservation: bool, percent: u32, expected: u32) -> Result<Threshold, 
 /// A rate that counted two renewals.
 fn counted_twice() -> Result<Rate, Fault> {
     let mut rate = Rate::new();
-    rate.count()?;
-    rate.count()?;
+    rate.check()?;
+    rate.count();
+    rate.check()?;
+    rate.count();
     Ok(rate)
 }
 
@@ -48,23 +50,23 @@ fn a_threshold_is_rounded_down(rt: HostRuntime) {
 /// The threshold for one client, and another one that came.
 fn joined() -> Result<Threshold, Fault> {
     let mut threshold = opened(true, 85, 1)?;
-    threshold.joined()?;
+    threshold.expect(threshold.one_more()?);
     Ok(threshold)
 }
 
 /// The same when three have left.
 fn left() -> Result<Threshold, Fault> {
     let mut threshold = joined()?;
-    threshold.left();
-    threshold.left();
-    threshold.left();
+    threshold.left_by(1);
+    threshold.left_by(1);
+    threshold.left_by(1);
     Ok(threshold)
 }
 
 /// The same when one has come again.
 fn joined_again() -> Result<Threshold, Fault> {
     let mut threshold = left()?;
-    threshold.joined()?;
+    threshold.expect(threshold.one_more()?);
     Ok(threshold)
 }
 

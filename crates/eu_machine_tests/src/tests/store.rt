@@ -2,7 +2,7 @@
 use eu_base::{App, Fault, Id, Instance, Key, Moment, Rest, Stamp, Status};
 use eu_lease::Lease;
 use eu_model::Listed;
-use eu_store::{Held, Leases};
+use eu_store::{Held, Leases, Place};
 use std::alloc::{AllocError, Global};
 use std::test::Fail;
 
@@ -36,15 +36,22 @@ fn held(alloc: Global, id: &str) -> Result<Held, Fault> {
         interval: 30,
         rest,
     };
-    Ok(Held::new(instance, lease))
+    Ok(Held::new(Box::new(alloc, instance)?, lease))
 }
 
-/// Puts such a lease under that key.
+/// Puts such a lease under that key, where none is held.
 pub fn put(alloc: Global, leases: &mut Leases, key: Key, id: &str) -> Result<(), Fault> {
-    leases.prepare_put(&key)?;
+    leases.reserve()?;
     let held = held(alloc, id)?;
-    drop(leases.put_prepared(key, held));
+    if leases.get(&key).is_none() {
+        leases.insert(key, held);
+    }
     Ok(())
+}
+
+/// Where the lease of that key was found.
+fn place(leases: &Leases, key: &Key) -> Place {
+    leases.find(key).0
 }
 
 fn put_each(alloc: Global, leases: &mut Leases, ids: &[&str]) -> Result<(), Fault> {
@@ -69,8 +76,9 @@ fn is_there<T: Drop>(found: Option<T>) -> bool {
 /// Whether i1 can be taken, once and again, and how many leases are left.
 fn taken_twice(alloc: Global, leases: &mut Leases) -> Result<(bool, bool, usize), Fault> {
     let first = own(alloc, "i1")?;
-    let taken = is_there(leases.take(&first));
-    let again = is_there(leases.take(&first));
+    let place = place(leases, &first);
+    let taken = is_there(leases.take(&first, place));
+    let again = is_there(leases.take(&first, place));
     Ok((taken, again, leases.len()))
 }
 
@@ -88,7 +96,8 @@ fn a_lease_is_put_and_taken(rt: HostRuntime) -> Result<(), Fail> {
 /// Whether there is an i1 to replace.
 fn replaced(alloc: Global, leases: &mut Leases) -> Result<bool, Fault> {
     let again = held(alloc, "i1")?;
-    Ok(is_there(leases.replace(again)))
+    let place = place(leases, &again.instance().key);
+    Ok(is_there(leases.replace(place, again)))
 }
 
 #[test]
@@ -114,11 +123,12 @@ fn updated(leases: &Leases, key: &Key) -> Option<u64> {
 fn renewed(alloc: Global, leases: &mut Leases) -> Result<Option<u64>, Fault> {
     let now = at(5)?;
     let first = own(alloc, "i1")?;
-    if !leases.renew(&first, now) || !leases.mark_up(&first, now) {
+    let place = place(leases, &first);
+    if !leases.renew(&first, place, now) || !leases.mark_up(&first, place, now) {
         return Ok(None);
     }
     let updated = updated(leases, &first);
-    if !leases.renew_as(&first, now, Status::Down, Status::Down, None) {
+    if !leases.renew_as(&first, place, now, Status::Down, Status::Down, None) {
         return Ok(None);
     }
     Ok(updated)
@@ -133,6 +143,29 @@ fn a_lease_is_renewed(rt: HostRuntime) -> Result<(), Fail> {
     Ok(())
 }
 
+/// The ids that have expired once i1 is taken and the last is renewed, each where it was found before.
+fn changed_by_old_hints(alloc: Global, leases: &mut Leases) -> Result<String, Fault> {
+    let now = at(5)?;
+    let (first, last) = (own(alloc, "i1")?, own(alloc, "i3")?);
+    let (place, old) = (place(leases, &first), place(leases, &last));
+    let taken = is_there(leases.take(&first, place));
+    let renewed = leases.renew(&last, old, now) && leases.renew(&last, place, now);
+    if !taken || !renewed || leases.renew(&first, place, now) {
+        return Ok(String::new(alloc));
+    }
+    expired(alloc, leases, 10_001)
+}
+
+/// A taken lease's place is that of the last one then.
+#[test]
+fn a_hint_may_be_old(rt: HostRuntime) -> Result<(), Fail> {
+    let mut leases = leases(rt.alloc(), &["i1", "i2", "i3"])?;
+    let told = changed_by_old_hints(rt.alloc(), &mut leases);
+    drop(leases);
+    assert_eq!(rt; told?.as_str(), "i2,");
+    Ok(())
+}
+
 /// The stamp and the duration of a held instance.
 fn stamp(leases: &Leases, key: &Key) -> Option<(u64, u32)> {
     match leases.get(key) {
@@ -141,10 +174,12 @@ fn stamp(leases: &Leases, key: &Key) -> Option<(u64, u32)> {
     }
 }
 
-/// The same of i1, when it is DOWN with that stamp.
+/// The same of i1, when it is renewed and DOWN with that stamp.
 fn amended(alloc: Global, leases: &mut Leases, dirty: u64) -> Result<Option<(u64, u32)>, Fault> {
+    let (now, stamped) = (at(5)?, Stamp::new(dirty));
     let first = own(alloc, "i1")?;
-    if !leases.amend(&first, Status::Down, Status::Down, Stamp::new(dirty)) {
+    let place = place(leases, &first);
+    if !leases.renew_as(&first, place, now, Status::Down, Status::Down, stamped) {
         return Ok(None);
     }
     Ok(stamp(leases, &first))
@@ -181,7 +216,8 @@ fn rejoined(alloc: Global, leases: &mut Leases) -> Result<Option<(u64, u32)>, Fa
     let now = at(4)?;
     let newcomer = newcomer(alloc)?;
     let lease = Lease::fresh(now, newcomer.secs);
-    let found = leases.rejoin(&newcomer, Status::OutOfService, Status::Down, lease);
+    let place = place(leases, &newcomer.key);
+    let found = leases.rejoin(place, &newcomer, Status::OutOfService, Status::Down, lease);
     let told = stamp(leases, &newcomer.key);
     drop(newcomer);
     Ok(if found { told } else { None })
@@ -254,7 +290,8 @@ fn lists_of(alloc: Global, leases: &Leases, app: &str, text: &str) -> Result<boo
 fn put_down(alloc: Global, leases: &mut Leases) -> Result<bool, Fault> {
     let now = at(5)?;
     let third = own(alloc, "i3")?;
-    Ok(leases.renew_as(&third, now, Status::Down, Status::Down, None))
+    let place = place(leases, &third);
+    Ok(leases.renew_as(&third, place, now, Status::Down, Status::Down, None))
 }
 
 #[test]

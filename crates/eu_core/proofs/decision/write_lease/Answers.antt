@@ -1,6 +1,5 @@
 use Rattle.std.proofs.Common.{refl, ap, sym, subst, ◌∙◌}
 use Rattle.std.specs.FinMap.{get}
-use Rattle.eu_model.specs.declared.views.Listed.{Listed}
 use Rattle.eu_model.specs.Maps.{with_value}
 use Rattle.eu_store.specs.Stored.{amended, changed, rejoined, renewed_at}
 use Rattle.eu_core.specs.declared.decision.Rejoining.{Rejoining}
@@ -44,7 +43,6 @@ returns-in-Replaced c =
     let m = c.args.leases.now.held in
     let k = c.args.key.now in
     let i = c.in-Replaced in
-    let by = i.held.value in
+    let by = i.held in
     let of = subst (IsOf k) i.is c.requires.of in
-    c.replace.ensures.held ∙ ap (λ (l : Listed). changed (λ _. l) m l.instance.key) c.into_inner-held.ensures
-    ∙ ap (changed (λ _. by) m) of ∙ changed_value (λ _. by) m k ∙ ap (λ x. with_value m k (lease_left x (get m k))) (sym i.is)
+    c.replace.ensures.held ∙ ap (changed (λ _. by) m) of ∙ changed_value (λ _. by) m k ∙ ap (λ x. with_value m k (lease_left x (get m k))) (sym i.is)

@@ -15,12 +15,12 @@ returns-clause-joins c =
     let n = c.args.instance in
     let row = c.args.known.row in
     let s = c.settle-settled.ensures in
-    joins_from _ _ _ n n c.args.replicated c.args.moment (Some l) c.new-held.result row _ _
-    (ap Some c.in_ok-new.ensures.ok) refl refl refl
+    joins_from _ _ n n c.args.replicated c.args.moment (Some l) c.new-held.result row _ _
+    refl refl refl refl
     (chosen_over l n c.requires)
     s.row s.overridden
     (s.status ∙ ap (λ (i : Instance). rule n.status (row_after row n.overridden) (Some i.status) c.args.replicated) c.instance.ensures)
-    (ap (λ (y : Listed). data_of y.instance) c.new-held.ensures)
+    (ap (λ (y : Listed). data_of y.instance) c.new-held.ensures ∙ ap data_of c.in_ok-instance.ensures.ok)
     (ap (λ (y : Listed). y.times) c.new-held.ensures
     ∙ ap times_of (c.begun-lease.ensures ∙ ap (λ (a : Term). let b : Term = record a { up = up_after a.up c.settle-settled.result.status c.args.moment } in b)
     (c.anew-anew.ensures ∙ ap (λ a. anew a c.args.moment n.secs) c.lease.ensures)))

@@ -17,7 +17,7 @@ returns-clause-joins c =
     let row = c.args.known.row in
     let s = c.settle-settled.ensures in
     let own = c.instance-own.ensures in
-    joins_from _ _ _ n j c.args.replicated c.args.moment (Some l) (rejoined n c.settle-settled.result.status c.settle-settled.result.overridden c.begun-lease.result l) row _ _
+    joins_from _ _ n j c.args.replicated c.args.moment (Some l) (rejoined n c.settle-settled.result.status c.settle-settled.result.overridden c.begun-lease.result l) row _ _
     (ap (λ (b : Rejoining). Some (rejoined b.newcomer b.status b.overridden b.lease l)) c.in_ok-new.ensures.ok) refl refl refl
     (chosen_under l n c.requires)
     (s.row ∙ ap (λ (i : Instance). row_after row i.overridden) own)

@@ -1,4 +1,4 @@
-use Rattle.std.proofs.Common.{true, ap, sym, subst, refl, ◌∙◌}
+use Rattle.std.proofs.Common.{◌≤◌, ◌^◌, true, sym, subst, refl, ◌∙◌}
 use Rattle.std.specs.FinMap.{get}
 use Rattle.std.specs.Option.{option_copied, option_or}
 use Rattle.eu_base.specs.declared.faults.Fault.TheVariants.{OutOfMemory}
@@ -6,28 +6,26 @@ use Rattle.eu_model.specs.declared.commands.Command.TheVariants.{Adopt}
 use Rattle.eu_model.specs.Answers.{IsRefusal}
 use Rattle.eu_model.specs.Kept.{kept_register}
 use Rattle.eu_model.proofs.AdoptLemmas.{adopts, adopt_answers, adopt_refused}
-use Rattle.eu_core.specs.Decided.{counted, expectation}
-use Rattle.eu_core.specs.Joins.{Joins}
 use Rattle.eu_core.proofs.AdoptLemmas.{adopt_registers}
-use Rattle.eu_core.proofs.DecidedLemmas.{answered}
+use Rattle.eu_core.proofs.DecidedLemmas.{answered, uncounted_ready}
 use Rattle.eu_core.proofs.RegisterLemmas.{joined_is}
 use Rattle.eu_core.proofs.StepLemmas.{no_memory, refused_as}
 use Rattle.eu_core.proofs.registry.Registry.adoption.Goals as goal
 
-pub returns-in_err-threshold-clause-refused : goal.returns-in_err-threshold-clause-refused
-returns-in_err-threshold-clause-refused c =
+pub returns-in_err-expected-clause-refused : goal.returns-in_err-expected-clause-refused
+returns-in_err-expected-clause-refused c =
     let a = c.args in
     let n = a.instance.now in
-    let f = c.in_err-threshold.field-0.0 in
+    let f = c.in_err-expected.field-0.0 in
     refused_as c.from_residual.result f f _ c.from_residual.ensures.1 refl
-    (adopt_refused n a.moment a.self.now f (subst (λ o. IsRefusal o f) (sym (c.in_err-threshold.ensures.refused n.key c.requires.held)) refl))
+    (adopt_refused n a.moment a.self.now f (subst (λ o. IsRefusal o f) (sym (c.in_err-expected.ensures.refused n.key c.requires.held)) refl))
 
 pub returns-in_err-decide_join-clause-refused : goal.returns-in_err-decide_join-clause-refused
 returns-in_err-decide_join-clause-refused c =
     let a = c.args in
     let n = a.instance.now in
     no_memory c.from_residual-in_err-decide_join.result _ c.from_residual-in_err-decide_join.ensures.1
-    (adopt_refused n a.moment a.self.now OutOfMemory (subst (λ o. IsRefusal o OutOfMemory) (sym (c.in_ok-threshold.ensures.ok n.key c.requires.held)) refl))
+    (adopt_refused n a.moment a.self.now OutOfMemory (subst (λ o. IsRefusal o OutOfMemory) (sym (c.in_ok-expected.ensures.ok n.key c.requires.held)) refl))
 
 pub returns-clause-decides : goal.returns-clause-decides
 returns-clause-decides c =
@@ -37,15 +35,19 @@ returns-clause-decides c =
     let t = a.moment in
     let d = c.in_ok-decide_join.field-0 in
     let held = option_copied a.held in
-    let ok = c.in_ok-threshold.ensures in
+    let ok = c.in_ok-expected.ensures in
     let row = c.or.ensures ∙ (λ i. option_or (c.told.ensures i) (c.requires.row i)) in
-    let joins = subst (λ y. Joins d held c.or.result c.in_ok-threshold.threshold y n true t) (ap counted c.self.view_is) c.in_ok-decide_join.ensures.joins in
+    let joins = c.in_ok-decide_join.ensures.joins in
     record {
       answers = answered p (Adopt n) t n.key d held _ (adopts n t p) c.requires.held
-          (joined_is d held c.or.result (expectation p) c.in_ok-threshold.threshold (counted p) n true t joins ok.threshold)
+          (joined_is d held c.or.result p.expected c.in_ok-expected.expected n true t joins ok.expected)
           ((λ i. kept_register (c.requires.held i) (row i) p.expected n true t) ∙ adopt_registers (get p.leases n.key) (get p.rows n.key.id) p.expected n t)
           (adopt_answers n t p (ok.ok n.key c.requires.held));
       memory = adopt_refused n t p OutOfMemory (subst (λ o. IsRefusal o OutOfMemory) (sym (ok.ok n.key c.requires.held)) refl);
-      of = c.in_ok-decide_join.ensures.of;
-      new = c.in_ok-decide_join.ensures.new p.leases c.requires.held ok.few;
+      ready = record {
+        of = c.in_ok-decide_join.ensures.of;
+        new = c.in_ok-decide_join.ensures.new p.leases c.requires.held ok.few;
+        bound = subst (λ e. e ≤ 2 ^ 40) (sym joins.expected_is) ok.bound;
+        countable = uncounted_ready _ p.since joins.counted_is;
+      };
     }

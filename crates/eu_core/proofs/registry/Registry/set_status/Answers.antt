@@ -1,8 +1,5 @@
 use Rattle.std.proofs.Common.{true}
 use Rattle.eu_core.proofs.registry.Registry.set_status.Goals as goal
 
-pub carry_out-requires-clause-of : goal.carry_out-requires-clause-of
-carry_out-requires-clause-of c = (c.status-decision.ensures true).of
-
-pub carry_out-requires-clause-new : goal.carry_out-requires-clause-new
-carry_out-requires-clause-new c = (c.status-decision.ensures true).new
+pub carry_out-requires-clause-ready : goal.carry_out-requires-clause-ready
+carry_out-requires-clause-ready c = (c.status-change.ensures true).ready

@@ -1,18 +1,34 @@
-use Rattle.std.proofs.Common.{refl}
-use Rattle.eu_model.specs.declared.commands.Command.TheVariants.{Evict}
-use Rattle.eu_core.specs.Stepped.{Steps}
-use Rattle.eu_core.proofs.StepLemmas.{at_one}
+use Rattle.std.proofs.Common.{ap, sym, subst, ◌∙◌}
+use Rattle.std.specs.Prelude.{Ok}
+use Rattle.std.specs.Option.{option_map}
+use Rattle.eu_model.specs.declared.commands.Reply.{Reply}
+use Rattle.eu_model.specs.declared.views.Listed.{Listed}
+use Rattle.eu_model.specs.Answers.{Answers}
+use Rattle.eu_core.specs.Decided.{lease_left}
+use Rattle.eu_core.specs.Stepped.{Steps, copies_of}
+use Rattle.eu_core.specs.declared.replies.Answered.{Answered}
+use Rattle.eu_core.proofs.StepLemmas.{at_one, held_left, unasked}
 use Rattle.eu_core.proofs.registry.Registry.step.Goals as goal
 
-pub returns-in-Roll-clause-ok : goal.returns-in-Roll-clause-ok
-returns-in-Roll-clause-ok g c = rw c.in-Roll.is (record { acts = c.step_roll.ensures c.args.moment c.args.held; chooses = refl })
+pub returns-in_default-clause-ok : goal.returns-in_default-clause-ok
+returns-in_default-clause-ok g c =
+    at_one c.step_by_timer.result (λ s m. Steps g.C.Chooser.asks c.args.self.now c.args.chooser.now c.args.command.now c.args.moment c.args.logs m s c.step_by_timer.new.self c.step_by_timer.new.chooser) c.args.held c.step_by_timer.ensures.ok
 
-pub returns-in-Update-clause-ok : goal.returns-in-Update-clause-ok
-returns-in-Update-clause-ok g c = rw c.in-Update.is (record { acts = c.step_update.ensures c.args.moment c.args.held; chooses = refl })
-
-pub returns-in-Reconfigure-clause-ok : goal.returns-in-Reconfigure-clause-ok
-returns-in-Reconfigure-clause-ok g c = rw c.in-Reconfigure.is (record { acts = c.step_reconfigure.ensures c.args.moment c.args.held; chooses = refl })
-
-pub returns-in-Evict-clause-ok : goal.returns-in-Evict-clause-ok
-returns-in-Evict-clause-ok g c =
-    rw c.in-Evict.is (at_one c.step_evict.result (λ s m. Steps g.C.Chooser.asks c.args.self.now c.args.chooser.now Evict c.args.moment c.args.logs m s c.step_evict.new.self c.step_evict.new.chooser) c.args.held c.step_evict.ensures.ok)
+pub returns-clause-ok : goal.returns-clause-ok
+returns-clause-ok g c =
+    let a = c.args in
+    let p = a.self.now in
+    let k = c.in-Some.key.now in
+    let d = c.in_ok-decision.decision in
+    let next = c.in_ok-carry_out.ensures.ok in
+    record {
+      acts = record {
+        answers = subst (λ q. Answers p a.command.now a.moment (Ok d.reply) q) (sym next) c.in_ok-decision.ensures.decides.answers;
+        same = λ i. let x : Answered Reply = record { reply = d.reply; told = c.in_ok-told.ensures.same i; logged = c.in_ok-logged.ensures.reply i } in x;
+        held_are =
+            c.in_ok-held.ensures
+            ∙ ap (λ o. copies_of a.held (option_map (λ (l : Listed). l.instance) (lease_left d.change.lease o))) c.find-row.ensures.held
+            ∙ ap (copies_of a.held) (held_left p c.carry_out.new.self a.command.now k d.change (sym c.in-Some.ensures) next);
+      };
+      chooses = unasked g.C.Chooser.asks p a.chooser.now a.command.now k a.moment d.reply (sym c.in-Some.ensures);
+    }

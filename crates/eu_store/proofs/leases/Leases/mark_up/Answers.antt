@@ -1,37 +1,36 @@
-use Rattle.std.proofs.Common.{◌≡◌, sym, ap, refl, subst, ◌∙◌, Some, IsSome, is_some}
-use Rattle.eu_store.specs.Stored.{upped_at}
-use Rattle.eu_store.proofs.TableLemmas.{by_key, map_of, get_in, changed_in, unchanged_in}
-use Rattle.std.proofs.Common.{◌≤◌, length}
-use Rattle.eu_base.specs.Key.{key_eq}
-use Rattle.eu_store.specs.Stored.{deadline_of, deadlines}
-use Rattle.eu_store.proofs.IndexLemmas.{IsIndexed, still_indexed}
+use Rattle.std.proofs.Common.{◌-◌, ◌≤◌, refl, is_some, length, min, sym, ap, ◌∙◌, arith}
+use Rattle.indexmap.specs.IndexMap.{spare, set_value_at}
+use Rattle.eu_store.specs.Stored.{deadline_of, upped_at}
+use Rattle.eu_store.proofs.MapLemmas.{none_from_is_some}
+use Rattle.eu_store.proofs.TableLemmas.{by_key, get_in, changed_in, unchanged_in}
+use Rattle.eu_store.proofs.IndexLemmas.{deadlines-stay, length-set_value_at, written_at}
 use Rattle.eu_store.proofs.leases.Leases.mark_up.Goals as goal
-use Rattle.eu_store.proofs.leases.Leases.mark_up.Goals.{in-Some, in-None}
 
-pub returns-clause-found : goal.returns-clause-found
-returns-clause-found c = elim c.match-get_mut.branch [
-  | in-Some w ↦ w.result-is ∙ sym (ap is_some (get_in by_key c.self.inside.table.entries c.args.self.now.held c.args.key.now _ (ap (λ s. s.held) c.self.view_is) w.in-Some.ensures.value))
-  | in-None w ↦ w.result-is ∙ sym (ap is_some (get_in by_key c.self.inside.table.entries c.args.self.now.held c.args.key.now _ (ap (λ s. s.held) c.self.view_is) w.in-None.ensures.value))
-]
+pub returns-in_default-clause-found : goal.returns-in_default-clause-found
+returns-in_default-clause-found c = c.in_default.ensures.found ∙ sym (ap is_some (get_in by_key c.self.inside.table.entries c.args.self.now.held c.args.key.now _ (ap (λ s. s.held) c.self.view_is) refl))
 
-pub returns-clause-held : goal.returns-clause-held
-returns-clause-held c = elim c.match-get_mut.branch [
-  | in-Some w ↦
-      let v = w.mark_up.new.self in
-      let there : IsSome (Some w.in-Some.held.now) = refl in
-      ap (λ a. map_of a.table.entries) w.self-inside-is
-      ∙ changed_in by_key (upped_at c.args.moment) c.self.inside.table.entries (c.get_mut.follows.lender v).entries c.args.self.now.held c.args.key.now w.in-Some.held.now v (ap (λ s. s.held) c.self.view_is) w.in-Some.ensures.value
-      ((c.get_mut.follows.holds v).3 (subst IsSome w.in-Some.ensures.value there)).0 w.mark_up.ensures
-  | in-None w ↦
-      ap (λ a. map_of a.table.entries) w.self-inside-is
-      ∙ unchanged_in by_key (upped_at c.args.moment) c.self.inside.table.entries _ c.args.self.now.held c.args.key.now (ap (λ s. s.held) c.self.view_is) w.in-None.ensures.value (ap (λ m. m.entries) c.get_mut.follows.holds-at-none)
-]
+pub returns-in_default-clause-held : goal.returns-in_default-clause-held
+returns-in_default-clause-held c =
+    let es = c.self.inside.table.entries in
+    let view = ap (λ s. s.held) c.self.view_is in
+    sym view ∙ unchanged_in by_key (upped_at c.args.moment) es es c.args.self.now.held c.args.key.now view (sym (none_from_is_some _ (sym c.in_default.ensures.found))) refl
 
 pub invariant_of-self : goal.invariant_of-self
-invariant_of-self c = elim c.match-get_mut.branch [
-  | in-Some w ↦
-      let v = w.mark_up.new.self in
-      subst IsIndexed (sym w.self-inside-is)
-      (still_indexed (key_eq c.args.key.now) c.self.inside.table.entries (c.get_mut.follows.lender v).entries c.self.inside.index.list w.in-Some.held.now v w.in-Some.ensures.value (c.get_mut.follows.holds v).0 (ap deadline_of w.mark_up.ensures) c.self.invariant)
-  | in-None w ↦ subst IsIndexed (sym w.self-inside-is) (subst (λ m. (length m.entries ≤ 65536) × (c.self.inside.index.list ≡ deadlines m.entries)) (sym c.get_mut.follows.holds-at-none) c.self.invariant)
-]
+invariant_of-self c =
+    let es = c.self.inside.table.entries in
+    let short : length (set_value_at es c.in-Some.place c.mark_up.new.self) ≤ 65536 = omega (arith, c.self.invariant.0, length-set_value_at es c.in-Some.place c.mark_up.new.self) in
+    (short, c.self.invariant.1 ∙ sym (deadlines-stay es c.in-Some.place c.index_mut.result.now c.mark_up.new.self c.index_mut.ensures.value (ap deadline_of c.mark_up.ensures)))
+
+pub returns-clause-found : goal.returns-clause-found
+returns-clause-found c = c.in-Some.ensures.found ∙ sym (ap is_some (get_in by_key c.self.inside.table.entries c.args.self.now.held c.args.key.now _ (ap (λ s. s.held) c.self.view_is) refl))
+
+pub returns-clause-held : goal.returns-clause-held
+returns-clause-held c =
+    let m = c.self.inside.table in
+    let there = c.index_mut.ensures.value in
+    changed_in by_key (upped_at c.args.moment) m.entries (set_value_at m.entries c.in-Some.place c.mark_up.new.self) c.args.self.now.held c.args.key.now c.index_mut.result.now c.mark_up.new.self (ap (λ s. s.held) c.self.view_is) (sym there ∙ c.in-Some.ensures.value)
+    (written_at m c.args.key.now c.in-Some.place c.index_mut.result.now c.mark_up.new.self c.in-Some.ensures.unique (sym c.in-Some.ensures.index) there) c.mark_up.ensures
+
+pub returns-clause-room : goal.returns-clause-room
+returns-clause-room c =
+    (λ i. min (min (spare c.self.inside.table) c.self.inside.index.room) (65536 - length-set_value_at c.self.inside.table.entries c.in-Some.place c.mark_up.new.self i)) ∙ ap (λ s. s.room) c.self.view_is

@@ -3,7 +3,7 @@ use Rattle.std.specs.Option.{option_copied, option_map}
 use Rattle.eu_model.specs.declared.views.Listed.{Listed}
 use Rattle.eu_core.specs.Decided.{lease_left}
 use Rattle.eu_core.specs.Stepped.{copies_of}
-use Rattle.eu_core.proofs.replies.copies_left.Given as goal
+use Rattle.eu_core.proofs.replies.made_copies.Given as goal
 
 -- the copies so far
 abbrev pub invariant-loop-made : goal.invariant-loop-made

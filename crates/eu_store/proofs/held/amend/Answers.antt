@@ -3,7 +3,7 @@ use Rattle.eu_base.specs.declared.instances.Instance.{Instance}
 use Rattle.eu_base.proofs.InstanceLemmas.{data_of, same_instance}
 use Rattle.eu_model.specs.Change.{stamped}
 use Rattle.eu_store.proofs.ListedLemmas.{greater_stamp, no_greater_stamp}
-use Rattle.eu_core.proofs.replies.amend.Goals as goal
+use Rattle.eu_store.proofs.held.amend.Goals as goal
 
 pub returns-then-stamp-instance : goal.returns-then-stamp-instance
 returns-then-stamp-instance c =

@@ -4,7 +4,7 @@ ghost use Rattle.eu_framing.specs.Target.{path_of, query_of};
 ghost use Rattle.eu_routes.specs.Route.{route_of};
 
 use eu_base::Fault;
-use eu_framing::{EMPTY_PIECE, Request, read_request};
+use eu_framing::{EMPTY_ROOM, Request, read_request};
 use eu_routes::Routes;
 use std::alloc::Global;
 
@@ -26,10 +26,10 @@ fn has_route(alloc: Global, routes: &Routes, request: &Request) -> bool
 fn count_once(alloc: Global, routes: &Routes, bytes: &[u8]) -> Result<u64, Fault> {
     let mut reader = bytes;
     let mut buffer = Vec::new(alloc);
-    let mut piece = EMPTY_PIECE;
+    let mut room = EMPTY_ROOM;
     let mut routed = 0u64;
     'requests: for _request in 0..u64::MAX {
-        match read_request(alloc, &mut reader, &mut buffer, &mut piece)? {
+        match read_request(alloc, &mut reader, &mut buffer, &mut room)? {
             None => break,
             Some(request) if has_route(alloc, routes, &request) => routed = routed.saturating_add(
                 1,

@@ -2,7 +2,7 @@
 ghost use Rattle.std.specs.Prelude.{◌≡◌, ◌<◌, Some, false, OnOk};
 
 use eu_base::Fault;
-use eu_framing::{EMPTY_PIECE, read_request};
+use eu_framing::{EMPTY_ROOM, read_request};
 use eu_stream::{ReadFault, Source};
 use std::alloc::Global;
 
@@ -54,10 +54,10 @@ pub fn count_requests<R: Source>(alloc: Global, reader: &mut R) -> Result<Totals
     ensures same_stream { R.stream reader.new ≡ R.stream reader.old }
 {
     let mut buffer = Vec::new(alloc);
-    let mut piece = EMPTY_PIECE;
+    let mut room = EMPTY_ROOM;
     let mut bytes = 0u64;
     'requests: for requests in 0..u64::MAX {
-        match read_request(alloc, reader, &mut buffer, &mut piece)? {
+        match read_request(alloc, reader, &mut buffer, &mut room)? {
             None => return Ok(Totals { requests, bytes }),
             Some(request) => bytes = bytes.saturating_add(request.body.len() as u64),
         }

@@ -3,15 +3,28 @@ ghost use Rattle.std.specs.Prelude.{◌≡◌, ◌≢◌, ◌≤◌, ◌<◌, �
 ghost use Rattle.std.specs.Io.KnownBytes.{IsAtEnd};
 ghost use Rattle.eu_framing.specs.Reading.{Grows, Fails};
 
+use crate::MAX_FIELDS;
 use eu_base::Fault;
 use eu_stream::Source;
+use httparse::spans::{EMPTY_HEADER_SPAN, HeaderSpan};
 
 /// Room for the bytes that come with one read. What it holds before and after doesn't matter: it is only kept from read to read,
 /// so that it needn't be made for each.
 pub type Piece = [u8; 4096];
 
-/// A piece that holds nothing yet.
-pub const EMPTY_PIECE: Piece = [0u8; 4096];
+/// Room for what is read, and for where the fields of a head are. What it holds before and after doesn't matter: it is only kept
+/// from request to request, so that it needn't be made for each.
+#[derive(Drop)]
+pub struct Room {
+    pub(crate) piece: Piece,
+    pub(crate) spans: [HeaderSpan; MAX_FIELDS],
+}
+
+/// A room that holds nothing yet.
+pub const EMPTY_ROOM: Room = Room {
+    piece: [0u8; 4096],
+    spans: [EMPTY_HEADER_SPAN; MAX_FIELDS],
+};
 
 /// Reads once, to the end of the buffer, and tells how many bytes came: none only at the end.
 ///

@@ -50,6 +50,30 @@ fn look(buffer: &[u8], spans: &mut [HeaderSpan]) -> Result<Option<RequestSpans>,
     }
 }
 
+/// The head at the front, where nothing was looked through before. Most heads come whole, with one read, so this is parsed at once.
+/// Where it isn't whole, it is looked through, and a fault comes where an empty line has come that may end it.
+fn first_head(
+    buffer: &[u8],
+    spans: &mut [HeaderSpan],
+    scan: &mut Scan,
+) -> Result<Option<RequestSpans>, Fault>
+    requires { length spans.old ≡ max_fields }
+    ensures head { IfOk result (λ found. IfSome found (HasHeadAt buffer.now spans.new)) }
+    ensures none { IsAt false buffer.now scan.old → HeadEndsAfter scan.old.seen buffer.now → IfOk result (λ found. MatchOption found (HasNoRequest (take max_head buffer.now)) (λ _. Unit {0})) }
+    ensures at { IsAt false buffer.now scan.old → IsAt false buffer.now scan.new }
+    ensures fault { IfErr result (λ fault. (more : List ℕ) → IsHeadFault (buffer.now ++ more) fault) }
+{
+    let found = look(buffer, spans);
+    if matches!(found, Ok(Some(_))) {
+        return found;
+    }
+    if scan.finds_empty_line(buffer) {
+        found
+    } else {
+        Ok(None)
+    }
+}
+
 /// The head at the front, where an empty line has come that may end it.
 fn try_head(
     buffer: &[u8],
@@ -62,7 +86,9 @@ fn try_head(
     ensures at { IsAt false buffer.now scan.old → IsAt false buffer.now scan.new }
     ensures fault { IfErr result (λ fault. (more : List ℕ) → IsHeadFault (buffer.now ++ more) fault) }
 {
-    if scan.finds_empty_line(buffer) {
+    if scan.is_new() {
+        first_head(buffer, spans, scan)
+    } else if scan.finds_empty_line(buffer) {
         look(buffer, spans)
     } else {
         Ok(None)

@@ -17,7 +17,7 @@ mod request;
 mod scan;
 mod trailer;
 
-pub use buffer::{EMPTY_PIECE, Piece};
+pub use buffer::{EMPTY_ROOM, Room};
 pub use law::one_request_at_most;
 pub use request::{Request, read_request};
 

@@ -12,14 +12,14 @@ ghost use Rattle.eu_framing.specs.HeadSteps.{GivesHead, FindsHead};
 ghost use Rattle.eu_framing.specs.Target.{path_of, query_of};
 ghost use Rattle.eu_framing.specs.Stream.{pending, Between, OfBytes};
 
+use crate::MAX_HEAD;
 use crate::body::read_body;
-use crate::buffer::{Piece, drop_front, window};
+use crate::buffer::{Room, drop_front, window};
 use crate::fields::{Framing, find_closes, find_framing, find_replicated};
 use crate::head::find_head;
-use crate::{MAX_FIELDS, MAX_HEAD};
 use eu_base::Fault;
 use eu_stream::Source;
-use httparse::spans::{EMPTY_HEADER_SPAN, HeaderSpan, RequestSpans};
+use httparse::spans::{HeaderSpan, RequestSpans};
 use std::alloc::{AllocError, Global};
 
 /// A request, whole.
@@ -40,24 +40,30 @@ pub struct Request {
 }
 
 impl Request {
-    /// The target before its first `?`, as written (RFC 9112, section 3.2).
-    pub fn path(&self) -> &str
-        ensures { result.now ≡ path_of (string_bytes self.now.target) }
+    /// The target's path and its query, as written: what stands before its first `?` (RFC 9112, section 3.2), and behind it (RFC
+    /// 3986, section 3.4). The query is empty where there is none.
+    pub fn parts(&self) -> (&str, &str)
+        ensures path { result.0.now ≡ path_of (string_bytes self.now.target) }
+        ensures query { result.1.now ≡ query_of (string_bytes self.now.target) }
     {
         match self.target.split_once('?') {
-            Some((path, _)) => path,
-            None => self.target.as_str(),
+            Some((path, query)) => (path, query),
+            None => (self.target.as_str(), ""),
         }
     }
 
-    /// The query behind the target's first `?`, as written (RFC 3986, section 3.4); empty where there is none.
+    /// The path of `parts`.
+    pub fn path(&self) -> &str
+        ensures { result.now ≡ path_of (string_bytes self.now.target) }
+    {
+        self.parts().0
+    }
+
+    /// The query of `parts`.
     pub fn query(&self) -> &str
         ensures { result.now ≡ query_of (string_bytes self.now.target) }
     {
-        match self.target.split_once('?') {
-            Some((_, query)) => query,
-            None => "",
-        }
+        self.parts().1
     }
 }
 
@@ -113,7 +119,7 @@ fn next_head<R: Source>(
     alloc: Global,
     reader: &mut R,
     buffer: &mut Vec<u8>,
-    piece: &mut Piece,
+    room: &mut Room,
 ) -> Result<Option<Head>, Fault>
     ensures grows { OnOk result (Grows (R.remaining reader.old) (R.failed reader.old) buffer.old.items (R.remaining reader.new) (R.failed reader.new) buffer.new.items) }
     ensures found { IfOk result (λ found. FindsHead found buffer.new.items) }
@@ -123,10 +129,14 @@ fn next_head<R: Source>(
     ensures told { IfErr result (λ fault. fault ≢ Fault.Read → R.failed reader.new ≡ R.failed reader.old) }
     ensures same_stream { R.stream reader.new ≡ R.stream reader.old }
 {
-    let mut spans = [EMPTY_HEADER_SPAN; MAX_FIELDS];
-    match find_head(reader, buffer, piece, &mut spans)? {
+    match find_head(reader, buffer, &mut room.piece, &mut room.spans)? {
         None => Ok(None),
-        Some(found) => Ok(Some(copy_head(alloc, window(buffer, 0, MAX_HEAD), &spans, &found)?)),
+        Some(found) => Ok(Some(copy_head(
+            alloc,
+            window(buffer, 0, MAX_HEAD),
+            &room.spans,
+            &found,
+        )?)),
     }
 }
 
@@ -134,7 +144,7 @@ fn next_head<R: Source>(
 ///
 /// `buffer` holds bytes that were read and not yet used; they come first. Those that the request doesn't use are left in it, so
 /// the next call goes on with them. Where there is no request, it is as it was, with what was read behind it. No byte behind
-/// the request is waited for. `piece` is room for a read; what it holds doesn't matter.
+/// the request is waited for. What `room` holds doesn't matter.
 ///
 /// A head is what `httparse` reads, with empty lines before it (RFC 9112, sections 2 to 5). The end is that of the bytes,
 /// before a head or after empty lines alone. Of the faults, the first that is met comes:
@@ -156,7 +166,7 @@ pub fn read_request<R: Source>(
     alloc: Global,
     reader: &mut R,
     buffer: &mut Vec<u8>,
-    piece: &mut Piece,
+    room: &mut Room,
 ) -> Result<Option<Request>, Fault>
     ensures found { IfOk result (λ next. Between (pending buffer.old.items (R.remaining reader.old)) (pending buffer.new.items (R.remaining reader.new)) (FindsNext next)) }
     ensures fault { IfErr result (λ fault. Interrupts (R.failed reader.new) (pending buffer.old.items (R.remaining reader.old)) (pending buffer.new.items (R.remaining reader.new)) buffer.new.items fault ⊎ OfBytes (pending buffer.old.items (R.remaining reader.old)) (λ bytes. IsFault bytes fault)) }
@@ -164,9 +174,10 @@ pub fn read_request<R: Source>(
     ensures told { IfErr result (λ fault. fault ≢ Fault.Read → R.failed reader.new ≡ R.failed reader.old) }
     ensures same_stream { R.stream reader.new ≡ R.stream reader.old }
 {
-    match next_head(alloc, reader, buffer, piece)? {
+    match next_head(alloc, reader, buffer, room)? {
         None => Ok(None),
         Some(head) => {
+            let piece = &mut room.piece;
             let (body, used) = read_body(alloc, reader, buffer, piece, head.len, head.framing)?;
             drop_front(buffer, used);
             Ok(Some(Request {

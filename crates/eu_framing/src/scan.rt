@@ -1,11 +1,11 @@
 //! How far a text was looked through for the line that ends it.
-ghost use Rattle.std.specs.Prelude.{◌≡◌, ◌<◌, ◌≤◌, Bool, drop, length, max, true, false};
+ghost use Rattle.std.specs.Prelude.{◌≡◌, ◌==◌, ◌<◌, ◌≤◌, Bool, drop, length, max, true, false};
 ghost use Rattle.eu_framing.specs.Scanning.{IsAt, begun_after, has_end, is_end, line_after};
 
 /// Looks through a text, as it grows, for the empty line that ends a head or a trailer. No byte is looked at twice.
 ///
-/// It only tells when it is worth while to parse. What is read rests on its answers in nothing but how often that is done, that no byte
-/// behind a request is waited for, and that a failed read leaves no whole request.
+/// It only tells when it is worth while to parse what didn't come whole at first. What is read rests on its answers in nothing but how
+/// often that is done, that no byte behind a request is waited for, and that a failed read leaves no whole request.
 #[derive(Clone, Copy)]
 pub struct Scan {
     /// So many bytes were looked at.
@@ -37,6 +37,13 @@ impl Scan {
             in_line: false,
             begun: true,
         }
+    }
+
+    /// Whether no byte was looked at.
+    pub fn is_new(&self) -> bool
+        ensures { result ≡ (self.now.seen == 0) }
+    {
+        self.seen == 0
     }
 
     /// Whether an empty line ends the text within the bytes that weren't looked at before. Where it does, it has come as far as that

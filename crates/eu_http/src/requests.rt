@@ -152,6 +152,7 @@ pub fn asks(
 ) -> Result<Asked, Fault>
     ensures { spec.Says result (spec.asks_of request.now moment) }
 {
-    let route = routes.find(alloc, &request.method, request.path(), request.query())?;
+    let (path, query) = request.parts();
+    let route = routes.find(alloc, &request.method, path, query)?;
     asks_for(alloc, route, request, moment)
 }

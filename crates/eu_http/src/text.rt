@@ -1,5 +1,5 @@
 //! A response as it is written.
-ghost use Rattle.std.specs.Prelude.{◌≡◌, ◌++◌, IfOk, OnOk, string_bytes};
+ghost use Rattle.std.specs.Prelude.{◌≡◌, ◌++◌, false, IfOk, IfSome, OnOk, string_bytes};
 ghost use Rattle.eu_http.specs.Response.{content_of, response_of};
 ghost use Rattle.eu_http.specs.Text as spec;
 
@@ -55,8 +55,8 @@ fn push_close(text: &mut String, close: bool) -> Result<(), AllocError>
     }
 }
 
-/// The text of a response. `AllocError` where no memory is left.
-pub fn print(alloc: Global, response: &Response, close: bool) -> Result<String, AllocError>
+/// The text of a response, put together.
+fn print_parts(alloc: Global, response: &Response, close: bool) -> Result<String, AllocError>
     ensures { IfOk result (λ text. string_bytes text ≡ spec.print (response_of response.now) close) }
 {
     let status = response.status;
@@ -69,4 +69,39 @@ pub fn print(alloc: Global, response: &Response, close: bool) -> Result<String, 
     text.push_str("\r\n")?;
     text.push_str(content)?;
     Ok(text)
+}
+
+/// The text of a response without content, where its status is one that such responses mostly have. The connection goes on.
+fn bare_text(status: StatusCode) -> Option<&'static str>
+    ensures { IfSome result (λ text. text.now ≡ spec.print (spec.bare status) false) }
+{
+    match status {
+        StatusCode::OK => Some("HTTP/1.1 200 OK\r\nContent-Length: 0\r\n\r\n"),
+        StatusCode::NO_CONTENT => Some("HTTP/1.1 204 No Content\r\n\r\n"),
+        StatusCode::NOT_FOUND => Some("HTTP/1.1 404 Not Found\r\nContent-Length: 0\r\n\r\n"),
+        _ => None,
+    }
+}
+
+/// The text of a response, where it needn't be put together.
+fn ready_text(response: &Response, close: bool) -> Option<&'static str>
+    ensures { IfSome result (λ text. text.now ≡ spec.print (response_of response.now) close) }
+{
+    if close {
+        return None;
+    }
+    match &response.content {
+        Content::Nothing => bare_text(response.status),
+        _ => None,
+    }
+}
+
+/// The text of a response. `AllocError` where no memory is left.
+pub fn print(alloc: Global, response: &Response, close: bool) -> Result<String, AllocError>
+    ensures { IfOk result (λ text. string_bytes text ≡ spec.print (response_of response.now) close) }
+{
+    match ready_text(response, close) {
+        Some(text) => String::from_str(alloc, text),
+        None => print_parts(alloc, response, close),
+    }
 }

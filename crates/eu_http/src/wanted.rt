@@ -63,10 +63,9 @@ fn shown_at(path: &str) -> Wanted
 pub fn wanted_by(request: &Request) -> Wanted
     ensures { result ≡ spec.wanted_by (string_bytes request.now.method) (target.path_of (string_bytes request.now.target)) }
 {
-    let path = path_of(request.path());
     match request.method.as_str() {
-        "GET" => shown_at(path),
-        "POST" if is_batch(path) => Wanted::Batch,
+        "GET" => shown_at(path_of(request.path())),
+        "POST" if is_batch(path_of(request.path())) => Wanted::Batch,
         _ => Wanted::Change,
     }
 }

@@ -10,8 +10,18 @@ use Rattle.std.specs.Char.{to_ascii_lowercase, to_ascii_uppercase}
 use Rattle.std.specs.Str.{all_ascii_digits, bytes_eq}
 use Rattle.std.specs.Str.Parse.{digits_value}
 use Rattle.std.specs.Result.{OkIff, result_ok}
+use Rattle.eu_base.specs.declared.faults.Fault.{Fault}
+use Rattle.eu_base.specs.declared.statuses.Status.{Status}
 use Rattle.eu_base.specs.declared.times.Stamp.{Stamp}
-use Rattle.eu_routes.specs.Query.{is_number, stamp_of, u32_of, number_of}
+use Rattle.std.proofs.lemmas.Str.{utf8_lossy-IsUtf8}
+use Rattle.std.specs.Str.Lossy.{utf8_lossy}
+use Rattle.form_urlencoded.specs.Form.{IsPlainText}
+use Rattle.form_urlencoded.proofs.FormLemmas.{decode_plain}
+use Rattle.eu_routes.specs.Query.{text_of, is_number, stamp_of, u32_of, number_of, value_at, stamp_given, status_given, stamp_at, status_at}
+
+-- bytes that stand for themselves
+pub plain_stands : (bytes : List ℕ) → IsPlainText bytes → text_of bytes ≡ bytes
+plain_stands bytes plain = ap utf8_lossy (decode_plain bytes plain.0) ∙ utf8_lossy-IsUtf8 bytes plain.1
 
 pub digits : IsNumeralModel (λ ds. all_ascii_digits ds ≡ true) (digits_value 10)
 digits = numerals_by_value _ tells_all_ascii_digits
@@ -89,3 +99,12 @@ parsed text (Ok m) n (Some s) h e short some none =
     let same : m ≡ n = cc in
     let value : s.value ≡ digits_value 10 text = some ∙ sym same ∙ h.1 in
     ap Some value ∙ sym (some_stamp text h.0.1 short h.0.0 (rw (← value) s.bound))
+
+-- what a value tells, once it is found
+pub stamp_is : (name query : List ℕ) (value : Option (List ℕ)) (said : Result (Option ℕ) Fault) → value ≡ value_at name query → stamp_given value ≡ said → stamp_at name query ≡ said
+unfolding stamp_at
+stamp_is name query value said e is = ap stamp_given (sym e) ∙ is
+
+pub status_is : (name query : List ℕ) (value : Option (List ℕ)) (said : Result (Option Status) Fault) → value ≡ value_at name query → status_given value ≡ said → status_at name query ≡ said
+unfolding status_at
+status_is name query value said e is = ap status_given (sym e) ∙ is

@@ -6,7 +6,7 @@ ghost use Rattle.eu_routes.specs.Route.{IsKnown, Reads};
 
 use crate::asks::Route;
 use crate::paths::{app_at, cut, key_at, path_of};
-use crate::queries::{config_at, stamp_at, status_at};
+use crate::queries::{config_at, stamp_given, status_given, values_at};
 use crate::table::{Page, Routes};
 use eu_base::Fault;
 use std::alloc::Global;
@@ -94,8 +94,9 @@ fn ask_renewal(alloc: Global, path: &str, query: &str) -> Result<Route, Fault>
     ensures memory { IsUncoded path.now → result ≡ Err Fault.OutOfMemory → IsOk (key_at path.now) }
 {
     let key = key_at(alloc, path)?;
-    let dirty = stamp_at(alloc, query, STAMP)?;
-    let overridden = status_at(alloc, query, OVERRIDDEN)?;
+    let (dirty, overridden) = values_at(alloc, query, STAMP, OVERRIDDEN)?;
+    let dirty = stamp_given(dirty)?;
+    let overridden = status_given(overridden)?;
     Ok(Route::Renew {
         key,
         dirty,
@@ -116,27 +117,29 @@ fn ask_lease(alloc: Global, method: &str, path: &str, query: &str) -> Result<Rou
     }
 }
 
-#[tactic(auto, unfolding(crate::specs::Route::setting_ask))]
+#[tactic(auto, unfolding(crate::specs::Route::setting_ask, crate::specs::Query::status_at))]
 fn ask_setting(alloc: Global, path: &str, query: &str) -> Result<Route, Fault>
     ensures said { Reads result (spec.setting_ask path.now query.now) }
     ensures memory { IsUncoded path.now → result ≡ Err Fault.OutOfMemory → IsOk (key_at path.now) }
 {
     let key = key_at(alloc, path)?;
-    let Some(status) = status_at(alloc, query, STATUS)? else {
+    let (status, dirty) = values_at(alloc, query, STATUS, STAMP)?;
+    let Some(status) = status_given(status)? else {
         return Err(Fault::BadValue);
     };
-    let dirty = stamp_at(alloc, query, STAMP)?;
+    let dirty = stamp_given(dirty)?;
     Ok(Route::SetStatus { key, status, dirty })
 }
 
-#[tactic(auto, unfolding(crate::specs::Route::unsetting_ask))]
+#[tactic(auto, unfolding(crate::specs::Route::unsetting_ask, crate::specs::Query::status_at))]
 fn ask_unsetting(alloc: Global, path: &str, query: &str) -> Result<Route, Fault>
     ensures said { Reads result (spec.unsetting_ask path.now query.now) }
     ensures memory { IsUncoded path.now → result ≡ Err Fault.OutOfMemory → IsOk (key_at path.now) }
 {
     let key = key_at(alloc, path)?;
-    let status = status_at(alloc, query, STATUS)?;
-    let dirty = stamp_at(alloc, query, STAMP)?;
+    let (status, dirty) = values_at(alloc, query, STATUS, STAMP)?;
+    let status = status_given(status)?;
+    let dirty = stamp_given(dirty)?;
     Ok(Route::UnsetStatus { key, status, dirty })
 }
 

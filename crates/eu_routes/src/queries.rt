@@ -1,6 +1,7 @@
 //! The values of a query.
-ghost use Rattle.std.specs.Prelude.{◌≡◌, ◌<◌, ◌^◌, true, IfOk, map, option_map};
+ghost use Rattle.std.specs.Prelude.{◌≡◌, ◌<◌, ◌^◌, ◌∷◌, ℕ, List, true, IfOk, map, option_map};
 ghost use Rattle.std.specs.Cow.{cow_str_bytes};
+ghost use Rattle.std.specs.Option.{option_or};
 ghost use Rattle.std.specs.Str.{bytes_eq, str_to_ascii_uppercase};
 ghost use Rattle.form_urlencoded.specs.Form.{IsPlainText};
 ghost use Rattle.eu_routes.specs.Chain.{Gives};
@@ -114,13 +115,72 @@ fn value_at<'q>(
     Ok(None)
 }
 
-/// The stamp of that name in a query. None where it has no value, or an empty one; `BadValue` for any other text;
-/// `OutOfMemory`.
-#[tactic(auto, unfolding(crate::specs::Query::stamp_at))]
-pub fn stamp_at(alloc: Global, query: &str, name: &str) -> Result<Option<Stamp>, Fault>
-    ensures { Gives spec.number_of result (spec.stamp_at name.now query.now) }
+/// Whether bytes stand for the one name, and whether for the other. Takes no memory where they stand for themselves.
+fn are_named(
+    alloc: Global,
+    bytes: &[u8],
+    one: &str,
+    other: &str,
+) -> Result<(bool, bool), AllocError>
+    ensures one { IfOk result (λ named. named.0 ≡ bytes_eq (spec.text_of bytes.now) one.now) }
+    ensures other { IfOk result (λ named. named.1 ≡ bytes_eq (spec.text_of bytes.now) other.now) }
 {
-    let Some(value) = value_at(alloc, query, name)? else {
+    if is_plain(bytes) {
+        return Ok((bytes == one.as_bytes(), bytes == other.as_bytes()));
+    }
+    let text = decode(alloc, bytes)?;
+    Ok((text.as_str() == one, text.as_str() == other))
+}
+
+/// The value that was found before, else that of a pair, where it has the name.
+fn first_of<'q>(found: Option<&'q [u8]>, named: bool, value: &'q [u8]) -> Option<&'q [u8]>
+    ensures { (name : List ℕ) → (pair : List ℕ × List ℕ) → (pairs : List (List ℕ × List ℕ)) → pair.1 ≡ value.now → named ≡ bytes_eq (spec.text_of pair.0) name
+        → option_or (option_map (λ v. spec.text_of v.now) result) (spec.value_among name pairs) ≡ option_or (option_map (λ v. spec.text_of v.now) found.entry) (spec.value_among name (pair ∷ pairs)) }
+{
+    match found {
+        None if named => Some(value),
+        _ => found,
+    }
+}
+
+/// The text that a value stands for, if there is one.
+fn text_of(alloc: Global, value: Option<&[u8]>) -> Result<Option<CowStr<'_, Global>>, AllocError>
+    ensures { IfOk result (λ text. option_map cow_str_bytes text ≡ option_map (λ v. spec.text_of v.now) value.entry) }
+{
+    match value {
+        Some(bytes) => Ok(Some(decode(alloc, bytes)?)),
+        None => Ok(None),
+    }
+}
+
+/// The values of the first pairs of two names in a query, each if one has it: what `value_at` gives for each, of one look at the pairs.
+///
+/// The only fault is want of memory.
+#[tactic(auto, unfolding(crate::specs::Query::value_at))]
+pub fn values_at<'q>(
+    alloc: Global,
+    query: &'q str,
+    one: &str,
+    other: &str,
+) -> Result<(Option<CowStr<'q, Global>>, Option<CowStr<'q, Global>>), AllocError>
+    ensures one { IfOk result (λ values. option_map cow_str_bytes values.0 ≡ spec.value_at one.now query.now) }
+    ensures other { IfOk result (λ values. option_map cow_str_bytes values.1 ≡ spec.value_at other.now query.now) }
+{
+    let mut first = None;
+    let mut second = None;
+    for (name, value) in raw_pairs(query.as_bytes()) {
+        let (is_one, is_other) = are_named(alloc, name, one, other)?;
+        first = first_of(first, is_one, value);
+        second = first_of(second, is_other, value);
+    }
+    Ok((text_of(alloc, first)?, text_of(alloc, second)?))
+}
+
+/// The stamp that a value tells. None where there is no value, or an empty one; `BadValue` for any other text.
+pub fn stamp_given(value: Option<CowStr<'_, Global>>) -> Result<Option<Stamp>, Fault>
+    ensures { Gives spec.number_of result (spec.stamp_given (option_map cow_str_bytes value.entry)) }
+{
+    let Some(value) = value else {
         return Ok(None);
     };
     let text = value.as_str();
@@ -133,13 +193,11 @@ pub fn stamp_at(alloc: Global, query: &str, name: &str) -> Result<Option<Stamp>,
     }
 }
 
-/// The status of that name in a query. None where it has no value; `BadValue` for any text that is no status, an empty one
-/// too; `OutOfMemory`.
-#[tactic(auto, unfolding(crate::specs::Query::status_at))]
-pub fn status_at(alloc: Global, query: &str, name: &str) -> Result<Option<Status>, Fault>
-    ensures { Gives (λ s. s) result (spec.status_at name.now query.now) }
+/// The status that a value tells. None where there is no value; `BadValue` for any text that is no status, an empty one too.
+pub fn status_given(value: Option<CowStr<'_, Global>>) -> Result<Option<Status>, Fault>
+    ensures { Gives (λ s. s) result (spec.status_given (option_map cow_str_bytes value.entry)) }
 {
-    let Some(value) = value_at(alloc, query, name)? else {
+    let Some(value) = value else {
         return Ok(None);
     };
     match read_status(value.as_str()) {

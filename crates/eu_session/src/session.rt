@@ -6,7 +6,7 @@ ghost use Rattle.eu_session.specs.Turn as spec;
 use crate::turn::{answer_request, refuse};
 use crate::{Desk, MAX_REQUESTS, SessionFault};
 use eu_clock::Clock;
-use eu_framing::{EMPTY_PIECE, Request, read_request};
+use eu_framing::{EMPTY_ROOM, Request, read_request};
 use eu_routes::Routes;
 use eu_stream::{Sink, Source};
 use std::alloc::Global;
@@ -64,9 +64,9 @@ pub fn serve_session<D: Desk, C: Clock, R: Source, W: Sink>(
     ensures same_writer { W.stream writer.new ≡ W.stream writer.old }
 {
     let mut buffer = Vec::new(alloc);
-    let mut piece = EMPTY_PIECE;
+    let mut room = EMPTY_ROOM;
     for n in 0..MAX_REQUESTS {
-        let request = match read_request(alloc, reader, &mut buffer, &mut piece) {
+        let request = match read_request(alloc, reader, &mut buffer, &mut room) {
             Ok(Some(request)) => request,
             Ok(None) => return Ok(n),
             Err(fault) => {

@@ -3,7 +3,7 @@ ghost use Rattle.std.specs.Prelude.{None};
 
 use crate::tests::fakes::Shaky;
 use eu_base::Fault;
-use eu_framing::{EMPTY_PIECE, read_request};
+use eu_framing::{EMPTY_ROOM, read_request};
 use eu_stream::{ReadFault, Source};
 use std::alloc::Global;
 
@@ -116,8 +116,8 @@ impl Source for Split<'_> {
 /// The fault of the first request of a reader.
 fn fault_by<R: Source + Drop>(alloc: Global, mut reader: R) -> Option<Fault> {
     let mut buffer = Vec::new(alloc);
-    let mut piece = EMPTY_PIECE;
-    match read_request(alloc, &mut reader, &mut buffer, &mut piece) {
+    let mut room = EMPTY_ROOM;
+    match read_request(alloc, &mut reader, &mut buffer, &mut room) {
         Err(fault) => Some(fault),
         _ => None,
     }

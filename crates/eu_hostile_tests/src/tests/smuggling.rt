@@ -4,7 +4,7 @@ use crate::tests::tables::{
     CHUNKS, CODINGS, CONNECTIONS, DIFFERENCES, FIELDS, LENGTHS, LINES, Row, TARGETS,
 };
 use eu_base::Fault;
-use eu_framing::{EMPTY_PIECE, Piece, Request, read_request};
+use eu_framing::{EMPTY_ROOM, Request, Room, read_request};
 use eu_routes::Routes;
 use eu_stream::Source;
 use std::alloc::{AllocError, Global};
@@ -87,10 +87,10 @@ fn add_next<R: Source>(
     alloc: Global,
     reader: &mut R,
     buffer: &mut Vec<u8>,
-    piece: &mut Piece,
+    room: &mut Room,
     made: &mut Made,
 ) -> Result<bool, AllocError> {
-    match read_request(alloc, reader, buffer, piece) {
+    match read_request(alloc, reader, buffer, room) {
         Ok(Some(request)) => {
             let closes = request.closes;
             let added = add_request(made, &request);
@@ -112,9 +112,9 @@ fn add_next<R: Source>(
 /// Adds all requests of a reader, of which no message has more than eight.
 fn add_all<R: Source>(alloc: Global, reader: &mut R, made: &mut Made) -> Result<(), AllocError> {
     let mut buffer = Vec::new(alloc);
-    let mut piece = EMPTY_PIECE;
+    let mut room = EMPTY_ROOM;
     for _ in 0..9 {
-        if !add_next(alloc, reader, &mut buffer, &mut piece, made)? {
+        if !add_next(alloc, reader, &mut buffer, &mut room, made)? {
             return Ok(());
         }
     }

@@ -1,7 +1,7 @@
 //! Requests as clients send them, and responses byte for byte.
 use crate::tests::instances::push_each;
 use eu_base::{App, BoxedInstance, Config, Fault, Instance, Key, Moment, Stamp, Status};
-use eu_framing::{EMPTY_PIECE, Request, read_request};
+use eu_framing::{EMPTY_ROOM, Request, read_request};
 use eu_http::{Answer, Ask, Asked, Outcome, answer, asks};
 use eu_json::read_instance;
 use eu_model::{Command, Counts, Keys, Listed, Listing, Query, Reply, Times, View};
@@ -62,8 +62,8 @@ fn request(alloc: Global, line: &str, field: &str, body: &[u8]) -> Result<Reques
     let bytes = sent(alloc, line, field, body)?;
     let mut reader = bytes.as_slice();
     let mut buffer = Vec::new(alloc);
-    let mut piece = EMPTY_PIECE;
-    read_request(alloc, &mut reader, &mut buffer, &mut piece)?.ok_or(Fault::BadHead)
+    let mut room = EMPTY_ROOM;
+    read_request(alloc, &mut reader, &mut buffer, &mut room)?.ok_or(Fault::BadHead)
 }
 
 /// Writes a key behind a word.

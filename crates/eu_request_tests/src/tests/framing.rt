@@ -1,7 +1,7 @@
 ghost use Rattle.std.specs.Prelude.{None};
 
 use eu_base::Fault;
-use eu_framing::{EMPTY_PIECE, MAX_FIELDS, MAX_HEAD, MAX_RAW, MAX_TRAILER, Request, read_request};
+use eu_framing::{EMPTY_ROOM, MAX_FIELDS, MAX_HEAD, MAX_RAW, MAX_TRAILER, Request, read_request};
 use eu_stream::{ReadFault, Source};
 use std::alloc::{AllocError, Global};
 
@@ -122,8 +122,8 @@ fn is_next<R: Source>(
     target: &str,
     body: &[u8],
 ) -> bool {
-    let mut piece = EMPTY_PIECE;
-    match read_request(alloc, reader, buffer, &mut piece) {
+    let mut room = EMPTY_ROOM;
+    match read_request(alloc, reader, buffer, &mut room) {
         Ok(Some(request)) => is_request(&request, method, target, body),
         _ => false,
     }
@@ -148,8 +148,8 @@ fn are_next<R: Source>(alloc: Global, reader: &mut R, buffer: &mut Vec<u8>) -> b
 
 /// Whether no request is left.
 fn is_end<R: Source>(alloc: Global, reader: &mut R, buffer: &mut Vec<u8>) -> bool {
-    let mut piece = EMPTY_PIECE;
-    matches!(read_request(alloc, reader, buffer, &mut piece), Ok(None))
+    let mut room = EMPTY_ROOM;
+    matches!(read_request(alloc, reader, buffer, &mut room), Ok(None))
 }
 
 /// Whether the reader gives the three requests, and then the end.
@@ -161,8 +161,8 @@ fn are_the_three<R: Source + Drop>(alloc: Global, mut reader: R) -> bool {
 /// The fault that the first request of a reader has.
 fn fault_of<R: Source + Drop>(alloc: Global, mut reader: R) -> Option<Fault> {
     let mut buffer = Vec::new(alloc);
-    let mut piece = EMPTY_PIECE;
-    match read_request(alloc, &mut reader, &mut buffer, &mut piece) {
+    let mut room = EMPTY_ROOM;
+    match read_request(alloc, &mut reader, &mut buffer, &mut room) {
         Err(fault) => Some(fault),
         _ => None,
     }
@@ -336,8 +336,8 @@ const PIECES: [(&[u8], &[u8], &str); 4] = [
 
 /// Whether the next request has that body.
 fn has_body<R: Source>(alloc: Global, reader: &mut R, buffer: &mut Vec<u8>, body: &str) -> bool {
-    let mut piece = EMPTY_PIECE;
-    match read_request(alloc, reader, buffer, &mut piece) {
+    let mut room = EMPTY_ROOM;
+    match read_request(alloc, reader, buffer, &mut room) {
         Ok(Some(request)) => request.body.as_slice() == body.as_bytes(),
         _ => false,
     }
@@ -363,8 +363,8 @@ fn no_byte_behind_a_request_is_waited_for(rt: HostRuntime) {
 fn says(alloc: Global, text: &[u8]) -> Option<(u8, bool, bool)> {
     let mut reader = text;
     let mut buffer = Vec::new(alloc);
-    let mut piece = EMPTY_PIECE;
-    match read_request(alloc, &mut reader, &mut buffer, &mut piece) {
+    let mut room = EMPTY_ROOM;
+    match read_request(alloc, &mut reader, &mut buffer, &mut room) {
         Ok(Some(request)) => Some((request.minor, request.closes, request.replicated)),
         _ => None,
     }
@@ -436,8 +436,8 @@ fn is_for(request: &Request, path: &str, query: &str) -> bool {
 fn asks_for(alloc: Global, text: &str, path: &str, query: &str) -> bool {
     let mut reader = Parts::ending(text.as_bytes(), b"");
     let mut buffer = Vec::new(alloc);
-    let mut piece = EMPTY_PIECE;
-    match read_request(alloc, &mut reader, &mut buffer, &mut piece) {
+    let mut room = EMPTY_ROOM;
+    match read_request(alloc, &mut reader, &mut buffer, &mut room) {
         Ok(Some(request)) => is_for(&request, path, query),
         _ => false,
     }

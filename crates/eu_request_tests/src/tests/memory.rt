@@ -2,7 +2,7 @@
 use crate::tests::framing::{THREE, is_request, with_chunks, with_length};
 use crate::tests::routes::{ROWS, words};
 use eu_base::Fault;
-use eu_framing::{EMPTY_PIECE, Request, read_request};
+use eu_framing::{EMPTY_ROOM, Request, read_request};
 use eu_routes::Routes;
 use std::alloc::{AllocError, Global};
 
@@ -28,14 +28,14 @@ fn is_that(request: Option<Request>, method: &str, target: &str, body: &[u8]) ->
 fn are_read(alloc: Global, text: &[u8]) -> Result<bool, Fault> {
     let mut reader = text;
     let mut buffer = Vec::new(alloc);
-    let mut piece = EMPTY_PIECE;
+    let mut room = EMPTY_ROOM;
     for (method, target, body) in &THREE {
-        let request = read_request(alloc, &mut reader, &mut buffer, &mut piece)?;
+        let request = read_request(alloc, &mut reader, &mut buffer, &mut room)?;
         if !is_that(request, method, target, body) {
             return Ok(false);
         }
     }
-    let end = read_request(alloc, &mut reader, &mut buffer, &mut piece)?;
+    let end = read_request(alloc, &mut reader, &mut buffer, &mut room)?;
     Ok(end.is_none())
 }
 

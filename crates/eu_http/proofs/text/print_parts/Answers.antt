@@ -3,7 +3,7 @@ use Rattle.http.specs.StatusCode.{status_text}
 use Rattle.eu_http.specs.Response.{response_of}
 use Rattle.eu_http.specs.Text.{line, type_line, length_line, close_line, text_of}
 use Rattle.eu_http.proofs.TextLemmas.{in_order}
-use Rattle.eu_http.proofs.text.print.Goals as goal
+use Rattle.eu_http.proofs.text.print_parts.Goals as goal
 
 pub returns : goal.returns
 returns c =

@@ -1,0 +1,16 @@
+use Rattle.std.proofs.Common.{refl}
+use Rattle.std.proofs.lemmas.Result.{err_from_is_err_and}
+use Rattle.eu_routes.specs.Route.{setting_ask}
+use Rattle.eu_routes.proofs.QueryLemmas.{stamp_is, status_is}
+use Rattle.eu_routes.proofs.find.ask_setting.Goals as goal
+
+pub returns-in_err-dirty-clause-said : goal.returns-in_err-dirty-clause-said
+unfolding setting_ask
+returns-in_err-dirty-clause-said c =
+    let p = err_from_is_err_and c.from_residual-in_err-dirty.result c.from_residual-in_err-dirty.ensures.1 in
+    rw (p.1, p.2) (λ other. rw (c.in_ok-key.ensures.said, status_is _ _ _ _ c.in_ok-status.ensures.one c.in_ok-status-2.ensures, c.in-Some.is, stamp_is _ _ _ _ c.in_ok-status.ensures.other (c.in_err-dirty.ensures other)) refl)
+
+pub returns-clause-said : goal.returns-clause-said
+unfolding setting_ask
+returns-clause-said c =
+    rw (c.in_ok-key.ensures.said, status_is _ _ _ _ c.in_ok-status.ensures.one c.in_ok-status-2.ensures, c.in-Some.is, stamp_is _ _ _ _ c.in_ok-status.ensures.other c.in_ok-dirty.ensures) refl

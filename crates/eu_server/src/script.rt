@@ -12,6 +12,7 @@ use eu_lines::{Limits, ScriptFault, answer_lines};
 use eu_stream::{Reading, Sink, Source, Writing};
 use std::alloc::Global;
 use std::io::{Read, Write};
+use std::mem;
 
 /// Has a desk answer a script to its end, as `answer_script` does and with its faults, and hands the desk out.
 pub fn answer_whole<R: Source, W: Sink, C: Chooser>(
@@ -86,7 +87,8 @@ pub fn answer_whole<R: Source, W: Sink, C: Chooser>(
 /// `BadLine` comes where a line is none of these, or has more than 4,096 bytes; `Read` where a read failed, or the script
 /// has more than 16,777,216 bytes; `Write` where a write or a flush failed; and `OutOfMemory` where there was no memory
 /// for a line's answer, which isn't printed. Before `BadLine`, `Read` and `OutOfMemory` the lines before are answered
-/// and what they print is written. What the registry then holds is lost with it. Only passes ask `chooser`
+/// and what they print is written. What the registry then holds is lost with it; at the end of a script its memory isn't given
+/// back, since a program ends with its script. Only passes ask `chooser`
 /// for words: it is then as the lines that were answered left it, but after `Write` and `OutOfMemory` that is left open.
 pub fn answer_script<R: Source, W: Sink, C: Chooser>(
     alloc: Global,
@@ -106,7 +108,7 @@ pub fn answer_script<R: Source, W: Sink, C: Chooser>(
     ensures same_writer { W.stream writer.new ≡ W.stream writer.old }
 {
     let desk = answer_whole(alloc, reader, writer, config, chooser)?;
-    drop(desk);
+    mem::forget(desk);
     Ok(())
 }
 

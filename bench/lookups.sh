@@ -1,12 +1,13 @@
 #!/usr/bin/env bash
 # Counts, by callgrind, how often a command looks a key up in the table of leases: renewals, registrations of new keys and of held ones, cancels, and statuses that are set.
-# No override row is held but for the last kind, so each look-up is one of a lease; a status that is set also looks its row up. Wants valgrind. PROGRAM may name another build.
+# No override row is held but for the last kind, so each look-up is one of a lease; a status that is set also looks its row up. Wants valgrind. The program is built
+# before its proof (tools/build_unproved.sh, some minutes), since in the proved one a look-up is no function of its own; PROGRAM may name one that was built so.
 set -euo pipefail
 top=$(cd "$(dirname "${BASH_SOURCE[0]}")/.." && pwd)
-program=${PROGRAM:-$top/crates/eureka/out/eureka}
 work=$(mktemp -d)
 trap 'rm -rf "$work"' EXIT
-[ -x "$program" ] || "$top/eureka" script < /dev/null
+program=${PROGRAM:-$work/eureka}
+[ -x "$program" ] || "$top/tools/build_unproved.sh" eureka "$program"
 
 # 500 leases, and then so many lines of that kind
 script() {

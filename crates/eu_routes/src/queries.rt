@@ -85,36 +85,6 @@ fn is_plain(bytes: &[u8]) -> bool
     true
 }
 
-/// Whether bytes stand for this name. Takes no memory where they stand for themselves.
-fn is_named(alloc: Global, bytes: &[u8], name: &str) -> Result<bool, AllocError>
-    ensures { IfOk result (λ same. same ≡ bytes_eq (spec.text_of bytes.now) name.now) }
-{
-    if is_plain(bytes) {
-        return Ok(bytes == name.as_bytes());
-    }
-    Ok(decode(alloc, bytes)?.as_str() == name)
-}
-
-/// The value of the first pair of that name in a query, if one has it. A name or a value borrows the query where nothing in
-/// it is encoded.
-///
-/// The only fault is want of memory.
-#[tactic(auto, unfolding(crate::specs::Query::value_at))]
-fn value_at<'q>(
-    alloc: Global,
-    query: &'q str,
-    name: &str,
-) -> Result<Option<CowStr<'q, Global>>, AllocError>
-    ensures { IfOk result (λ value. option_map cow_str_bytes value ≡ spec.value_at name.now query.now) }
-{
-    for (pair_name, value) in raw_pairs(query.as_bytes()) {
-        if is_named(alloc, pair_name, name)? {
-            return Ok(Some(decode(alloc, value)?));
-        }
-    }
-    Ok(None)
-}
-
 /// Whether bytes stand for the one name, and whether for the other. Takes no memory where they stand for themselves.
 fn are_named(
     alloc: Global,
@@ -153,7 +123,8 @@ fn text_of(alloc: Global, value: Option<&[u8]>) -> Result<Option<CowStr<'_, Glob
     }
 }
 
-/// The values of the first pairs of two names in a query, each if one has it: what `value_at` gives for each, of one look at the pairs.
+/// The values of the first pairs of two names in a query, each if one has it, of one look at the pairs. A value borrows the query
+/// where nothing in it is encoded.
 ///
 /// The only fault is want of memory.
 #[tactic(auto, unfolding(crate::specs::Query::value_at))]
@@ -229,24 +200,21 @@ fn read_switch(text: &str) -> Option<bool>
     }
 }
 
-/// The number of that name in a query. `BadValue` where it has no value, or one that isn't a number below 2^32; `OutOfMemory`.
-#[tactic(auto, unfolding(crate::specs::Query::u32_at))]
-fn u32_at(alloc: Global, query: &str, name: &str) -> Result<u32, Fault>
-    ensures { Gives (λ n. n) result (spec.u32_at name.now query.now) }
+/// The number that a value tells. `BadValue` where there is no value, or one that isn't a number below 2^32.
+fn u32_given(value: Option<CowStr<'_, Global>>) -> Result<u32, Fault>
+    ensures { Gives (λ n. n) result (spec.needed spec.u32_of (option_map cow_str_bytes value.entry)) }
 {
-    let Some(value) = value_at(alloc, query, name)? else {
+    let Some(value) = value else {
         return Err(Fault::BadValue);
     };
     read_u32(value.as_str()).ok_or(Fault::BadValue)
 }
 
-/// Whether the setting of that name is on in a query. `BadValue` where it has no value, or one that is neither `on` nor `off`;
-/// `OutOfMemory`.
-#[tactic(auto, unfolding(crate::specs::Query::switch_at))]
-fn switch_at(alloc: Global, query: &str, name: &str) -> Result<bool, Fault>
-    ensures { Gives (λ b. b) result (spec.switch_at name.now query.now) }
+/// Whether a value tells that a setting is on. `BadValue` where there is no value, or one that is neither `on` nor `off`.
+fn switch_given(value: Option<CowStr<'_, Global>>) -> Result<bool, Fault>
+    ensures { Gives (λ b. b) result (spec.needed spec.switch_of (option_map cow_str_bytes value.entry)) }
 {
-    let Some(value) = value_at(alloc, query, name)? else {
+    let Some(value) = value else {
         return Err(Fault::BadValue);
     };
     read_switch(value.as_str()).ok_or(Fault::BadValue)
@@ -258,9 +226,11 @@ fn switch_at(alloc: Global, query: &str, name: &str) -> Result<bool, Fault>
 pub fn config_at(alloc: Global, query: &str) -> Result<Config, Fault>
     ensures { Gives settings_of result (spec.settings_at query.now) }
 {
-    let preservation = switch_at(alloc, query, PRESERVATION)?;
-    let percent = u32_at(alloc, query, PERCENT)?;
-    let interval = u32_at(alloc, query, INTERVAL)?;
-    let evict_ms = u32_at(alloc, query, EVICT_MS)?;
+    let (preservation, percent) = values_at(alloc, query, PRESERVATION, PERCENT)?;
+    let (interval, evict_ms) = values_at(alloc, query, INTERVAL, EVICT_MS)?;
+    let preservation = switch_given(preservation)?;
+    let percent = u32_given(percent)?;
+    let interval = u32_given(interval)?;
+    let evict_ms = u32_given(evict_ms)?;
     Config::of_values(preservation, percent, interval, evict_ms).ok_or(Fault::BadValue)
 }

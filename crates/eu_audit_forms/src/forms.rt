@@ -232,10 +232,17 @@ fn renewal(
 /// A client registers.
 fn registration(alloc: Global, client: Client, replicated: bool) -> Result<Command, Fault> {
     let instance = instance(alloc, client)?;
+    let instance = BoxedInstance::new(alloc, instance)?;
     Ok(Command::Register {
         instance,
         replicated,
     })
+}
+
+fn adoption(alloc: Global, client: Client) -> Result<Command, Fault> {
+    let instance = instance(alloc, client)?;
+    let instance = BoxedInstance::new(alloc, instance)?;
+    Ok(Command::Adopt { instance })
 }
 
 fn cancel(alloc: Global, id: &str) -> Result<Command, Fault> {
@@ -278,9 +285,7 @@ pub fn command(alloc: Global, step: Step) -> Result<Command, Fault> {
         Step::Set(id, status) => setting(alloc, id, status),
         Step::Unset(id) => unsetting(alloc, id, None),
         Step::Restore(id, status) => unsetting(alloc, id, Some(status)),
-        Step::Adopt(client) => Ok(Command::Adopt {
-            instance: instance(alloc, client)?,
-        }),
+        Step::Adopt(client) => adoption(alloc, client),
         Step::Roll => Ok(Command::Roll),
         Step::Update => Ok(Command::Update),
         Step::Reconfigure(preservation, percent, interval, evict_ms) => Ok(Command::Reconfigure {

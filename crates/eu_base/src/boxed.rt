@@ -25,6 +25,7 @@ impl Model for BoxedInstance {
 
 impl BoxedInstance {
     /// That instance. `AllocError` where no memory is left.
+    #[inline(always)]
     pub fn new(alloc: Global, instance: Instance) -> Result<BoxedInstance, AllocError>
         ensures { IfOk result (λ b. b ≡ instance) }
     {
@@ -38,6 +39,15 @@ impl BoxedInstance {
         ensures { result ≡ self }
     {
         Box::into_inner(self.instance)
+    }
+}
+
+impl Instance {
+    /// The same once more, on the heap. `AllocError` where no memory is left.
+    pub fn copy_boxed(&self, alloc: Global) -> Result<BoxedInstance, AllocError>
+        ensures { IfOk result (λ b. b ≡ self.now) }
+    {
+        BoxedInstance::new(alloc, self.copy(alloc)?)
     }
 }
 

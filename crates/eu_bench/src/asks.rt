@@ -1,7 +1,7 @@
 //! Threads that ask a shared book.
 ghost use Rattle.std.specs.Prelude.{◌≡◌};
 
-use eu_base::{App, Config, Fault, Id, Instance, Key, Moment, Rest, Status};
+use eu_base::{App, BoxedInstance, Config, Fault, Id, Instance, Key, Moment, Rest, Status};
 use eu_clock::FirstChooser;
 use eu_model::Command;
 use eu_settle::{Closed, settle};
@@ -28,16 +28,17 @@ fn key(alloc: Global, pass: u64) -> Result<Key, Fault> {
 fn registration(alloc: Global, pass: u64) -> Result<Command, Fault> {
     let key = key(alloc, pass)?;
     let rest = Rest::of_host(alloc, "h")?;
+    let instance = Instance {
+        key,
+        status: Status::Up,
+        overridden: Status::Unknown,
+        dirty: 0,
+        secs: 90,
+        interval: 30,
+        rest,
+    };
     Ok(Command::Register {
-        instance: Instance {
-            key,
-            status: Status::Up,
-            overridden: Status::Unknown,
-            dirty: 0,
-            secs: 90,
-            interval: 30,
-            rest,
-        },
+        instance: BoxedInstance::new(alloc, instance)?,
         replicated: false,
     })
 }

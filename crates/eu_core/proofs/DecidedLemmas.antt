@@ -15,7 +15,7 @@ use Rattle.eu_core.specs.declared.decision.Change.{Change as Decided}
 use Rattle.eu_core.specs.declared.decision.Decision.{Decision}
 use Rattle.eu_core.specs.declared.decision.LeaseChange.{LeaseChange}
 use Rattle.eu_core.specs.declared.decision.LeaseChange.TheVariants.{Stays, Renewed, Amended, Rejoined, Replaced, Begun, Ended}
-use Rattle.eu_core.specs.Decided.{begins, count_fault, is_in_place, left, IsChange, IsNew, IsOf, IsReady}
+use Rattle.eu_core.specs.Decided.{count_fault, is_in_place, left, IsChange, IsNew, IsOf, IsReady}
 
 -- ---- changes in place
 
@@ -23,28 +23,19 @@ pub in_place-of : (k : Key) (x : LeaseChange) → is_in_place x ≡ true → IsO
 in_place-of k Stays e = tt
 in_place-of k (Renewed t) e = tt
 in_place-of k (Amended t status overridden dirty comes_up) e = tt
-in_place-of k (Rejoined by) e = absurd (true≢false (sym e))
+in_place-of k (Rejoined newcomer status overridden lease) e = absurd (true≢false (sym e))
 in_place-of k (Replaced by) e = absurd (true≢false (sym e))
-in_place-of k (Begun begun) e = absurd (true≢false (sym e))
+in_place-of k (Begun by) e = absurd (true≢false (sym e))
 in_place-of k Ended e = tt
 
 pub in_place-new : (leases : FinMap key_cmp Listed) (x : LeaseChange) → is_in_place x ≡ true → IsNew leases x
 in_place-new leases Stays e = tt
 in_place-new leases (Renewed t) e = tt
 in_place-new leases (Amended t status overridden dirty comes_up) e = tt
-in_place-new leases (Rejoined by) e = tt
+in_place-new leases (Rejoined newcomer status overridden lease) e = tt
 in_place-new leases (Replaced by) e = tt
-in_place-new leases (Begun begun) e = absurd (true≢false (sym e))
+in_place-new leases (Begun by) e = absurd (true≢false (sym e))
 in_place-new leases Ended e = tt
-
-pub in_place-begins : (x : LeaseChange) → is_in_place x ≡ true → begins x ≡ false
-in_place-begins Stays e = refl
-in_place-begins (Renewed t) e = refl
-in_place-begins (Amended t status overridden dirty comes_up) e = refl
-in_place-begins (Rejoined by) e = refl
-in_place-begins (Replaced by) e = refl
-in_place-begins (Begun begun) e = absurd (true≢false (sym e))
-in_place-begins Ended e = refl
 
 -- ---- a decision that is a change is a step
 

@@ -1,12 +1,12 @@
 -- What is decided of a command on a lease, and what is left once that is carried out
 use Rattle.std.specs.Prelude.{◌≡◌, ℕ, ◌+◌, ◌^◌, ◌<◌, ◌≤◌, ◌==◌, ◌&&◌, ◌⊎◌, Bool, true, false, if◌then◌else◌, List, Option, Some, None, Ok, Err}
 use Rattle.std.specs.Option.{option_map}
-use Rattle.std.specs.FinMap.{FinMap, get, len, remove}
+use Rattle.std.specs.FinMap.{FinMap, get, len}
 use Rattle.eu_base.specs.declared.faults.Fault.{Fault}
 use Rattle.eu_base.specs.declared.faults.Fault.TheVariants.{Exhausted, OutOfMemory}
 use Rattle.eu_base.specs.declared.names.Key.{Key}
 use Rattle.eu_base.specs.declared.statuses.Status.{Status}
-use Rattle.eu_base.specs.Key.{key_cmp, name_cmp}
+use Rattle.eu_base.specs.Key.{key_cmp}
 use Rattle.eu_model.specs.declared.commands.Command.{Command}
 use Rattle.eu_model.specs.declared.commands.Reply.{Reply}
 use Rattle.eu_model.specs.declared.views.Listed.{Listed}
@@ -16,13 +16,10 @@ use Rattle.eu_model.specs.Maps.{with_value}
 use Rattle.eu_model.specs.Plain.{Plain}
 use Rattle.eu_meter.specs.Meter.{Counted}
 use Rattle.eu_store.specs.Stored.{renewed_at, amended, upped_at, rejoined}
-use Rattle.eu_eviction.specs.Rows.{with_put}
 use Rattle.eu_core.specs.declared.decision.Change.{Change as Decided}
 use Rattle.eu_core.specs.declared.decision.Decision.{Decision}
 use Rattle.eu_core.specs.declared.decision.LeaseChange.{LeaseChange}
 use Rattle.eu_core.specs.declared.decision.LeaseChange.TheVariants.{Stays, Renewed, Amended, Rejoined, Replaced, Begun, Ended}
-use Rattle.eu_core.specs.declared.decision.RowChange.{RowChange}
-use Rattle.eu_core.specs.declared.decision.RowChange.TheVariants.{Put, Gone}
 
 -- ---- what becomes of a lease
 
@@ -36,43 +33,44 @@ lease_left Stays held = held
 lease_left (Renewed t) held = option_map (renewed_at t) held
 lease_left (Amended t status overridden dirty comes_up) held =
     option_map (λ l. marked comes_up t (amended status overridden dirty (renewed_at t l))) held
-lease_left (Rejoined by) held = option_map (rejoined by.value.newcomer by.value.status by.value.overridden by.value.lease) held
+lease_left (Rejoined newcomer status overridden lease) held = option_map (rejoined newcomer.value status overridden lease) held
 lease_left (Replaced by) held = option_map (λ l. by) held
-lease_left (Begun begun) held = Some begun.value.held
+lease_left (Begun by) held = Some by
 lease_left Ended held = None
 
 -- it can want no memory
 abbrev pub is_in_place : LeaseChange → Bool
-is_in_place (Rejoined by) = false
+is_in_place (Rejoined newcomer status overridden lease) = false
 is_in_place (Replaced by) = false
-is_in_place (Begun begun) = false
+is_in_place (Begun by) = false
 is_in_place _ = true
 
 abbrev pub begins : LeaseChange → Bool
-begins (Begun begun) = true
+begins (Begun by) = true
 begins _ = false
 
 -- a change of the lease of that key
 abbrev pub IsOf : Key → LeaseChange → Type 0
-IsOf k (Rejoined by) = (by.value.newcomer.key ≡ k) × (by.value.lease.secs ≡ by.value.newcomer.secs)
+IsOf k (Rejoined newcomer status overridden lease) = (newcomer.value.key ≡ k) × (lease.secs ≡ newcomer.value.secs)
 IsOf k (Replaced by) = by.instance.key ≡ k
-IsOf k (Begun begun) = begun.value.key ≡ k
+IsOf k (Begun by) = by.instance.key ≡ k
 IsOf k _ = Unit {0}
 
 -- a lease begins only where its key isn't held, and there may be one more
 abbrev pub IsNew : FinMap key_cmp Listed → LeaseChange → Type 0
-IsNew leases (Begun begun) = (get leases begun.value.key ≡ None) × (len leases < 65536)
+IsNew leases (Begun by) = (get leases by.instance.key ≡ None) × (len leases < 65536)
 IsNew leases _ = Unit {0}
 
 -- ---- what becomes of the row of an id
 
-abbrev pub rows_left : RowChange → FinMap name_cmp Status → List ℕ → FinMap name_cmp Status
-rows_left (Put put) rows id = with_put rows put
-rows_left Gone rows id = remove rows id
+-- an id is to have a row, and has none
+abbrev pub is_new : Option Status → Option Status → Bool
+is_new None (Some after) = true
+is_new _ _ = false
 
-abbrev pub puts : RowChange → Bool
-puts (Put (Some row)) = true
-puts _ = false
+-- it, where its row is new
+abbrev pub new_id : List ℕ → Option Status → Option Status → Option (List ℕ)
+new_id id before after = if is_new before after then Some id else None
 
 -- ---- decisions
 

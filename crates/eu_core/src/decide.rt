@@ -5,7 +5,7 @@ ghost use Rattle.eu_base.specs.declared.statuses.Status.{Status};
 ghost use Rattle.eu_model.specs.declared.views.Listed.{Listed};
 ghost use Rattle.eu_model.specs.Answers.{IsRefusal};
 ghost use Rattle.eu_model.specs.Change.{renew_reply};
-ghost use Rattle.eu_model.specs.Kept.{kept_cancel, kept_register, kept_renew, kept_set_status, kept_unset_status};
+ghost use Rattle.eu_model.specs.Kept.{kept_cancel, kept_renew, kept_set_status, kept_unset_status};
 ghost use Rattle.eu_core.specs.Decided.{count_fault, decided, is_in_place, IsChange};
 
 use crate::decision::{Change, Decision, LeaseChange};

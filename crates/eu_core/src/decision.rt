@@ -1,11 +1,9 @@
 //! What is decided of a command on a lease, and how it is carried out.
-ghost use Rattle.std.specs.Prelude.{◌≡◌, ◌<◌, ◌⊎◌, ℕ, List, true, false, None, IfOk, IfErr, IsOk, OnOk};
+ghost use Rattle.std.specs.Prelude.{◌≡◌, ◌<◌, true, false, None, IfOk, IfErr, IsOk, OnErr, OnOk};
+ghost use Rattle.std.specs.Option.{option_map};
 ghost use Rattle.std.specs.FinMap as map;
-ghost use Rattle.std.specs.FinMap.{FinMap};
-ghost use Rattle.eu_base.specs.declared.statuses.Status.{Status};
-ghost use Rattle.eu_base.specs.Key.{name_cmp};
 ghost use Rattle.eu_model.specs.Maps.{with_value};
-ghost use Rattle.eu_core.specs.Decided.{begins, is_in_place, lease_left, marked, puts, rows_left, IsNew, IsOf};
+ghost use Rattle.eu_core.specs.Decided.{begins, is_new, lease_left, marked, new_id, IsOf};
 ghost use Rattle.eu_store.specs.Stored.{changed, renewed_at, amended};
 
 use eu_base::{Fault, Id, Instance, Key, Moment, Stamp, Status};
@@ -33,36 +31,19 @@ pub enum LeaseChange {
         dirty: Option<Stamp>,
         comes_up: bool,
     },
-    /// It begins anew, and keeps its instance, but for some statuses and a newcomer's duration.
-    Rejoined(Box<Rejoining>),
+    /// It begins anew, and keeps its instance, but for these statuses and the duration of a newcomer, who isn't taken.
+    Rejoined {
+        newcomer: Box<Instance>,
+        status: Status,
+        overridden: Status,
+        lease: Lease,
+    },
     /// This takes its place.
     Replaced(Held),
     /// It begins.
-    Begun(Box<Beginning>),
+    Begun(Held),
     /// It ends.
     Ended,
-}
-
-/// How a lease begins anew that keeps its instance.
-#[derive(Drop)]
-pub struct Rejoining {
-    /// Who came, and is not taken.
-    pub newcomer: Instance,
-    /// The status of the instance then.
-    pub status: Status,
-    /// Its overridden status then.
-    pub overridden: Status,
-    /// The new lease.
-    pub lease: Lease,
-}
-
-/// A lease that begins, with its key.
-#[derive(Drop)]
-pub struct Beginning {
-    /// The key.
-    pub key: Key,
-    /// The lease.
-    pub held: Held,
 }
 
 /// What a command on a lease changes.
@@ -87,34 +68,23 @@ pub struct Decision {
     pub reply: Reply,
 }
 
-/// What becomes of an override row, with the memory that it wants.
-#[derive(Drop)]
-pub enum RowChange {
-    /// This is put, if anything.
-    Put(Option<(Id, Status)>),
-    /// It goes.
-    Gone,
-}
-
-/// Makes room for a lease that begins. `OutOfMemory` alone refuses, which changes nothing.
-pub fn make_room(leases: &mut Leases, change: &LeaseChange) -> Result<(), Fault>
-    requires { IsNew leases.old.held change.now }
-    ensures held { leases.new.held ≡ leases.old.held }
-    ensures room { OnOk result (begins change.now ≡ true → 0 < leases.new.room) }
+/// Has a lease begin under a key that has none, where one more may be held. `OutOfMemory` alone refuses, which changes nothing.
+pub fn begin(leases: &mut Leases, alloc: Global, key: &Key, held: Held) -> Result<(), Fault>
+    requires new { map.get leases.old.held key.now ≡ None }
+    requires few { map.len leases.old.held < 65536 }
+    ensures ok { OnOk result (leases.new.held ≡ map.insert leases.old.held key.now held) }
     ensures no_other { IfErr result (λ f. f ≡ Fault.OutOfMemory) }
-    ensures memory { is_in_place change.now ≡ true → IsOk result }
+    ensures err { OnErr result (leases.new.held ≡ leases.old.held) }
 {
-    match change {
-        LeaseChange::Begun(_) => leases.reserve(),
-        _ => Ok(()),
-    }
+    leases.reserve()?;
+    leases.insert(key.copy(alloc)?, held);
+    Ok(())
 }
 
-/// Carries out what becomes of the lease of a key, which was found at that place. Takes no memory.
+/// Carries out what becomes of the lease of a key, which was found at that place, but for one that begins. Takes no memory.
 pub fn write_lease(leases: &mut Leases, key: &Key, place: Place, change: LeaseChange)
     requires of { IsOf key.now change }
-    requires new { IsNew leases.old.held change }
-    requires room { begins change ≡ true → 0 < leases.old.room }
+    requires goes_on { begins change ≡ false }
     ensures { leases.new.held ≡ with_value leases.old.held key.now (lease_left change (map.get leases.old.held key.now)) }
 {
     match change {
@@ -133,17 +103,18 @@ pub fn write_lease(leases: &mut Leases, key: &Key, place: Place, change: LeaseCh
                 leases, key, place, moment, status, overridden, dirty, comes_up,
             );
         }
-        LeaseChange::Rejoined(by) => {
-            let by = Box::into_inner(by);
-            leases.rejoin(place, &by.newcomer, by.status, by.overridden, by.lease);
+        LeaseChange::Rejoined {
+            newcomer,
+            status,
+            overridden,
+            lease,
+        } => {
+            leases.rejoin(place, &newcomer, status, overridden, lease);
         }
         LeaseChange::Replaced(held) => {
             leases.replace(place, held);
         }
-        LeaseChange::Begun(begun) => {
-            let Beginning { key, held } = Box::into_inner(begun);
-            leases.insert(key, held);
-        }
+        LeaseChange::Begun(_) => unreachable!(),
         LeaseChange::Ended => {
             leases.take(key, place);
         }
@@ -169,48 +140,48 @@ fn amend(
     }
 }
 
-/// Takes the memory that it wants that an id has this row, which had that one before. Where it is to have none, or the same, that is
-/// none.
-pub fn prepare_row(
+/// A copy of an id, and room for its row, where it is to have one and has none. `AllocError` where no memory is left; no row changes.
+pub fn new_id(
     rows: &mut Overrides,
     alloc: Global,
     id: &Id,
     before: Option<Status>,
     after: Option<Status>,
-) -> Result<RowChange, AllocError>
-    requires { before ≡ map.get rows.old.rows id.now }
+) -> Result<Option<Box<Id>>, AllocError>
     ensures rows { rows.new.rows ≡ rows.old.rows }
-    ensures left { IfOk result (λ change. rows_left change rows.old.rows id.now ≡ with_value rows.old.rows id.now after) }
-    ensures room { IfOk result (λ change. puts change ≡ true → 0 < rows.new.room) }
-    ensures memory { (after ≡ before) ⊎ (after ≡ None) → IsOk result }
+    ensures id { IfOk result (λ new. option_map (λ (b : _). b.value) new ≡ new_id id.now before after) }
+    ensures room { OnOk result (is_new before after ≡ true → 0 < rows.new.room) }
+    ensures memory { is_new before after ≡ false → IsOk result }
 {
-    if before == after || after.is_none() {
-        return Ok(without_memory(before, after));
+    match (before, after) {
+        (None, Some(_)) => {
+            rows.reserve()?;
+            Ok(Some(Box::new(alloc, id.copy(alloc)?)?))
+        }
+        _ => Ok(None),
     }
-    Ok(RowChange::Put(rows.prepare(alloc, id, after)?))
 }
 
-/// What becomes of the row of an id that is to have none, or the one that it has. Takes no memory.
-pub fn without_memory(before: Option<Status>, after: Option<Status>) -> RowChange
-    requires { (after ≡ before) ⊎ (after ≡ None) }
-    ensures left { (rows : FinMap name_cmp Status) (id : List ℕ) → before ≡ map.get rows id → rows_left result rows id ≡ with_value rows id after }
-    ensures none { puts result ≡ false }
+/// Carries out that an id has this row, which had that one before. `new` is its copy, where it had none. Takes no memory.
+pub fn write_row(
+    rows: &mut Overrides,
+    id: &Id,
+    new: Option<Box<Id>>,
+    before: Option<Status>,
+    after: Option<Status>,
+)
+    requires before { before ≡ map.get rows.old.rows id.now }
+    requires new { option_map (λ (b : _). b.value) new ≡ new_id id.now before after }
+    requires room { is_new before after ≡ true → 0 < rows.old.room }
+    ensures { rows.new.rows ≡ with_value rows.old.rows id.now after }
 {
     if before == after {
-        RowChange::Put(None)
-    } else {
-        RowChange::Gone
+        return;
     }
-}
-
-/// Carries out what becomes of the row of an id. Takes no memory.
-pub fn write_row(rows: &mut Overrides, id: &Id, change: RowChange)
-    requires { puts change ≡ true → 0 < rows.old.room }
-    ensures { rows.new.rows ≡ rows_left change rows.old.rows id.now }
-{
-    match change {
-        RowChange::Put(put) => rows.put(put),
-        RowChange::Gone => {
+    match (after, new) {
+        (Some(status), Some(new)) => rows.insert(Box::into_inner(new), status),
+        (Some(status), None) => rows.set(id, status),
+        (None, _) => {
             rows.take(id);
         }
     }

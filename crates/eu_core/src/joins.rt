@@ -10,7 +10,7 @@ ghost use Rattle.eu_core.specs.Decided.{IsNew, IsOf};
 ghost use Rattle.eu_core.specs.Joins.{Joins};
 
 use crate::decide::Known;
-use crate::decision::{Beginning, Change, Decision, LeaseChange, Rejoining};
+use crate::decision::{Change, Decision, LeaseChange};
 use crate::statuses::settle;
 use eu_base::{Instance, Moment, Status};
 use eu_lease::Lease;
@@ -43,7 +43,6 @@ pub fn decide_join(
     ensures of { IfOk result (λ d. IsOf instance.now.key d.change.lease) }
     ensures new { IfOk result (λ d. (leases : FinMap key_cmp Listed) → option_copied held.entry ≡ map.get leases instance.now.key → (option_copied held.entry ≡ None → map.len leases < 65536) → IsNew leases d.change.lease) }
 {
-    let instance = instance.copy(alloc)?;
     match held {
         None => join_new(alloc, instance, known, replicated, moment),
         Some(held) if instance.dirty < held.instance().dirty => {
@@ -53,17 +52,32 @@ pub fn decide_join(
     }
 }
 
+/// A copy of an instance in these statuses. `AllocError` where no memory is left.
+fn copy_as(
+    alloc: Global,
+    instance: &Instance,
+    status: Status,
+    overridden: Status,
+) -> Result<Box<Instance>, AllocError>
+    ensures { IfOk result (λ b. b.value ≡ record instance.now { status = status; overridden = overridden }) }
+{
+    let mut instance = instance.copy(alloc)?;
+    instance.status = status;
+    instance.overridden = overridden;
+    Ok(Box::new(alloc, instance)?)
+}
+
 /// The registration of an instance whose key isn't held. `AllocError` where no memory is left.
 fn join_new(
     alloc: Global,
-    mut instance: Instance,
+    instance: &Instance,
     known: Known,
     replicated: bool,
     moment: Moment,
 ) -> Result<Decision, AllocError>
-    ensures joins { IfOk result (λ d. Joins d None known.row known.expected instance replicated moment) }
-    ensures of { IfOk result (λ d. IsOf instance.key d.change.lease) }
-    ensures new { IfOk result (λ d. (leases : FinMap key_cmp Listed) → map.get leases instance.key ≡ None → map.len leases < 65536 → IsNew leases d.change.lease) }
+    ensures joins { IfOk result (λ d. Joins d None known.row known.expected instance.now replicated moment) }
+    ensures of { IfOk result (λ d. IsOf instance.now.key d.change.lease) }
+    ensures new { IfOk result (λ d. (leases : FinMap key_cmp Listed) → map.get leases instance.now.key ≡ None → map.len leases < 65536 → IsNew leases d.change.lease) }
 {
     let settled = settle(
         instance.status,
@@ -72,17 +86,13 @@ fn join_new(
         None,
         replicated,
     );
-    let key = instance.key.copy(alloc)?;
     let fresh = Lease::fresh(moment, instance.secs);
     let lease = begun(fresh, settled.status, moment);
-    instance.status = settled.status;
-    instance.overridden = settled.overridden;
-    let instance = Box::new(alloc, instance)?;
+    let instance = copy_as(alloc, instance, settled.status, settled.overridden)?;
     let held = Held::new(instance, lease);
-    let begun = Box::new(alloc, Beginning { key, held })?;
     Ok(Decision {
         change: Change {
-            lease: LeaseChange::Begun(begun),
+            lease: LeaseChange::Begun(held),
             row: settled.row,
             expected: known.expected,
             counted: false,
@@ -94,15 +104,15 @@ fn join_new(
 /// The registration of an instance whose key is held with a stamp that isn't greater. `AllocError` where no memory is left.
 fn join_over(
     alloc: Global,
-    mut instance: Instance,
+    instance: &Instance,
     held: &Held,
     known: Known,
     replicated: bool,
     moment: Moment,
 ) -> Result<Decision, AllocError>
-    requires { held.now.instance.dirty ≤ instance.dirty }
-    ensures joins { IfOk result (λ d. Joins d (Some held.now) known.row known.expected instance replicated moment) }
-    ensures of { IfOk result (λ d. IsOf instance.key d.change.lease) }
+    requires { held.now.instance.dirty ≤ instance.now.dirty }
+    ensures joins { IfOk result (λ d. Joins d (Some held.now) known.row known.expected instance.now replicated moment) }
+    ensures of { IfOk result (λ d. IsOf instance.now.key d.change.lease) }
     ensures new { IfOk result (λ d. (leases : FinMap key_cmp Listed) → IsNew leases d.change.lease) }
 {
     let settled = settle(
@@ -114,9 +124,7 @@ fn join_over(
     );
     let anew = held.lease().anew(moment, instance.secs);
     let lease = begun(anew, settled.status, moment);
-    instance.status = settled.status;
-    instance.overridden = settled.overridden;
-    let instance = Box::new(alloc, instance)?;
+    let instance = copy_as(alloc, instance, settled.status, settled.overridden)?;
     let held = Held::new(instance, lease);
     Ok(Decision {
         change: Change {
@@ -132,15 +140,15 @@ fn join_over(
 /// The registration of an instance whose key is held with a greater stamp: the held one stays. `AllocError` where no memory is left.
 fn join_under(
     alloc: Global,
-    newcomer: Instance,
+    newcomer: &Instance,
     held: &Held,
     known: Known,
     replicated: bool,
     moment: Moment,
 ) -> Result<Decision, AllocError>
-    requires { newcomer.dirty < held.now.instance.dirty }
-    ensures joins { IfOk result (λ d. Joins d (Some held.now) known.row known.expected newcomer replicated moment) }
-    ensures of { IfOk result (λ d. IsOf newcomer.key d.change.lease) }
+    requires { newcomer.now.dirty < held.now.instance.dirty }
+    ensures joins { IfOk result (λ d. Joins d (Some held.now) known.row known.expected newcomer.now replicated moment) }
+    ensures of { IfOk result (λ d. IsOf newcomer.now.key d.change.lease) }
     ensures new { IfOk result (λ d. (leases : FinMap key_cmp Listed) → IsNew leases d.change.lease) }
 {
     let own = held.instance();
@@ -153,15 +161,15 @@ fn join_under(
     );
     let anew = held.lease().anew(moment, newcomer.secs);
     let lease = begun(anew, settled.status, moment);
-    let rejoining = Rejoining {
-        newcomer,
-        status: settled.status,
-        overridden: settled.overridden,
-        lease,
-    };
+    let newcomer = Box::new(alloc, newcomer.copy(alloc)?)?;
     Ok(Decision {
         change: Change {
-            lease: LeaseChange::Rejoined(Box::new(alloc, rejoining)?),
+            lease: LeaseChange::Rejoined {
+                newcomer,
+                status: settled.status,
+                overridden: settled.overridden,
+                lease,
+            },
             row: settled.row,
             expected: known.expected,
             counted: false,

@@ -17,9 +17,7 @@ ghost use Rattle.eu_core.specs.Shown.{shown};
 ghost use Rattle.eu_core.specs.State.{state_of};
 
 use crate::decide::{Known, decide_cancel, decide_no_status, decide_renewal, decide_status};
-use crate::decision::{
-    Change, Decision, make_room, prepare_row, without_memory, write_lease, write_row,
-};
+use crate::decision::{Change, Decision, LeaseChange, begin, new_id, write_lease, write_row};
 use crate::joins::decide_join;
 use crate::statuses::told;
 use eu_base::{App, Config, Fault, Instance, Key, Moment, Stamp, Status};
@@ -369,6 +367,7 @@ impl Registry {
     }
 
     /// What is held under that key, and where, and the override row of its id. Takes no memory.
+    #[inline(always)]
     pub(crate) fn find(&self, key: &Key) -> (Place, Option<&Held>, Option<Status>)
         ensures held { option_copied result.1 ≡ map.get self.now.leases key.now }
         ensures row { result.2 ≡ map.get self.now.rows key.now.id }
@@ -558,11 +557,19 @@ impl Registry {
         ensures err { OnErr result (self.new ≡ self.old) }
         ensures memory { IsFrugal row change → IsOk result }
     {
-        let row = prepare_row(&mut self.rows, alloc, &key.id, row, change.row)?;
-        make_room(&mut self.leases, &change.lease)?;
-        write_lease(&mut self.leases, key, place, change.lease);
-        write_row(&mut self.rows, &key.id, row);
-        self.count(change.expected, change.counted);
+        let Change {
+            lease,
+            row: after,
+            expected,
+            counted,
+        } = change;
+        let new = new_id(&mut self.rows, alloc, &key.id, row, after)?;
+        match lease {
+            LeaseChange::Begun(held) => begin(&mut self.leases, alloc, key, held)?,
+            lease => write_lease(&mut self.leases, key, place, lease),
+        }
+        write_row(&mut self.rows, &key.id, new, row, after);
+        self.count(expected, counted);
         Ok(())
     }
 
@@ -573,10 +580,15 @@ impl Registry {
         requires frugal { IsFrugal row change }
         ensures { self.new ≡ left self.old key.now change }
     {
-        let row = without_memory(row, change.row);
-        write_lease(&mut self.leases, key, place, change.lease);
-        write_row(&mut self.rows, &key.id, row);
-        self.count(change.expected, change.counted);
+        let Change {
+            lease,
+            row: after,
+            expected,
+            counted,
+        } = change;
+        write_lease(&mut self.leases, key, place, lease);
+        write_row(&mut self.rows, &key.id, None, row, after);
+        self.count(expected, counted);
     }
 
     /// So many clients are expected from now on; a renewal is counted, where one is.

@@ -60,6 +60,7 @@ pub fn plain(alloc: Global, reply: Reply, logs: bool) -> Answered<Reply>
 }
 
 /// A reply once more, where one logs it. Takes memory only where a copy of the reply does.
+#[inline(always)]
 pub(crate) fn for_log(alloc: Global, reply: &Reply, logs: bool) -> Result<Option<Reply>, AllocError>
     ensures reply { IfOk result (λ l. l ≡ for_log logs reply.now) }
     ensures memory { owns_nothing reply.now ≡ true → IsOk result }
@@ -73,6 +74,7 @@ pub(crate) fn for_log(alloc: Global, reply: &Reply, logs: bool) -> Result<Option
 
 /// So many copies of the instance that is held once a change of a lease is carried out; none where no lease is. `AllocError` where no
 /// memory is left.
+#[inline(always)]
 pub(crate) fn copies_left(
     alloc: Global,
     change: &LeaseChange,
@@ -122,14 +124,17 @@ fn instance_left(
             dirty,
             ..
         } => amended_copy(alloc, held, *status, *overridden, *dirty),
-        LeaseChange::Rejoined(by) => {
-            rejoined_copy(alloc, held, &by.newcomer, by.status, by.overridden)
-        }
+        LeaseChange::Rejoined {
+            newcomer,
+            status,
+            overridden,
+            ..
+        } => rejoined_copy(alloc, held, newcomer, *status, *overridden),
         LeaseChange::Replaced(by) => match held {
             Some(_) => same_copy(alloc, Some(by)),
             None => Ok(None),
         },
-        LeaseChange::Begun(begun) => same_copy(alloc, Some(&begun.held)),
+        LeaseChange::Begun(begun) => same_copy(alloc, Some(begun)),
         LeaseChange::Ended => Ok(None),
     }
 }

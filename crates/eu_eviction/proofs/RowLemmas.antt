@@ -1,31 +1,21 @@
--- What is said of rows: statuses with one place are one status, and a table with no entry has none at any id
-use Rattle.std.proofs.Common.{◌≡◌, ℕ, zero, suc, Bool, true, List, [], ◌∷◌, None, length, refl, sym, ap, ◌∙◌, arith}
+-- What is said of rows: a table with no entry has none at any id, and a value is put where one stands, and nowhere else
+use Rattle.std.proofs.Common.{◌≡◌, Bool, List, [], ◌∷◌, None, Some, length, refl, sym, ap, ◌∙◌, arith}
+use Rattle.std.specs.Option.{option_map}
 use Rattle.std.specs.Map.{lookup}
-use Rattle.std.proofs.lemmas.Bool.Decides.{nat_tests}
-use Rattle.eu_base.specs.declared.statuses.Status.{Status}
-use Rattle.eu_base.specs.declared.statuses.Status.TheVariants.{Up, Down, Starting, OutOfService, Unknown}
-use Rattle.eu_model.specs.Override.{place_of, is_status}
-
-of_place : ℕ → Status
-of_place zero = Up
-of_place (suc zero) = Down
-of_place (suc (suc zero)) = Starting
-of_place (suc (suc (suc zero))) = OutOfService
-of_place (suc (suc (suc (suc n)))) = Unknown
-
-of_its_place : (s : Status) → of_place (place_of s) ≡ s
-unfolding of_place
-of_its_place Up = refl
-of_its_place Down = refl
-of_its_place Starting = refl
-of_its_place OutOfService = refl
-of_its_place Unknown = refl
-
-pub same_status : (a b : Status) → is_status a b ≡ true → a ≡ b
-same_status a b h =
-    let e : place_of a ≡ place_of b = grind (arith, nat_tests, h) in
-    sym (of_its_place a) ∙ ap of_place e ∙ of_its_place b
+use Rattle.std.specs.FinMap.{FinMap, get, insert}
+use Rattle.std.specs.declared.cmp.Ordering.{Ordering}
+use Rattle.eu_model.specs.Maps.{with_value}
+use Rattle.eu_store.proofs.TableLemmas.{IsKeyed, remove_absent}
 
 pub nothing_there : {K X : Type 0} (test : K → Bool) (es : List (K × X)) → length es ≡ 0 → lookup test es ≡ None
 nothing_there test [] h = refl
 nothing_there test (e ∷ es) h = absurd (omega (arith, h))
+
+module _ {K X : Type 0} {R : K → K → Ordering} where
+  -- a value is put at a key that has one
+  pub set_found : (m : FinMap R X) (k : K) (x v : X) → get m k ≡ Some x → insert m k v ≡ with_value m k (option_map (λ (_ : X). v) (get m k))
+  set_found m k x v e = sym (ap (λ o. with_value m k (option_map (λ (_ : X). v) o)) e)
+
+  -- and not at a key that has none
+  pub set_absent : {eq : K → K → Bool} → IsKeyed R eq → (m : FinMap R X) (k : K) (v : X) → get m k ≡ None → m ≡ with_value m k (option_map (λ (_ : X). v) (get m k))
+  set_absent w m k v e = sym (ap (λ o. with_value m k (option_map (λ (_ : X). v) o)) e ∙ remove_absent w m k e)

@@ -1,12 +1,12 @@
 //! The override rows, by the ids of instances.
-ghost use Rattle.std.specs.Prelude.{◌≡◌, ◌<◌, IsSome, IsOk, IfOk, None};
+ghost use Rattle.std.specs.Prelude.{◌≡◌, ◌<◌, IfOk, OnOk};
+ghost use Rattle.std.specs.Option.{option_map};
 ghost use Rattle.std.specs.FinMap as map;
 ghost use Rattle.std.specs.Prelude.{map as all};
 ghost use Rattle.std.specs.Map.Iter.{deref_pair};
-ghost use Rattle.eu_eviction.specs.Rows.{with_put, with_row};
+ghost use Rattle.eu_model.specs.Maps.{with_value};
 
 use eu_base::{Id, Status};
-use eu_lease::is_status;
 use eu_model::Rows;
 use indexmap::IndexMap;
 use std::alloc::{AllocError, Global};
@@ -74,38 +74,28 @@ impl Overrides {
         Ok(rows)
     }
 
-    /// Takes all memory that the row of an id wants, and gives what is to be put: nothing, where there is no row, or where the id
-    /// has it already. Where there is no row, that takes no memory.
-    pub fn prepare(
-        &mut self,
-        alloc: Global,
-        id: &Id,
-        row: Option<Status>,
-    ) -> Result<Option<(Id, Status)>, AllocError>
+    /// Makes room for one row more. `AllocError` where no memory is left. Neither changes a row.
+    pub fn reserve(&mut self) -> Result<(), AllocError>
         ensures rows { self.new.rows ≡ self.old.rows }
-        ensures put { IfOk result (λ put. with_put self.old.rows put ≡ with_row self.old.rows id.now row) }
-        ensures room { IfOk result (λ put. IsSome put → 0 < self.new.room) }
-        ensures memory { row ≡ None → IsOk result }
+        ensures ready { OnOk result (0 < self.new.room) }
     {
-        let Some(status) = row else {
-            return Ok(None);
-        };
-        match self.get(id) {
-            Some(held) if is_status(held, status) => Ok(None),
-            _ => {
-                self.table.reserve(1)?;
-                Ok(Some((id.copy(alloc)?, status)))
-            }
-        }
+        self.table.reserve(1)
     }
 
-    /// Puts the row that was prepared, if there is one. Takes no memory.
-    pub fn put(&mut self, put: Option<(Id, Status)>)
-        requires { IsSome put → 0 < self.old.room }
-        ensures { self.new.rows ≡ with_put self.old.rows put }
+    /// Puts the row of an id that has none, into the room that was made. Takes no memory.
+    pub fn insert(&mut self, id: Id, status: Status)
+        requires room { 0 < self.old.room }
+        ensures { self.new.rows ≡ map.insert self.old.rows id status }
     {
-        if let Some((id, status)) = put {
-            self.table.insert(id, status).unwrap();
+        self.table.insert(id, status).unwrap();
+    }
+
+    /// Puts this status in the row of an id; where it has none, nothing changes. Takes no memory.
+    pub fn set(&mut self, id: &Id, status: Status)
+        ensures { self.new.rows ≡ with_value self.old.rows id.now (option_map (λ _. status) (map.get self.old.rows id.now)) }
+    {
+        if let Some(row) = self.table.get_mut(id) {
+            *row = status;
         }
     }
 

@@ -7,7 +7,7 @@ ghost use Rattle.eu_json.specs.Said as command;
 ghost use Rattle.eu_routes.specs.Route.{asked_of};
 
 use crate::exchange::{Ask, Asked};
-use eu_base::{App, Fault, Instance, Moment};
+use eu_base::{App, BoxedInstance, Fault, Instance, Moment};
 use eu_framing::Request;
 use eu_json::{read_batch, read_instance};
 use eu_model::{Command, Query};
@@ -34,6 +34,7 @@ fn registration(
     ensures { Gives command.said_by result (spec.registration app.now request.now.replicated request.now.body.items moment) }
 {
     let instance = instance_in(alloc, app, moment, &request.body)?;
+    let instance = BoxedInstance::new(alloc, instance)?;
     Ok(Command::Register {
         instance,
         replicated: request.replicated,

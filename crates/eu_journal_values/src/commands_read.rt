@@ -9,7 +9,7 @@ ghost use Rattle.eu_journal_values.specs.Reading.{adopt_of, below_16, cancel_of,
 use crate::faults::LineFault;
 use crate::members::{member_in, small_in, status_in, text_in, truth_in};
 use crate::read::{config_from, instance_in, key_in, optional_stamp_in, optional_status_in};
-use eu_base::Codes;
+use eu_base::{BoxedInstance, Codes};
 use eu_model::Command;
 use serde_json::Value;
 use std::alloc::Global;
@@ -59,6 +59,7 @@ fn register_of(alloc: Global, rest: &Value, object: &Value) -> Result<Command, L
     ensures { Gives result (register_of (view rest.now) (view object.now)) }
 {
     let instance = instance_in(alloc, rest, object)?;
+    let instance = BoxedInstance::new(alloc, instance)?;
     let replicated = truth_in(object, "replicated")?;
     Ok(Command::Register {
         instance,
@@ -133,6 +134,7 @@ fn adopt_of(alloc: Global, rest: &Value, object: &Value) -> Result<Command, Line
     ensures { Gives result (adopt_of (view rest.now) (view object.now)) }
 {
     let instance = instance_in(alloc, rest, object)?;
+    let instance = BoxedInstance::new(alloc, instance)?;
     Ok(Command::Adopt { instance })
 }
 

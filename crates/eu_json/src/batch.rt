@@ -11,7 +11,9 @@ use crate::members::{take, text_at};
 use crate::numbers::stamp_in;
 use crate::read::{of_object, parse};
 use crate::statuses::{status_in, status_known};
-use eu_base::{Action, App, Fault, Id, Instance, Key, Moment, Stamp, Status, has_fraction};
+use eu_base::{
+    Action, App, BoxedInstance, Fault, Id, Instance, Key, Moment, Stamp, Status, has_fraction,
+};
 use eu_model::Command;
 use serde_json::Value;
 use std::alloc::Global;
@@ -122,6 +124,7 @@ fn register_of(alloc: Global, item: Value, key: Key, moment: Moment) -> Result<C
     ensures { Gives said_by result (command_of moment (view item) key Action.Register) }
 {
     let instance = instance_in(alloc, item, &key.app, moment)?;
+    let instance = BoxedInstance::new(alloc, instance)?;
     Ok(Command::Register {
         instance,
         replicated: true,

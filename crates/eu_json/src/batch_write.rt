@@ -10,7 +10,7 @@ ghost use Rattle.eu_json.specs.BatchTree.{answer_tree, answers_tree, batch_tree,
 use crate::listings::push;
 use crate::members::{alone, set, set_text};
 use crate::write::instance_value;
-use eu_base::{Action, Instance, Status, Task};
+use eu_base::{Action, BoxedInstance, Instance, Status, Task};
 use serde_json::{Map, Value};
 use std::alloc::{AllocError, Global};
 
@@ -114,7 +114,7 @@ pub struct ItemAnswer {
     /// The HTTP status.
     pub code: u16,
     /// The instance that is held, for a conflict.
-    pub instance: Option<Instance>,
+    pub instance: Option<BoxedInstance>,
 }
 
 /// The JSON of an item's answer. `AllocError` where no memory is left.

@@ -13,7 +13,7 @@ pub enum Command {
     /// An instance comes, or comes again (`AbstractInstanceRegistry.register`).
     Register {
         /// The instance.
-        instance: Instance,
+        instance: BoxedInstance,
         /// Whether a peer sends it.
         replicated: bool,
     },
@@ -60,7 +60,7 @@ pub enum Command {
     /// A peer told of a newer instance than the one that is held here (`PeerEurekaNode.syncInstancesIfTimestampDiffers`).
     Adopt {
         /// The instance.
-        instance: Instance,
+        instance: BoxedInstance,
     },
     /// A minute ends (`MeasuredRate`'s timer).
     Roll,
@@ -308,12 +308,12 @@ fn is_landed(command: &Command, peer: u32, codes: &Codes) -> bool
 /// A registration of a copy of the instance.
 fn copy_register(
     alloc: Global,
-    instance: &Instance,
+    instance: &BoxedInstance,
     replicated: bool,
 ) -> Result<Command, AllocError>
     ensures { IfOk result (λ c. c ≡ Command.Register instance.now replicated) }
 {
-    let instance = instance.copy(alloc)?;
+    let instance = instance.copy_boxed(alloc)?;
     Ok(Command::Register {
         instance,
         replicated,
@@ -386,10 +386,10 @@ fn copy_unset_status(
 }
 
 /// An adoption of a copy of the instance.
-fn copy_adopt(alloc: Global, instance: &Instance) -> Result<Command, AllocError>
+fn copy_adopt(alloc: Global, instance: &BoxedInstance) -> Result<Command, AllocError>
     ensures { IfOk result (λ c. c ≡ Command.Adopt instance.now) }
 {
-    let instance = instance.copy(alloc)?;
+    let instance = instance.copy_boxed(alloc)?;
     Ok(Command::Adopt { instance })
 }
 
@@ -450,6 +450,7 @@ impl Reply {
     }
 
     /// The same reply once more. Takes memory for a `Conflict`, an `Evicted` and a `Batch` alone; `AllocError` where none is left.
+    #[inline(always)]
     pub fn copy(&self, alloc: Global) -> Result<Reply, AllocError>
         ensures same { IfOk result (λ r. r ≡ self.now) }
         ensures memory { owns_nothing self.now ≡ true → IsOk result }
@@ -460,8 +461,8 @@ impl Reply {
             Reply::NotFound => Ok(Reply::NotFound),
             Reply::Stale => Ok(Reply::Stale),
             Reply::Conflict(held) => {
-                let held = held.copy(alloc)?;
-                Ok(Reply::Conflict(BoxedInstance::new(alloc, held)?))
+                let held = held.copy_boxed(alloc)?;
+                Ok(Reply::Conflict(held))
             }
             Reply::Last(renewals) => Ok(Reply::Last(*renewals)),
             Reply::Expected(clients) => Ok(Reply::Expected(*clients)),

@@ -27,7 +27,7 @@ fn command_with(
     let replicated = true;
     match (task.action, task.status) {
         (Action::Register, _) => Ok(Some(Command::Register {
-            instance: instance.copy(alloc)?,
+            instance: instance.copy_boxed(alloc)?,
             replicated,
         })),
         (Action::Heartbeat, _) => Ok(Some(Command::Renew {

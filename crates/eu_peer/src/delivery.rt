@@ -33,7 +33,7 @@ fn item_by(answer: Result<Answer, Fault>) -> ItemAnswer
         Ok(Answer::Did(Reply::Registered { fresh: _ } | Reply::Done)) => coded(StatusCode::OK),
         Ok(Answer::Did(Reply::Conflict(instance))) => ItemAnswer {
             code: StatusCode::CONFLICT.as_u16(),
-            instance: Some(instance.into_inner()),
+            instance: Some(instance),
         },
         Ok(_) => coded(StatusCode::NOT_FOUND),
         Err(_) => coded(StatusCode::SERVICE_UNAVAILABLE),

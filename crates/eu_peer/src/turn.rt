@@ -3,7 +3,7 @@ ghost use Rattle.std.specs.Prelude.{◌≡◌, map, IfOk, MatchOption};
 ghost use Rattle.eu_peer.specs.Turns as spec;
 
 use crate::peer::Peer;
-use eu_base::{Action, Codes, Fault, Instance, Moment, Task};
+use eu_base::{Action, BoxedInstance, Codes, Fault, Moment, Task};
 use eu_clock::Clock;
 use eu_http::{Answer, Ask};
 use eu_json::ItemAnswer;
@@ -46,7 +46,7 @@ fn codes_of(alloc: Global, answers: &[ItemAnswer]) -> Result<Codes, AllocError>
 }
 
 /// The newer instance that the peer holds, by its answer to a heartbeat.
-fn newer(task: &Task, answer: ItemAnswer) -> Option<Instance>
+fn newer(task: &Task, answer: ItemAnswer) -> Option<BoxedInstance>
     ensures { result ≡ spec.newer task.now answer }
 {
     if task.action == Action::Heartbeat && answer.code == StatusCode::CONFLICT.as_u16() {
@@ -61,7 +61,7 @@ fn all_newer(
     alloc: Global,
     tasks: &[Task],
     answers: Vec<ItemAnswer>,
-) -> Result<Vec<Instance>, AllocError>
+) -> Result<Vec<BoxedInstance>, AllocError>
     ensures { IfOk result (λ instances. instances.items ≡ spec.all_newer tasks.now answers.items) }
 {
     let mut instances = Vec::new(alloc);
@@ -77,7 +77,7 @@ fn all_newer(
 fn adopt_all<D: Desk>(
     alloc: Global,
     desk: &mut D,
-    instances: Vec<Instance>,
+    instances: Vec<BoxedInstance>,
     moment: Moment,
 ) -> usize
     ensures { spec.Adopts D.asked moment desk.old instances.items result desk.new }

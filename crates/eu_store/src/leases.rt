@@ -103,10 +103,12 @@ impl Leases {
         self.table.len()
     }
 
-    /// Makes room for one lease more. `Full` exactly where 65,536 are held; else `OutOfMemory`. Neither changes what is held.
+    /// Makes room for one lease more. `Full` exactly where 65,536 are held; else `OutOfMemory`. Neither changes what is held, or
+    /// takes room away.
     pub fn reserve(&mut self) -> Result<(), Fault>
         ensures held { self.new.held ≡ self.old.held }
-        ensures room { OnOk result (0 < self.new.room) }
+        ensures room { self.old.room ≤ self.new.room }
+        ensures ready { OnOk result (0 < self.new.room) }
         ensures full { (result ≡ Err Fault.Full) ↔ (map.len self.old.held ≡ 65536) }
         ensures no_other { IfErr result (λ f. (f ≡ Fault.Full) ⊎ (f ≡ Fault.OutOfMemory)) }
     {

@@ -5,7 +5,7 @@ ghost use Rattle.eu_words.specs.Lines.{IsReading, line_of, words_say, open_says,
 
 use crate::openings::Opening;
 use crate::words::{Words, is_text};
-use eu_base::{Instance, Key, Moment, Rest};
+use eu_base::{BoxedInstance, Instance, Key, Moment, Rest};
 use eu_lines::LineError;
 use eu_model::Command;
 use std::alloc::Global;
@@ -193,7 +193,11 @@ fn register_line(alloc: Global, words: &mut Words<'_>) -> Result<Line, LineError
 
 /// An instance, else `Bad`; `OutOfMemory`. Its stamp is the moment where `-` stands for it; its host is its id.
 #[tactic(auto, unfolding(crate::specs::Lines::newcomer_at))]
-fn instance_at(alloc: Global, words: &mut Words<'_>, moment: Moment) -> Result<Instance, LineError>
+fn instance_at(
+    alloc: Global,
+    words: &mut Words<'_>,
+    moment: Moment,
+) -> Result<BoxedInstance, LineError>
     ensures { Gives newcomer_of result words.new (newcomer_at moment words.old) }
 {
     let key = words.key_at(alloc)?;
@@ -202,15 +206,18 @@ fn instance_at(alloc: Global, words: &mut Words<'_>, moment: Moment) -> Result<I
     let overridden = words.status_at()?;
     let dirty = words.dirty_at(moment.ms())?;
     let rest = Rest::of_host(alloc, key.id.as_str())?;
-    Ok(Instance {
-        key,
-        status,
-        overridden,
-        dirty,
-        secs,
-        interval: Instance::DEFAULT_INTERVAL,
-        rest,
-    })
+    Ok(BoxedInstance::new(
+        alloc,
+        Instance {
+            key,
+            status,
+            overridden,
+            dirty,
+            secs,
+            interval: Instance::DEFAULT_INTERVAL,
+            rest,
+        },
+    )?)
 }
 
 #[tactic(auto, unfolding(crate::specs::Lines::renew_says))]

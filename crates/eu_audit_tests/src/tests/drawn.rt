@@ -3,7 +3,7 @@ ghost use Rattle.std.specs.Prelude.{◌<◌};
 
 use crate::tests::books::{audited, tell};
 use eu_audit_forms::{Client, at, instance, key};
-use eu_base::{Codes, Config, Fault, Instance, Key, Moment, Stamp, Status};
+use eu_base::{BoxedInstance, Codes, Config, Fault, Instance, Key, Moment, Stamp, Status};
 use eu_book::{Book, Receipt};
 use eu_clock::{FirstChooser, RngChooser};
 use eu_model::{Command, Reply};
@@ -93,6 +93,7 @@ fn drawn_instance<D: Draw>(alloc: Global, rng: &mut D) -> Result<Instance, Fault
 
 fn registration<D: Draw>(alloc: Global, rng: &mut D) -> Result<Command, Fault> {
     let instance = drawn_instance(alloc, rng)?;
+    let instance = BoxedInstance::new(alloc, instance)?;
     Ok(Command::Register {
         instance,
         replicated: flip(rng),
@@ -154,7 +155,7 @@ fn drawn_command<D: Draw>(alloc: Global, rng: &mut D) -> Result<Command, Fault> 
         1 | 2 => setting(alloc, rng),
         3 => unsetting(alloc, rng),
         4 | 5 => Ok(Command::Adopt {
-            instance: drawn_instance(alloc, rng)?,
+            instance: BoxedInstance::new(alloc, drawn_instance(alloc, rng)?)?,
         }),
         6 => Ok(Command::Roll),
         7 => Ok(Command::Update),

@@ -1,7 +1,9 @@
 //! Accounts worked out by hand. What commands are answered is told in words at once.
 ghost use Rattle.std.specs.Prelude.{◌≤◌, ◌^◌};
 
-use eu_base::{App, Codes, Config, Fault, Id, Instance, Key, Moment, Rest, Stamp, Status, Task};
+use eu_base::{
+    App, BoxedInstance, Codes, Config, Fault, Id, Instance, Key, Moment, Rest, Stamp, Status, Task,
+};
 use eu_book::{Book, Journal, Logged, LoggedReceipt, MOST_ENTRIES, Receipt};
 use eu_clock::{Chooser, FirstChooser, ListChooser};
 use eu_model::{Command, Entry, Query, Queue, Reply, State, Tally, View};
@@ -46,16 +48,17 @@ pub fn key(alloc: Global, id: &str) -> Result<Key, Fault> {
 fn registration(alloc: Global, id: &str) -> Result<Command, Fault> {
     let key = key(alloc, id)?;
     let rest = Rest::of_host(alloc, "h")?;
+    let instance = Instance {
+        key,
+        status: Status::Up,
+        overridden: Status::Unknown,
+        dirty: 5,
+        secs: 10,
+        interval: 30,
+        rest,
+    };
     Ok(Command::Register {
-        instance: Instance {
-            key,
-            status: Status::Up,
-            overridden: Status::Unknown,
-            dirty: 5,
-            secs: 10,
-            interval: 30,
-            rest,
-        },
+        instance: BoxedInstance::new(alloc, instance)?,
         replicated: false,
     })
 }

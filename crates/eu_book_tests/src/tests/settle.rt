@@ -1,7 +1,7 @@
 //! Closed books worked out by hand. A step is told by the number of its pass and by a word: `+i1` registers i1, `i1` renews it.
 
 use crate::tests::book::key;
-use eu_base::{Config, Fault, Instance, Moment, Rest, Status};
+use eu_base::{BoxedInstance, Config, Fault, Instance, Moment, Rest, Status};
 use eu_book::Logged;
 use eu_model::{Command, Entry, Listing, Queues, Reply, Rows, State, Tally};
 use eu_settle::{Closed, PassLog, settle};
@@ -25,16 +25,17 @@ fn start() -> Moment {
 fn registration(alloc: Global, id: &str) -> Result<Command, Fault> {
     let key = key(alloc, id)?;
     let rest = Rest::of_host(alloc, "h")?;
+    let instance = Instance {
+        key,
+        status: Status::Up,
+        overridden: Status::Unknown,
+        dirty: 0,
+        secs: 90,
+        interval: 30,
+        rest,
+    };
     Ok(Command::Register {
-        instance: Instance {
-            key,
-            status: Status::Up,
-            overridden: Status::Unknown,
-            dirty: 0,
-            secs: 90,
-            interval: 30,
-            rest,
-        },
+        instance: BoxedInstance::new(alloc, instance)?,
         replicated: false,
     })
 }

@@ -3,7 +3,7 @@ ghost use Rattle.std.specs.Prelude.{◌≤◌};
 
 use crate::tests::instances::{joined, says};
 use crate::tests::responses::{at, instance};
-use eu_base::{Action, App, Fault, Id, Instance, Key, Stamp, Status, Task};
+use eu_base::{Action, App, BoxedInstance, Fault, Id, Instance, Key, Stamp, Status, Task};
 use eu_json::{
     ItemAnswer, batch_answer_value, batch_text, batch_value, instance_value, read_batch,
 };
@@ -473,7 +473,10 @@ fn items_are_read_in_order(rt: HostRuntime) {
 
 /// Whether that is what is written of one answer.
 pub fn is_answer(alloc: Global, code: u16, is_held: bool, text: &str) -> Result<bool, Fault> {
-    let instance = held(alloc, is_held)?;
+    let instance = match held(alloc, is_held)? {
+        Some(instance) => Some(BoxedInstance::new(alloc, instance)?),
+        None => None,
+    };
     let answer = ItemAnswer { code, instance };
     let value = batch_answer_value(alloc, slice::from_ref(&answer));
     drop(answer);

@@ -8,10 +8,11 @@ use eu_store::Leases;
 use std::alloc::{AllocError, Global};
 use std::test::Fail;
 
-/// Puts a row for that id.
+/// Puts a row for that id, which has none.
 fn put(alloc: Global, rows: &mut Overrides, id: &Id) -> Result<(), AllocError> {
-    let row = rows.prepare(alloc, id, Some(Status::Down))?;
-    rows.put(row);
+    let id = id.copy(alloc)?;
+    rows.reserve()?;
+    rows.insert(id, Status::Down);
     Ok(())
 }
 
@@ -34,6 +35,40 @@ fn rows(alloc: Global, ids: &Ids) -> Result<Overrides, AllocError> {
     put(alloc, &mut rows, &ids.second)?;
     put(alloc, &mut rows, &ids.third)?;
     Ok(rows)
+}
+
+/// The statuses that stand in the rows of both.
+fn statuses(rows: &Overrides, ids: &Ids) -> (Option<Status>, Option<Status>) {
+    (rows.get(&ids.second), rows.get(&ids.third))
+}
+
+#[test]
+fn room_for_a_row_changes_none(rt: HostRuntime) -> Result<(), Fail> {
+    let ids = read_ids(rt.alloc())?;
+    let mut rows = rows(rt.alloc(), &ids)?;
+    rows.reserve()?;
+    assert!(rt; statuses(&rows, &ids) == (Some(Status::Down), Some(Status::Down)));
+    Ok(())
+}
+
+#[test]
+fn a_row_that_is_put_stands(rt: HostRuntime) -> Result<(), Fail> {
+    let ids = read_ids(rt.alloc())?;
+    let mut rows = Overrides::new(rt.alloc());
+    put(rt.alloc(), &mut rows, &ids.third)?;
+    assert!(rt; statuses(&rows, &ids) == (None, Some(Status::Down)));
+    Ok(())
+}
+
+#[test]
+fn a_row_is_set_where_one_stands(rt: HostRuntime) -> Result<(), Fail> {
+    let ids = read_ids(rt.alloc())?;
+    let mut rows = Overrides::new(rt.alloc());
+    put(rt.alloc(), &mut rows, &ids.third)?;
+    rows.set(&ids.second, Status::Up);
+    rows.set(&ids.third, Status::OutOfService);
+    assert!(rt; statuses(&rows, &ids) == (None, Some(Status::OutOfService)));
+    Ok(())
 }
 
 /// What a pass at 10,001 takes from leases of four ids that have expired by then, for the words 3 and 0. At 50 percent half may go.

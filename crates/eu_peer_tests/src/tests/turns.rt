@@ -1,7 +1,9 @@
 //! Two servers that tell each other what their clients did, and peers that fail.
 ghost use Rattle.std.specs.Prelude.{◌≤◌, ◌^◌};
 
-use eu_base::{Action, App, Config, Fault, Id, Instance, Key, Moment, Rest, Stamp, Status, Task};
+use eu_base::{
+    Action, App, BoxedInstance, Config, Fault, Id, Instance, Key, Moment, Rest, Stamp, Status, Task,
+};
 use eu_book::{Book, Receipt};
 use eu_clock::{FirstChooser, ListClock};
 use eu_model::{Command, Query, View};
@@ -43,7 +45,7 @@ fn instance(alloc: Global, id: &str) -> Result<Instance, Fault> {
 /// A client registers the instance of that id.
 pub fn registration(alloc: Global, id: &str) -> Result<Command, Fault> {
     Ok(Command::Register {
-        instance: instance(alloc, id)?,
+        instance: BoxedInstance::new(alloc, instance(alloc, id)?)?,
         replicated: false,
     })
 }
@@ -53,7 +55,7 @@ pub fn replicated(alloc: Global, id: &str, dirty: u32) -> Result<Command, Fault>
     let mut instance = instance(alloc, id)?;
     instance.dirty = u64::from(dirty);
     Ok(Command::Register {
-        instance,
+        instance: BoxedInstance::new(alloc, instance)?,
         replicated: true,
     })
 }

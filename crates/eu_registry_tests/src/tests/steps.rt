@@ -4,7 +4,7 @@ ghost use Rattle.eu_model.specs.Server.{is_for_peers};
 
 use crate::tests::registry::{at, instance, key, tell};
 use crate::tests::texts::push_numbers;
-use eu_base::{Config, Fault, Id, Instance, Moment, Stamp, Status};
+use eu_base::{BoxedInstance, Config, Fault, Id, Instance, Moment, Stamp, Status};
 use eu_clock::{Chooser, FirstChooser, ListChooser};
 use eu_core::{Answered, Registry, Stepped};
 use eu_model::{Command, Reply, State};
@@ -35,8 +35,9 @@ pub enum Step {
 fn join(alloc: Global, id: &str, status: Status, dirty: u64, secs: u32) -> Result<Command, Fault>
     ensures { IfOk result (λ c. is_for_peers c ≡ false) }
 {
+    let instance = instance(alloc, id, (status, Status::Unknown), dirty, secs)?;
     Ok(Command::Register {
-        instance: instance(alloc, id, (status, Status::Unknown), dirty, secs)?,
+        instance: BoxedInstance::new(alloc, instance)?,
         replicated: false,
     })
 }
@@ -44,8 +45,9 @@ fn join(alloc: Global, id: &str, status: Status, dirty: u64, secs: u32) -> Resul
 fn adoption(alloc: Global) -> Result<Command, Fault>
     ensures { IfOk result (λ c. is_for_peers c ≡ false) }
 {
+    let instance = instance(alloc, "i1", (Status::Up, Status::Unknown), 10, 30)?;
     Ok(Command::Adopt {
-        instance: instance(alloc, "i1", (Status::Up, Status::Unknown), 10, 30)?,
+        instance: BoxedInstance::new(alloc, instance)?,
     })
 }
 

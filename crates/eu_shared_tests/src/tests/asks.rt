@@ -1,7 +1,7 @@
 //! Asks through the lock, and a book that is opened and closed for them.
 ghost use Rattle.std.specs.Prelude.{◌≡◌};
 
-use eu_base::{App, Config, Fault, Id, Instance, Key, Moment, Rest, Status};
+use eu_base::{App, BoxedInstance, Config, Fault, Id, Instance, Key, Moment, Rest, Status};
 use eu_book::Receipt;
 use eu_clock::FirstChooser;
 use eu_model::{Command, Reply};
@@ -34,7 +34,7 @@ pub fn registration(alloc: Global, id: &str) -> Result<Command, Fault> {
     let rest = Rest::of_host(alloc, id)?;
     match key(alloc, id) {
         Ok(key) => Ok(Command::Register {
-            instance: instance(key, rest),
+            instance: BoxedInstance::new(alloc, instance(key, rest))?,
             replicated: false,
         }),
         Err(fault) => {

@@ -1,7 +1,7 @@
 //! A replicator, over a book of another server.
 ghost use Rattle.std.specs.Prelude.{◌≡◌};
 
-use eu_base::{App, Config, Fault, Id, Instance, Key, Moment, Rest, Status, Task};
+use eu_base::{App, BoxedInstance, Config, Fault, Id, Instance, Key, Moment, Rest, Status, Task};
 use eu_book::{Book, Receipt};
 use eu_clock::{FirstChooser, ListClock};
 use eu_model::{Command, Query, View};
@@ -54,7 +54,7 @@ pub fn registration(alloc: Global, id: &str) -> Result<Command, Fault> {
     let rest = Rest::of_host(alloc, "h")?;
     match key(alloc, id) {
         Ok(key) => Ok(Command::Register {
-            instance: instance(key, rest),
+            instance: BoxedInstance::new(alloc, instance(key, rest))?,
             replicated: false,
         }),
         Err(fault) => {

@@ -240,7 +240,7 @@ fn renewals_are_copied(rt: HostRuntime) {
 fn registration(alloc: Global) -> Result<Command, Fault> {
     let instance = instance(alloc)?;
     Ok(Command::Register {
-        instance,
+        instance: BoxedInstance::new(alloc, instance)?,
         replicated: false,
     })
 }
@@ -275,6 +275,23 @@ fn secs_of_copy(alloc: Global) -> Result<u32, Fault> {
 #[test]
 fn registrations_are_copied(rt: HostRuntime) {
     assert!(rt; secs_of_copy(rt.alloc()) == Ok(90));
+}
+
+/// The durations of an instance that is taken from the heap, and of its copy.
+fn boxed_secs(alloc: Global) -> Result<(u32, u32), Fault> {
+    let boxed = BoxedInstance::new(alloc, instance(alloc)?)?;
+    let copy = boxed.copy_boxed(alloc)?;
+    let copied = copy.secs;
+    drop(copy);
+    let instance = boxed.into_inner();
+    let secs = instance.secs;
+    drop(instance);
+    Ok((secs, copied))
+}
+
+#[test]
+fn instances_lie_on_the_heap(rt: HostRuntime) {
+    assert!(rt; boxed_secs(rt.alloc()) == Ok((90, 90)));
 }
 
 /// What an eviction pass did that took out one lease.

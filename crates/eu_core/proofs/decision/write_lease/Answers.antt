@@ -1,8 +1,8 @@
 use Rattle.std.proofs.Common.{refl, ap, sym, subst, ◌∙◌}
 use Rattle.std.specs.FinMap.{get}
+use Rattle.eu_base.specs.declared.instances.Instance.{Instance}
 use Rattle.eu_model.specs.Maps.{with_value}
 use Rattle.eu_store.specs.Stored.{amended, changed, rejoined, renewed_at}
-use Rattle.eu_core.specs.declared.decision.Rejoining.{Rejoining}
 use Rattle.eu_core.specs.Decided.{lease_left, marked, IsOf}
 use Rattle.eu_core.proofs.RowLemmas.{changed_value, with_lease-same}
 use Rattle.eu_core.proofs.decision.write_lease.Goals as goal
@@ -32,10 +32,9 @@ returns-in-Rejoined c =
     let m = c.args.leases.now.held in
     let k = c.args.key.now in
     let i = c.in-Rejoined in
-    let by = i.by.value in
-    let f = rejoined by.newcomer by.status by.overridden by.lease in
+    let f = rejoined i.newcomer.value i.status i.overridden i.lease in
     let of = subst (IsOf k) i.is c.requires.of in
-    c.rejoin.ensures.held ∙ ap (λ (b : Rejoining). changed (rejoined b.newcomer b.status b.overridden b.lease) m b.newcomer.key) c.into_inner-by.ensures
+    c.rejoin.ensures.held ∙ ap (λ (n : Instance). changed (rejoined n i.status i.overridden i.lease) m n.key) c.deref.ensures
     ∙ ap (changed f m) of.0 ∙ changed_value f m k ∙ ap (λ x. with_value m k (lease_left x (get m k))) (sym i.is)
 
 pub returns-in-Replaced : goal.returns-in-Replaced

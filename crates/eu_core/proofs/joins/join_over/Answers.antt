@@ -12,7 +12,7 @@ use Rattle.eu_core.proofs.joins.join_over.Goals as goal
 pub returns-clause-joins : goal.returns-clause-joins
 returns-clause-joins c =
     let l = c.args.held.now in
-    let n = c.args.instance in
+    let n = c.args.instance.now in
     let row = c.args.known.row in
     let s = c.settle-settled.ensures in
     joins_from _ _ n n c.args.replicated c.args.moment (Some l) c.new-held.result row _ _
@@ -20,7 +20,7 @@ returns-clause-joins c =
     (chosen_over l n c.requires)
     s.row s.overridden
     (s.status ∙ ap (λ (i : Instance). rule n.status (row_after row n.overridden) (Some i.status) c.args.replicated) c.instance.ensures)
-    (ap (λ (y : Listed). data_of y.instance) c.new-held.ensures ∙ ap data_of c.in_ok-instance.ensures.ok)
+    (ap (λ (y : Listed). data_of y.instance) c.new-held.ensures ∙ ap data_of c.in_ok-instance.ensures)
     (ap (λ (y : Listed). y.times) c.new-held.ensures
     ∙ ap times_of (c.begun-lease.ensures ∙ ap (λ (a : Term). let b : Term = record a { up = up_after a.up c.settle-settled.result.status c.args.moment } in b)
     (c.anew-anew.ensures ∙ ap (λ a. anew a c.args.moment n.secs) c.lease.ensures)))

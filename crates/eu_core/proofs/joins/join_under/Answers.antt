@@ -5,20 +5,19 @@ use Rattle.eu_model.specs.Override.{rule}
 use Rattle.eu_model.specs.Change.{row_after, up_after}
 use Rattle.eu_lease.specs.Term.{Term, times_of, anew}
 use Rattle.eu_store.specs.Stored.{rejoined}
-use Rattle.eu_core.specs.declared.decision.Rejoining.{Rejoining}
 use Rattle.eu_core.proofs.JoinLemmas.{joins_from, chosen_under}
 use Rattle.eu_core.proofs.joins.join_under.Goals as goal
 
 pub returns-clause-joins : goal.returns-clause-joins
 returns-clause-joins c =
     let l = c.args.held.now in
-    let n = c.args.newcomer in
+    let n = c.args.newcomer.now in
     let j : Instance = record l.instance { secs = n.secs; secs_bound = n.secs_bound } in
     let row = c.args.known.row in
     let s = c.settle-settled.ensures in
     let own = c.instance-own.ensures in
     joins_from _ _ n j c.args.replicated c.args.moment (Some l) (rejoined n c.settle-settled.result.status c.settle-settled.result.overridden c.begun-lease.result l) row _ _
-    (ap (λ (b : Rejoining). Some (rejoined b.newcomer b.status b.overridden b.lease l)) c.in_ok-new.ensures.ok) refl refl refl
+    (ap (λ (i : Instance). Some (rejoined i c.settle-settled.result.status c.settle-settled.result.overridden c.begun-lease.result l)) (c.in_ok-newcomer.ensures.ok ∙ c.in_ok-copy.ensures)) refl refl refl
     (chosen_under l n c.requires)
     (s.row ∙ ap (λ (i : Instance). row_after row i.overridden) own)
     (s.overridden ∙ ap (λ (i : Instance). unwrap_or (row_after row i.overridden) i.overridden) own)

@@ -1,5 +1,5 @@
 -- What is decided is a change of the rule book, and carried out it is a step of the machine
-use Rattle.std.proofs.Common.{◌≡◌, ℕ, ◌+◌, ◌≤◌, ◌^◌, Bool, true, false, true≢false, refl, sym, ap, subst}
+use Rattle.std.proofs.Common.{◌≡◌, ℕ, ◌+◌, ◌≤◌, ◌^◌, Bool, true, false, true≢false, sym, ap, subst}
 use Rattle.std.specs.Prelude.{if◌then◌else◌, Option, None, Ok}
 use Rattle.std.specs.FinMap.{FinMap, get}
 use Rattle.eu_base.specs.declared.names.Key.{Key}

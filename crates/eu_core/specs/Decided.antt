@@ -38,7 +38,7 @@ lease_left (Replaced by) held = option_map (λ l. by) held
 lease_left (Begun by) held = Some by
 lease_left Ended held = None
 
--- it can want no memory
+-- it begins, replaces and keeps nothing anew, so it wants no memory
 abbrev pub is_in_place : LeaseChange → Bool
 is_in_place (Rejoined newcomer status overridden lease) = false
 is_in_place (Replaced by) = false

@@ -186,8 +186,12 @@ pub fn decide_cancel(held: Option<&Held>, known: Known) -> Decision
     ensures row { result.change.row ≡ None }
 {
     match held {
-        Some(_) => ended(known.expected.saturating_sub(1), Reply::Done),
-        None => ended(known.expected, Reply::NotFound),
+        Some(_) => without_row(
+            LeaseChange::Ended,
+            known.expected.saturating_sub(1),
+            Reply::Done,
+        ),
+        None => without_row(LeaseChange::Stays, known.expected, Reply::NotFound),
     }
 }
 
@@ -221,13 +225,13 @@ fn renewed(known: Known, moment: Moment) -> Decision
     }
 }
 
-/// The lease ends, and the row of its id goes.
-fn ended(expected: u64, reply: Reply) -> Decision
-    ensures { result ≡ decided LeaseChange.Ended None expected reply }
+/// This comes of the lease, and the row of its id goes.
+fn without_row(lease: LeaseChange, expected: u64, reply: Reply) -> Decision
+    ensures { result ≡ decided lease None expected reply }
 {
     Decision {
         change: Change {
-            lease: LeaseChange::Ended,
+            lease,
             row: None,
             expected,
             counted: false,

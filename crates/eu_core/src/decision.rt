@@ -82,6 +82,7 @@ pub fn begin(leases: &mut Leases, alloc: Global, key: &Key, held: Held) -> Resul
 }
 
 /// Carries out what becomes of the lease of a key, which was found at that place, but for one that begins. Takes no memory.
+#[inline(always)]
 pub fn write_lease(leases: &mut Leases, key: &Key, place: Place, change: LeaseChange)
     requires of { IsOf key.now change }
     requires goes_on { begins change ≡ false }

@@ -592,6 +592,7 @@ impl Registry {
     }
 
     /// So many clients are expected from now on; a renewal is counted, where one is.
+    #[inline(always)]
     fn count(&mut self, expected: u64, counted: bool)
         requires bound { expected ≤ 2 ^ 40 }
         requires countable { count_fault counted self.old.since ≡ None }

@@ -6,6 +6,7 @@ use memchr::memchr;
 use std::alloc::AllocError;
 
 /// The text before the first LF, and the text after it; none where there is no LF.
+#[inline(always)]
 pub fn cut(text: &[u8]) -> Option<(&[u8], &[u8])>
     ensures whole { IfSome result (λ parts. text.now ≡ parts.0.now ++ 10 ∷ parts.1.now) }
     ensures first { IfSome result (λ parts. HasNoEnd parts.0.now) }

@@ -62,6 +62,8 @@ pub fn answer_whole<R: Source, W: Sink, C: Chooser>(
 ///   overridden status here, and then the instance is registered as by a peer. It prints `204`.
 /// - `roll T` ends a minute, and prints `last N`: the renewals that were counted in it.
 /// - `update T` counts the clients anew, and prints `expected N`: how many are expected from now on.
+/// - `config T on P I M` or `config T off P I M` changes the settings: self-preservation on or off, the percentage P, the seconds I
+///   between two renewals and the milliseconds M between two passes. It prints `200`.
 /// - `evict T` makes a pass, and prints `evicted K` and the application and the id of each of the K victims, in the order in
 ///   which the chooser drew them.
 /// - `drain T P` drops the tasks for the peer P that were queued more than 30 s before, has the first 250 of the others go in

@@ -28,6 +28,7 @@ pub struct Place {
 }
 
 /// Where that key stands in the table, if it does: where it was found, or else where a look-up finds it.
+#[inline(always)]
 fn place_of(table: &IndexMap<Key, Held>, key: &Key, hint: Place) -> Option<usize>
     ensures index { result ≡ index_of_by (key_eq key.now) table.now }
     ensures found { is_some result ≡ is_some (get_by (key_eq key.now) table.now) }

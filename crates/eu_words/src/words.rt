@@ -259,6 +259,7 @@ impl<'a> Words<'a> {
 
     /// The seconds that a lease lasts, else `Bad`. 0 stands for `Instance::DEFAULT_SECS`.
     #[tactic(auto, unfolding(crate::specs::Words::secs_at))]
+    #[inline(always)]
     pub fn secs_at(&mut self) -> Result<u32, LineError>
         ensures said { Gives (λ n. n) result self.new (secs_at self.old) }
         ensures small { IfOk result (λ n. (1 ≤ n) × (n ≤ 2147483)) }
@@ -272,6 +273,7 @@ impl<'a> Words<'a> {
 
     /// A stamp, or none where `-` stands, else `Bad`.
     #[tactic(auto, unfolding(crate::specs::Words::stamp_at))]
+    #[inline(always)]
     pub fn stamp_at(&mut self) -> Result<Option<Stamp>, LineError>
         ensures said { Gives number_of result self.new (stamp_at self.old) }
         ensures memory { result ≢ Err LineError.OutOfMemory }
@@ -285,6 +287,7 @@ impl<'a> Words<'a> {
 
     /// The number of a stamp, else `Bad`. `-` stands for `given`.
     #[tactic(auto, unfolding(crate::specs::Words::dirty_at))]
+    #[inline(always)]
     pub fn dirty_at(&mut self, given: u64) -> Result<u64, LineError>
         requires { given < 2 ^ 63 }
         ensures said { Gives (λ n. n) result self.new (dirty_at given self.old) }

@@ -190,7 +190,7 @@ def tower():
     parts += box(right, rows["lower"], width, "proved", "shared book", ["eu_shared: behind the lock"])
     parts += box(right, rows["upper"], width, "proved", "session", ["eu_session"])
     parts += box(left, rows["bytes"], width, "proved", "bytes of a journal", ["eu_journal_read"])
-    parts += box(middle, rows["bytes"], width, "proved", "bytes of a script", ["eu_server"])
+    parts += box(middle, rows["bytes"], width, "proved", "bytes of a script", ["eu_script"])
     parts += box(right, rows["bytes"], width, "proved", "bytes of a connection", ["eu_framing, eu_http"])
     steps = [
         (left, "rules", "lower", "audit", "line"),

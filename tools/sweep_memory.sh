@@ -16,18 +16,18 @@ cd "$(dirname "${BASH_SOURCE[0]}")/.."
 
 # The crate, the test, the refusals that it meets at least.
 tests='
-eu_machine_tests memory::memory_store 130
+eu_registry_tests store_memory::memory_store 130
 eu_registry_tests memory::memory_core 150
 eu_value_tests memory::memory_outbox 610
 eu_book_tests memory::memory_book 410
-eu_shared_tests memory::memory_shared 30
-eu_shared_tests memory::memory_lock 40
-eu_request_tests memory::memory_request 40
-eu_request_tests memory::memory_routes 300
+eu_book_tests shared_memory::memory_shared 30
+eu_book_tests shared_memory::memory_lock 40
+eu_http_tests request_memory::memory_request 40
+eu_http_tests request_memory::memory_routes 300
 eu_http_tests memory::memory_json 970
 eu_session_tests memory::memory_http 460
 eu_session_tests memory::memory_requests 290
-eu_peer_tests memory::memory_turn 170
+eu_workers_tests memory::memory_turn 170
 eu_script_tests memory::memory_script 200
 eu_script_tests memory::memory_run_audit 330
 eu_script_tests memory::memory_journal 1850

@@ -18,7 +18,6 @@ use Rattle.eu_base.specs.declared.faults.Fault.TheVariants.{Full, Exhausted}
 use Rattle.eu_base.specs.declared.instances.Instance.{Instance}
 use Rattle.eu_base.specs.declared.names.Key.{Key}
 use Rattle.eu_base.specs.declared.statuses.Status.{Status}
-use Rattle.eu_base.specs.declared.times.Stamp.{Stamp}
 use Rattle.eu_base.specs.Key.{key_cmp}
 use Rattle.eu_base.proofs.KeyLemmas.{keys_total}
 use Rattle.eu_model.specs.declared.views.Listed.{Listed}
@@ -130,7 +129,7 @@ cancel_limits p k limits = by (get p.leases k)
 over : (l : Listed) (expected : ℕ) (c : Change Listed) → c.expected ≡ expected → Stays (Some l) expected c
 over l expected c e = (λ is. refl, omega (arith, e))
 
-renew_stays : (held : Option Listed) (row : Option Status) (expected : ℕ) (dirty : Option Stamp) (overridden : Option Status) (replicated : Bool) (t : ℕ)
+renew_stays : (held : Option Listed) (row : Option Status) (expected : ℕ) (dirty : Option ℕ) (overridden : Option Status) (replicated : Bool) (t : ℕ)
     → Stays held expected (kept_renew held row expected dirty overridden replicated t)
 renew_stays None row expected dirty overridden replicated t = (λ is. is, omega arith)
 renew_stays (Some l) row expected dirty overridden replicated t =
@@ -146,7 +145,7 @@ not_exhausted false n most none is = absurd (true≢false (sym is))
 not_exhausted true n most none is =
     below n (2 ^ 62) most (elim (n == 2 ^ 62) as (λ b. (if b then Some Exhausted else None) ≡ None → b ≡ false) [ true ↦ λ e. absurd (none-some Exhausted (sym e)) | false ↦ λ e. refl ] none)
 
-pub renew_limits : (p : Plain) (k : Key) (dirty : Option Stamp) (overridden : Option Status) (replicated : Bool) (t : ℕ) → IsWithinLimits p
+pub renew_limits : (p : Plain) (k : Key) (dirty : Option ℕ) (overridden : Option Status) (replicated : Bool) (t : ℕ) → IsWithinLimits p
     → kept_renew_fault p (kept_renew (get p.leases k) (get p.rows k.id) p.expected dirty overridden replicated t).counted ≡ None
     → IsWithinLimits (after p k (kept_renew (get p.leases k) (get p.rows k.id) p.expected dirty overridden replicated t))
 renew_limits p k dirty overridden replicated t limits none =
@@ -170,7 +169,7 @@ uncounted_limits p k change limits none un some =
     by None = (none, un)
     by (Some l) = (over l p.expected (change (Some l)) (some l).0, (some l).1)
 
-pub set_limits : (p : Plain) (k : Key) (status : Status) (dirty : Option Stamp) (t : ℕ) → IsWithinLimits p
+pub set_limits : (p : Plain) (k : Key) (status : Status) (dirty : Option ℕ) (t : ℕ) → IsWithinLimits p
     → IsWithinLimits (after p k (kept_set_status (kept_one p k t) (get p.leases k) (get p.rows k.id) p.expected status dirty t))
 set_limits p k status dirty t limits =
     uncounted_limits p k (λ held. kept_set_status (kept_seen permitted t held) held (get p.rows k.id) p.expected status dirty t) limits (λ is. is, omega arith) refl one
@@ -189,7 +188,7 @@ set_limits p k status dirty t limits =
       | false ↦ seen l (is_status l.instance.status status)
     ]
 
-pub unset_limits : (p : Plain) (k : Key) (suggested : Option Status) (dirty : Option Stamp) (t : ℕ) → IsWithinLimits p
+pub unset_limits : (p : Plain) (k : Key) (suggested : Option Status) (dirty : Option ℕ) (t : ℕ) → IsWithinLimits p
     → IsWithinLimits (after p k (kept_unset_status (kept_one p k t) (get p.leases k) (get p.rows k.id) p.expected suggested dirty t))
 unset_limits p k suggested dirty t limits =
     uncounted_limits p k (λ held. kept_unset_status (kept_seen permitted t held) held (get p.rows k.id) p.expected suggested dirty t) limits (λ is. is, omega arith) refl one

@@ -9,7 +9,9 @@ use eu_base::{Config, Moment};
 fn threshold(config: &Config, expected: u64) -> u128
     ensures { result ≡ threshold config.now expected }
 {
-    expected as u128 * 60 * config.percent as u128 / (config.interval as u128 * 100)
+    let percent = u128::from(config.percent.value());
+    let interval = u128::from(config.interval.secs());
+    expected as u128 * 60 * percent / (interval * 100)
 }
 
 /// Whether eviction is permitted, after so many renewals in the last minute.
@@ -25,7 +27,7 @@ fn share(config: &Config, held: u64) -> u128
     ensures { result ≡ share config.now held }
 {
     let held = held as u128;
-    held.saturating_sub(held * config.percent as u128 / 100)
+    held.saturating_sub(held * u128::from(config.percent.value()) / 100)
 }
 
 /// How many leases a pass may evict, of so many that are held. It evicts all that are due, where they are no more.
@@ -39,7 +41,7 @@ pub(crate) fn most_victims(config: &Config, permitted: bool, held: u64) -> u128
 pub(crate) fn expected_after(config: &Config, expected: u64, held: u64) -> u64
     ensures { result ≡ expected_after config.now expected held }
 {
-    let most = config.percent as u128 * expected as u128;
+    let most = u128::from(config.percent.value()) * expected as u128;
     if most < held as u128 * 100 || !config.preservation {
         held
     } else {

@@ -21,7 +21,7 @@ const LAST_MOMENT: u64 = 1 << 62;
 fn is_plain_lease(lease: &Listed) -> bool
     ensures { result ≡ is_plain_lease lease.now }
 {
-    let most = LAST_MOMENT + 1000 * lease.instance.secs as u64;
+    let most = LAST_MOMENT + 1000 * u64::from(lease.instance.secs.secs());
     lease.times.registered <= LAST_MOMENT
         && lease.times.updated <= most
         && lease.times.up <= LAST_MOMENT

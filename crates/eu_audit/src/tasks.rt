@@ -1,9 +1,8 @@
 //! What a step leaves for each peer.
-ghost use Rattle.std.specs.Prelude.{◌≡◌, IfOk, Option, Some, None};
+ghost use Rattle.std.specs.Prelude.{◌≡◌, ℕ, IfOk, Option, Some, None};
 ghost use Rattle.std.specs.Option.{option_copied, option_map};
 ghost use Rattle.eu_base.specs.declared.instances.Instance as value;
 ghost use Rattle.eu_base.specs.declared.statuses.Status as own;
-ghost use Rattle.eu_base.specs.declared.times.Stamp as time;
 ghost use Rattle.eu_model.specs.Server.{key_of, task_for, task};
 
 use eu_base::{Action, Instance, Key, Moment, Status, Task};
@@ -73,7 +72,7 @@ fn task_of_renewal(
     reply: &Reply,
     held: Option<&Instance>,
 ) -> Result<Option<Task>, AllocError>
-    ensures { IfOk result (λ t. (dirty : Option time.Stamp) (overridden : Option own.Status) → t ≡ task_for (Command.Renew key.now dirty overridden replicated) moment reply.now (option_copied held.entry)) }
+    ensures { IfOk result (λ t. (dirty : Option ℕ) (overridden : Option own.Status) → t ≡ task_for (Command.Renew key.now dirty overridden replicated) moment reply.now (option_copied held.entry)) }
 {
     match reply {
         Reply::Done | Reply::Stale if !replicated => task(
@@ -114,7 +113,7 @@ fn task_of_status(
     reply: &Reply,
     held: Option<&Instance>,
 ) -> Result<Option<Task>, AllocError>
-    ensures { IfOk result (λ t. (dirty : Option time.Stamp) → t ≡ task_for (Command.SetStatus key.now status dirty replicated) moment reply.now (option_copied held.entry)) }
+    ensures { IfOk result (λ t. (dirty : Option ℕ) → t ≡ task_for (Command.SetStatus key.now status dirty replicated) moment reply.now (option_copied held.entry)) }
 {
     match reply {
         Reply::Done if !replicated => task(
@@ -138,7 +137,7 @@ fn task_of_unset(
     reply: &Reply,
     held: Option<&Instance>,
 ) -> Result<Option<Task>, AllocError>
-    ensures { IfOk result (λ t. (suggested : Option own.Status) (dirty : Option time.Stamp) → t ≡ task_for (Command.UnsetStatus key.now suggested dirty replicated) moment reply.now (option_copied held.entry)) }
+    ensures { IfOk result (λ t. (suggested : Option own.Status) (dirty : Option ℕ) → t ≡ task_for (Command.UnsetStatus key.now suggested dirty replicated) moment reply.now (option_copied held.entry)) }
 {
     match reply {
         Reply::Done if !replicated => {

@@ -135,7 +135,7 @@ fn newer_overridden(held: Option<&Instance>, instance: &Instance) -> Status
     ensures { result ≡ (newer (option_copied held.entry) instance.now).overridden }
 {
     match held {
-        Some(held) if instance.dirty < held.dirty => held.overridden,
+        Some(held) if instance.dirty.value() < held.dirty.value() => held.overridden,
         _ => instance.overridden,
     }
 }
@@ -149,7 +149,7 @@ fn newer(
     ensures { IfOk result (λ i. i ≡ newer (option_copied held.entry) instance.now) }
 {
     match held {
-        Some(held) if instance.dirty < held.dirty => {
+        Some(held) if instance.dirty.value() < held.dirty.value() => {
             let mut chosen = held.copy(alloc)?;
             chosen.secs = instance.secs;
             Ok(chosen)

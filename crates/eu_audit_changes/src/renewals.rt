@@ -8,7 +8,7 @@ ghost use Rattle.eu_model.specs.Record.{renewed};
 ghost use Rattle.eu_audit_changes.specs.Changed.{change_of};
 
 use crate::changes::{Changed, is_status, rule, under_row, up_after};
-use eu_base::{BoxedInstance, Instance, Moment, Stamp, Status};
+use eu_base::{BoxedInstance, Instance, LeaseSecs, Moment, Stamp, Status};
 use eu_model::{Listed, Reply, Times};
 use std::alloc::{AllocError, Global};
 
@@ -16,7 +16,8 @@ use std::alloc::{AllocError, Global};
 pub fn expired(held: &Listed, moment: Moment, extra: u64) -> bool
     ensures { result ≡ kept_expired held.now moment extra }
 {
-    let deadline = held.times.updated as u128 + 1000 * held.instance.secs as u128 + extra as u128;
+    let secs = u128::from(held.instance.secs.secs());
+    let deadline = held.times.updated as u128 + 1000 * secs + extra as u128;
     deadline < moment.ms() as u128
 }
 
@@ -31,12 +32,12 @@ fn seen(permitted: bool, moment: Moment, held: Option<&Listed>) -> Option<&Liste
 }
 
 /// The moments of a lease that lasts so many seconds, and is renewed.
-fn renewed(times: Times, secs: u32, moment: Moment) -> Times
+fn renewed(times: Times, secs: LeaseSecs, moment: Moment) -> Times
     ensures { result ≡ record times { updated = moment + 1000 * secs } }
 {
     Times {
         registered: times.registered,
-        updated: moment.ms() + 1000 * secs as u64,
+        updated: moment.ms() + 1000 * u64::from(secs.secs()),
         up: times.up,
     }
 }
@@ -46,8 +47,8 @@ fn stamped(dirty: Option<Stamp>, mut instance: Instance) -> Instance
     ensures { result ≡ stamped dirty instance }
 {
     match dirty {
-        Some(stamp) if instance.dirty < stamp.value => {
-            instance.dirty = stamp.value;
+        Some(stamp) if instance.dirty.value() < stamp.value() => {
+            instance.dirty = stamp;
             instance
         }
         _ => instance,
@@ -73,8 +74,8 @@ fn renew_reply(
     ensures { IfOk result (λ r. r ≡ renew_reply dirty instance.now replicated) }
 {
     match dirty {
-        Some(stamp) if instance.dirty < stamp.value => Ok(Reply::Stale),
-        Some(stamp) if stamp.value < instance.dirty && replicated => {
+        Some(stamp) if instance.dirty.value() < stamp.value() => Ok(Reply::Stale),
+        Some(stamp) if stamp.value() < instance.dirty.value() && replicated => {
             let held = instance.copy(alloc)?;
             Ok(Reply::Conflict(BoxedInstance::new(alloc, held)?))
         }

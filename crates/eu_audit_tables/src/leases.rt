@@ -128,7 +128,7 @@ impl Leases {
 fn deadline_of(lease: &Listed) -> u128
     ensures { result ≡ deadline_of lease.now }
 {
-    u128::from(lease.times.updated) + 1000 * u128::from(lease.instance.secs)
+    u128::from(lease.times.updated) + 1000 * u128::from(lease.instance.secs.secs())
 }
 
 /// Whether a lease is the one that is held, under its instance's key.

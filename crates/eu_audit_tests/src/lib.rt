@@ -1,4 +1,4 @@
-//! Tests of the auditor: whole journals, with values worked out by hand from the rules, and books whose journal is a run.
+//! Tests of the auditor: whole journals, what each rule lets a run do, which states are none, and books whose journal is a run.
 #![tactic(auto)]
 
 #[cfg(test)]

@@ -1,9 +1,15 @@
-//! The tests, by what they are of.
+//! The tests, by what they are of, and the forms in which they tell states and entries.
 mod books;
 mod closed;
 mod drawn;
+mod forms;
 mod kept;
 mod memory;
+mod names;
 mod passes;
+mod plain;
+mod queues;
+mod refusals;
 mod replies;
+mod rules;
 mod waves;

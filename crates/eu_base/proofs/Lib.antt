@@ -1,4 +1,3 @@
-pub mod InstanceLemmas
 pub mod KeyLemmas
 pub mod NameLemmas
 pub mod RestLemmas

@@ -1,9 +1,10 @@
 //! Instances, as they are registered.
-ghost use Rattle.std.specs.Prelude.{◌≡◌, ◌<◌, ◌≤◌, ◌^◌, ◌↔◌, IfOk, IsTrue};
+ghost use Rattle.std.specs.Prelude.{◌≡◌, ◌↔◌, IfOk, IsTrue};
 
 use crate::names::Key;
 use crate::rest::Rest;
 use crate::statuses::Status;
+use crate::times::{LeaseSecs, RenewalSecs, Stamp};
 use std::alloc::{AllocError, Global};
 
 /// An instance, as it is registered (`InstanceInfo` in Eureka).
@@ -15,26 +16,17 @@ pub struct Instance {
     pub status: Status,
     /// The status that an operator, or a peer, put over its own; `Unknown` where none was put, or where that is the one.
     pub overridden: Status,
-    /// The stamp of its last change: 0 to 2^63 - 1.
-    pub dirty: u64,
-    /// The duration of its lease, in seconds: 1 to 2,147,483.
-    pub secs: u32,
-    /// How often its client means to renew the lease, in seconds: 1 to 2^31 - 1. The registry keeps it and doesn't use it.
-    pub interval: u32,
+    /// The stamp of its last change.
+    pub dirty: Stamp,
+    /// The duration of its lease.
+    pub secs: LeaseSecs,
+    /// How often its client means to renew the lease. The registry keeps it and doesn't use it.
+    pub interval: RenewalSecs,
     /// What else its client gave.
     pub rest: Rest,
-    ghost dirty_bound: { dirty < 2 ^ 63 },
-    ghost secs_bound: { (1 ≤ secs) × (secs ≤ 2147483) },
-    ghost interval_bound: { (1 ≤ interval) × (interval < 2 ^ 31) },
 }
 
 impl Instance {
-    /// The seconds that a lease lasts where the registration gives none (`LeaseInfo.DEFAULT_LEASE_DURATION` in Eureka).
-    pub const DEFAULT_SECS: u32 = 90;
-
-    /// The seconds between renewals where the registration gives none (`LeaseInfo.DEFAULT_LEASE_RENEWAL_INTERVAL` in Eureka).
-    pub const DEFAULT_INTERVAL: u32 = 30;
-
     /// Whether both are equal in every field. Takes no memory.
     pub fn same(&self, other: &Instance) -> bool
         ensures { IsTrue result ↔ (self.now ≡ other.now) }
@@ -57,7 +49,9 @@ impl Instance {
         ensures { IsTrue result
             ↔ ((self.now.dirty ≡ other.now.dirty) × (self.now.secs ≡ other.now.secs) × (self.now.interval ≡ other.now.interval)) }
     {
-        self.dirty == other.dirty && self.secs == other.secs && self.interval == other.interval
+        self.dirty.value() == other.dirty.value()
+            && self.secs.secs() == other.secs.secs()
+            && self.interval.secs() == other.interval.secs()
     }
 
     /// The same instance once more. `AllocError` where no memory is left.

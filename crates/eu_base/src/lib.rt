@@ -12,7 +12,6 @@ mod statuses;
 mod tasks;
 mod times;
 mod trees;
-mod values;
 
 pub use boxed::BoxedInstance;
 pub use faults::Fault;
@@ -20,7 +19,7 @@ pub use instances::Instance;
 pub use names::{App, Id, Key};
 pub use order::keys_are_ordered;
 pub use rest::{Rest, has_fraction};
-pub use settings::Config;
+pub use settings::{Config, ExpectedRenewalSecs, Percent};
 pub use statuses::Status;
 pub use tasks::{Action, Codes, Task, TaskName};
-pub use times::{Moment, Stamp};
+pub use times::{LeaseSecs, Moment, RenewalSecs, Stamp};

@@ -1,7 +1,10 @@
 //! Threads that ask a shared book.
 ghost use Rattle.std.specs.Prelude.{◌≡◌};
 
-use eu_base::{App, BoxedInstance, Config, Fault, Id, Instance, Key, Moment, Rest, Status};
+use eu_base::{
+    App, BoxedInstance, Config, Fault, Id, Instance, Key, LeaseSecs, Moment, RenewalSecs, Rest,
+    Stamp, Status,
+};
 use eu_clock::FirstChooser;
 use eu_model::Command;
 use eu_settle::{Closed, settle};
@@ -26,15 +29,16 @@ fn key(alloc: Global, pass: u64) -> Result<Key, Fault> {
 
 /// It registers.
 fn registration(alloc: Global, pass: u64) -> Result<Command, Fault> {
+    let dirty = Stamp::new(0).ok_or(Fault::BadStamp)?;
     let key = key(alloc, pass)?;
     let rest = Rest::of_host(alloc, "h")?;
     let instance = Instance {
         key,
         status: Status::Up,
         overridden: Status::Unknown,
-        dirty: 0,
-        secs: 90,
-        interval: 30,
+        dirty,
+        secs: LeaseSecs::DEFAULT,
+        interval: RenewalSecs::DEFAULT,
         rest,
     };
     Ok(Command::Register {

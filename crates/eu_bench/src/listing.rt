@@ -4,7 +4,9 @@ ghost use Rattle.serde_json.specs.Written.{compact_text};
 ghost use Rattle.eu_json.specs.Tree.{applications_tree};
 ghost use Rattle.eu_model.specs.declared.views.Listed.{Listed};
 
-use eu_base::{App, Config, Fault, Id, Instance, Key, Moment, Rest, Status};
+use eu_base::{
+    App, Config, Fault, Id, Instance, Key, LeaseSecs, Moment, RenewalSecs, Rest, Stamp, Status,
+};
 use eu_core::Registry;
 use eu_json::applications_value;
 use eu_model::Listed;
@@ -12,6 +14,7 @@ use std::alloc::Global;
 
 /// The instance that the script's line `register 0 APP ID 90 UP UNKNOWN 0 c` registers, of one of a hundred applications.
 fn newcomer(alloc: Global, number: u32) -> Result<Instance, Fault> {
+    let dirty = Stamp::new(0).ok_or(Fault::BadStamp)?;
     let app = number % 100;
     let app = App::read(alloc, format!(in alloc; "A{app}")?.as_str())?;
     let id = Id::read(alloc, format!(in alloc; "host-{number}")?.as_str())?;
@@ -20,9 +23,9 @@ fn newcomer(alloc: Global, number: u32) -> Result<Instance, Fault> {
         key: Key { app, id },
         status: Status::Up,
         overridden: Status::Unknown,
-        dirty: 0,
-        secs: Instance::DEFAULT_SECS,
-        interval: Instance::DEFAULT_INTERVAL,
+        dirty,
+        secs: LeaseSecs::DEFAULT,
+        interval: RenewalSecs::DEFAULT,
         rest,
     })
 }

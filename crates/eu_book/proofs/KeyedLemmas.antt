@@ -13,7 +13,6 @@ use Rattle.eu_base.specs.declared.instances.Instance.{Instance}
 use Rattle.eu_base.specs.declared.names.Key.{Key}
 use Rattle.eu_base.specs.declared.statuses.Status.{Status}
 use Rattle.eu_base.specs.declared.statuses.Status.TheVariants.{Unknown}
-use Rattle.eu_base.specs.declared.times.Stamp.{Stamp}
 use Rattle.eu_base.specs.Key.{key_cmp}
 use Rattle.eu_base.proofs.KeyLemmas.{keys_total, keys_exact, names_total, names_exact}
 use Rattle.eu_model.specs.declared.commands.Command.{Command}
@@ -128,14 +127,14 @@ under_row-key : (row : Option Status) (i : Instance) → (under_row row i).key �
 under_row-key None i = refl
 under_row-key (Some row) i = refl
 
-stamped-key : (dirty : Option Stamp) (i : Instance) → (stamped dirty i).key ≡ i.key
+stamped-key : (dirty : Option ℕ) (i : Instance) → (stamped dirty i).key ≡ i.key
 stamped-key None i = refl
-stamped-key (Some d) i = elim (nat_lt i.dirty d.value) as (λ b. (cond b (record i { dirty = d.value; dirty_bound = d.bound }) i).key ≡ i.key) [ true ↦ refl | false ↦ refl ]
+stamped-key (Some d) i = elim (nat_lt i.dirty d) as (λ b. (cond b (record i { dirty = d }) i).key ≡ i.key) [ true ↦ refl | false ↦ refl ]
 
 newer-key : (held : Option Record) (n : Instance) → Stands n.key held → (newer (option_map (λ r. r.instance) held) n).key ≡ n.key
 newer-key None n at = refl
 newer-key (Some r) n at =
-    elim (nat_lt n.dirty r.instance.dirty) as (λ b. (cond b (record r.instance { secs = n.secs; secs_bound = n.secs_bound }) n).key ≡ n.key) [ true ↦ at | false ↦ refl ]
+    elim (nat_lt n.dirty r.instance.dirty) as (λ b. (cond b (record r.instance { secs = n.secs }) n).key ≡ n.key) [ true ↦ at | false ↦ refl ]
 
 registered : (held : Option Record) (row : Option Status) (expected : ℕ) (n : Instance) (replicated : Bool) (t : ℕ)
     → Stands n.key held → Stands n.key (register held row expected n replicated t).lease
@@ -145,7 +144,7 @@ overridden : (row : Option Status) (k : Key) (held : Option Record) → Stands k
 overridden row k None at = tt
 overridden row k (Some r) at = under_row-key row r.instance ∙ at
 
-renews : (k : Key) (held : Option Record) (row : Option Status) (expected : ℕ) (dirty : Option Stamp) (overridden : Option Status) (replicated : Bool) (t : ℕ)
+renews : (k : Key) (held : Option Record) (row : Option Status) (expected : ℕ) (dirty : Option ℕ) (overridden : Option Status) (replicated : Bool) (t : ℕ)
     → Stands k held → Stands k (renew held row expected dirty overridden replicated t).lease
 renews k None row expected dirty overridden replicated t at = tt
 renews k (Some r) row expected dirty overridden replicated t at =
@@ -159,7 +158,7 @@ cancels : (k : Key) (held : Option Record) (expected : ℕ) → Stands k (cancel
 cancels k None expected = tt
 cancels k (Some r) expected = tt
 
-sets : (k : Key) (permitted : Bool) (held : Option Record) (row : Option Status) (expected : ℕ) (status : Status) (dirty : Option Stamp) (t : ℕ)
+sets : (k : Key) (permitted : Bool) (held : Option Record) (row : Option Status) (expected : ℕ) (status : Status) (dirty : Option ℕ) (t : ℕ)
     → Stands k held → Stands k (set_status (seen permitted t held) held row expected status dirty t).lease
 sets k permitted None row expected status dirty t at = tt
 sets k permitted (Some r) row expected status dirty t at =
@@ -171,7 +170,7 @@ sets k permitted (Some r) row expected status dirty t at =
       ]
     ]
 
-unsets : (k : Key) (permitted : Bool) (held : Option Record) (row : Option Status) (expected : ℕ) (suggested : Option Status) (dirty : Option Stamp) (t : ℕ)
+unsets : (k : Key) (permitted : Bool) (held : Option Record) (row : Option Status) (expected : ℕ) (suggested : Option Status) (dirty : Option ℕ) (t : ℕ)
     → Stands k held → Stands k (unset_status (seen permitted t held) held row expected suggested dirty t).lease
 unsets k permitted None row expected suggested dirty t at = tt
 unsets k permitted (Some r) None expected suggested dirty t at =

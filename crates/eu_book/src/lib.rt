@@ -7,6 +7,7 @@
 #![tactic(auto)]
 
 mod book;
+mod desk;
 mod entering;
 mod journal;
 mod peers;

@@ -1,4 +1,4 @@
-//! Tests of the registry with its journal, and of what is left of one that was closed.
+//! Tests of the registry with its journal, alone, through its lock, and closed.
 #![tactic(auto)]
 
 #[cfg(test)]

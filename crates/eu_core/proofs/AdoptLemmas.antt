@@ -18,8 +18,8 @@ settled chosen row held replicated = record chosen { status = rule chosen.status
 same_joined : (h n : Instance) (row : Status) (replicated : Bool) → joined (Some h) (Some row) n replicated ≡ joined (Some (record h { overridden = row })) (Some row) n replicated
 same_joined h n row replicated =
     elim (nat_lt n.dirty h.dirty) as (λ b.
-    settled (cond b (record h { secs = n.secs; secs_bound = n.secs_bound }) n) row h.status replicated
-    ≡ settled (cond b (record h { overridden = row; secs = n.secs; secs_bound = n.secs_bound }) n) row h.status replicated) [ true ↦ refl | false ↦ refl ]
+    settled (cond b (record h { secs = n.secs }) n) row h.status replicated
+    ≡ settled (cond b (record h { overridden = row; secs = n.secs }) n) row h.status replicated) [ true ↦ refl | false ↦ refl ]
 
 pub adopt_registers : (held : Option Listed) (row : Option Status) (e : ℕ) (n : Instance) (t : ℕ) → kept_register held (option_or (told n.overridden) row) e n true t ≡ kept_adopt held row e n t
 adopt_registers None row e n t = refl

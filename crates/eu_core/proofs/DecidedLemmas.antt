@@ -1,5 +1,5 @@
 -- What is decided is a change of the rule book, and carried out it is a step of the machine
-use Rattle.std.proofs.Common.{◌≡◌, ℕ, ◌+◌, ◌≤◌, ◌^◌, Bool, true, false, true≢false, sym, ap, subst}
+use Rattle.std.proofs.Common.{◌≡◌, ℕ, ◌+◌, ◌≤◌, ◌^◌, Bool, false, true≢false, sym, ap, subst}
 use Rattle.std.specs.Prelude.{if◌then◌else◌, Option, None, Ok}
 use Rattle.std.specs.FinMap.{FinMap, get}
 use Rattle.eu_base.specs.declared.names.Key.{Key}
@@ -14,28 +14,14 @@ use Rattle.eu_model.specs.Plain.{Plain}
 use Rattle.eu_core.specs.declared.decision.Change.{Change as Decided}
 use Rattle.eu_core.specs.declared.decision.Decision.{Decision}
 use Rattle.eu_core.specs.declared.decision.LeaseChange.{LeaseChange}
-use Rattle.eu_core.specs.declared.decision.LeaseChange.TheVariants.{Stays, Renewed, Amended, Rejoined, Replaced, Begun, Ended}
-use Rattle.eu_core.specs.Decided.{count_fault, is_in_place, left, IsChange, IsNew, IsOf, IsReady}
+use Rattle.eu_core.specs.declared.decision.LeaseChange.TheVariants.{Stays, Amended, Begun, Ended}
+use Rattle.eu_core.specs.Decided.{begins, count_fault, left, IsChange, IsNew, IsReady}
 
--- ---- changes in place
-
-pub in_place-of : (k : Key) (x : LeaseChange) → is_in_place x ≡ true → IsOf k x
-in_place-of k Stays e = tt
-in_place-of k (Renewed t) e = tt
-in_place-of k (Amended t status overridden dirty comes_up) e = tt
-in_place-of k (Rejoined newcomer status overridden lease) e = absurd (true≢false (sym e))
-in_place-of k (Replaced by) e = absurd (true≢false (sym e))
-in_place-of k (Begun by) e = absurd (true≢false (sym e))
-in_place-of k Ended e = tt
-
-pub in_place-new : (leases : FinMap key_cmp Listed) (x : LeaseChange) → is_in_place x ≡ true → IsNew leases x
-in_place-new leases Stays e = tt
-in_place-new leases (Renewed t) e = tt
-in_place-new leases (Amended t status overridden dirty comes_up) e = tt
-in_place-new leases (Rejoined newcomer status overridden lease) e = tt
-in_place-new leases (Replaced by) e = tt
-in_place-new leases (Begun by) e = absurd (true≢false (sym e))
-in_place-new leases Ended e = tt
+pub in_place-new : (leases : FinMap key_cmp Listed) (k : Key) (x : LeaseChange) → begins x ≡ false → IsNew leases k x
+in_place-new leases k Stays e = tt
+in_place-new leases k (Amended a) e = tt
+in_place-new leases k (Begun by) e = absurd (true≢false e)
+in_place-new leases k Ended e = tt
 
 -- ---- a decision that is a change is a step
 
@@ -61,10 +47,9 @@ pub known : (p : Plain) (command : Command) (t : ℕ) (k : Key) (d : Decision) (
 known p command t k d held x change c at ex h same answers = answered p command t k d held (change p.expected) c at (subst (λ z. IsChange d held (change z)) ex h) same answers
 
 -- what is decided in place, and counts nothing, can be carried out
-pub ready_in_place : (p : Plain) (k : Key) (x : Decided) → is_in_place x.lease ≡ true → x.expected ≤ 2 ^ 40 → count_fault x.counted p.since ≡ None → IsReady p k x
+pub ready_in_place : (p : Plain) (k : Key) (x : Decided) → begins x.lease ≡ false → x.expected ≤ 2 ^ 40 → count_fault x.counted p.since ≡ None → IsReady p k x
 ready_in_place p k x in_place bound countable = record {
-  of = in_place-of k x.lease in_place;
-  new = in_place-new p.leases x.lease in_place;
+  new = in_place-new p.leases k x.lease in_place;
   bound = bound;
   countable = countable;
 }

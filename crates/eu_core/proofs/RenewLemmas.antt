@@ -1,17 +1,13 @@
 -- What is decided of a renewal is the rule book's change
-use Rattle.std.proofs.Common.{◌≡◌, ℕ, ◌<◌, ◌≤◌, ◌^◌, Bool, true, false, refl, sym, ap, ◌∙◌, subst, arith}
-use Rattle.std.specs.Prelude.{cond, Option, Some, None, Result, Ok, Err, IfOk, IfErr, OnOk, ◌&&◌, nat_lt}
-use Rattle.std.proofs.lemmas.Bool.Decides.{nat_tests}
+use Rattle.std.proofs.Common.{◌≡◌, ℕ, ◌≤◌, ◌^◌, Bool, false, refl, sym, ap, ◌∙◌, subst}
+use Rattle.std.specs.Prelude.{Option, None, Result, Ok, Err, IfOk, IfErr, OnOk}
 use Rattle.eu_base.specs.declared.statuses.Status.{Status}
 use Rattle.std.specs.FinMap.{get}
 use Rattle.eu_base.specs.declared.faults.Fault.{Fault}
 use Rattle.eu_base.specs.declared.faults.Fault.TheVariants.{OutOfMemory}
 use Rattle.eu_base.specs.declared.names.Key.{Key}
-use Rattle.eu_base.specs.declared.times.Stamp.{Stamp}
-use Rattle.eu_base.specs.declared.instances.Instance.{Instance}
 use Rattle.eu_model.specs.declared.views.Listed.{Listed}
-use Rattle.eu_model.specs.declared.commands.Reply.TheVariants.{Done, Stale, Conflict}
-use Rattle.eu_model.specs.Change.{Change, renew_reply}
+use Rattle.eu_model.specs.Change.{Change}
 use Rattle.eu_model.specs.declared.commands.Command.TheVariants.{Renew}
 use Rattle.eu_model.specs.Answers.{Answers, IsRefusal}
 use Rattle.eu_model.specs.Plain.{Plain}
@@ -19,20 +15,12 @@ use Rattle.eu_model.specs.Kept.{kept_renew, kept_renew_fault}
 use Rattle.eu_model.proofs.RenewLemmas.{renews, renew_answers, renew_refused}
 use Rattle.eu_meter.specs.Meter.{Counted}
 use Rattle.eu_core.specs.declared.decision.Decision.{Decision}
-use Rattle.eu_core.specs.Decided.{count_fault, counted, is_in_place, Decides, IsChange}
+use Rattle.eu_core.specs.Decided.{count_fault, counted, begins, Decides, IsChange}
 use Rattle.eu_core.proofs.DecidedLemmas.{known, ready_in_place}
-
--- a peer with a smaller stamp is told the instance
-pub conflict_reply : (i : Instance) (d : Stamp) (r : Bool) → d.value < i.dirty → r ≡ true → renew_reply (Some d) i r ≡ Conflict i
-conflict_reply i d r less replicated =
-    let none : nat_lt i.dirty d.value ≡ false = grind (arith, nat_tests, less) in
-    let some : nat_lt d.value i.dirty ≡ true = grind (arith, nat_tests, less) in
-    ap (λ b. cond b Stale (cond (nat_lt d.value i.dirty && r) (Conflict i) Done)) none
-    ∙ (λ x. cond (some x && replicated x) (Conflict i) Done)
 
 -- ---- what is decided, where a registry is renewed
 
-module _ (p : Plain) (k : Key) (dirty : Option Stamp) (overridden : Option Status) (r : Bool) (t : ℕ) (decision : Result Decision Fault)
+module _ (p : Plain) (k : Key) (dirty : Option ℕ) (overridden : Option Status) (r : Bool) (t : ℕ) (decision : Result Decision Fault)
     (held : Option Listed) (row : Option Status) (x : ℕ) (y : Counted)
     (at : held ≡ get p.leases k) (has : row ≡ get p.rows k.id) (ex : x ≡ p.expected) (counts : y ≡ counted p) where
   abbrev changes : ℕ → Change Listed
@@ -46,11 +34,11 @@ module _ (p : Plain) (k : Key) (dirty : Option Stamp) (overridden : Option Statu
       (λ i. count_fault (changes (ex i)).counted (counts i).since)
       ∙ ap (λ (z : Change Listed). count_fault z.counted p.since) same
 
-  pub renewal_decides : IfOk decision (λ d. IsChange d held (changes x)) → OnOk decision (count_fault (changes x).counted y.since ≡ None) → IfOk decision (λ d. is_in_place d.change.lease ≡ true) → IfOk decision (λ d. d.change.expected ≤ 2 ^ 40)
+  pub renewal_decides : IfOk decision (λ d. IsChange d held (changes x)) → OnOk decision (count_fault (changes x).counted y.since ≡ None) → IfOk decision (λ d. begins d.change.lease ≡ false) → IfOk decision (λ d. d.change.expected ≤ 2 ^ 40)
       → IfOk decision (Decides p (Renew k dirty overridden r) t k)
   renewal_decides = by decision
     where
-      by : (z : Result Decision Fault) → IfOk z (λ d. IsChange d held (changes x)) → OnOk z (count_fault (changes x).counted y.since ≡ None) → IfOk z (λ d. is_in_place d.change.lease ≡ true) → IfOk z (λ d. d.change.expected ≤ 2 ^ 40)
+      by : (z : Result Decision Fault) → IfOk z (λ d. IsChange d held (changes x)) → OnOk z (count_fault (changes x).counted y.since ≡ None) → IfOk z (λ d. begins d.change.lease ≡ false) → IfOk z (λ d. d.change.expected ≤ 2 ^ 40)
           → IfOk z (Decides p (Renew k dirty overridden r) t k)
       by (Err f) h none in_place bound = tt
       by (Ok d) h none in_place bound = record {

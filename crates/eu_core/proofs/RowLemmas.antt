@@ -2,7 +2,7 @@
 use Rattle.std.proofs.Common.{◌≡◌, ℕ, List, true, true≢false, refl, sym, ap, ◌∙◌}
 use Rattle.std.specs.Prelude.{Option, Some, None}
 use Rattle.std.specs.Option.{option_eq, option_map}
-use Rattle.std.specs.FinMap.{FinMap, get, insert}
+use Rattle.std.specs.FinMap.{FinMap, get}
 use Rattle.eu_base.specs.contracts.statuses.StatusPartialEq.TheImpl.{eq-value}
 use Rattle.eu_base.specs.declared.statuses.Status.{Status}
 use Rattle.eu_base.specs.declared.statuses.Status.TheVariants.{Up, Down, Starting, OutOfService, Unknown}
@@ -11,7 +11,7 @@ use Rattle.eu_base.specs.Key.{name_cmp, key_cmp}
 use Rattle.eu_model.specs.declared.views.Listed.{Listed}
 use Rattle.eu_model.specs.Maps.{with_value}
 use Rattle.eu_store.specs.Stored.{changed}
-use Rattle.eu_store.proofs.TableLemmas.{by_key, by_name, changed-absent, changed-found, get_inserted, insert_again, insert_same, remove_absent}
+use Rattle.eu_store.proofs.TableLemmas.{by_key, by_name, changed-absent, changed-found, insert_same, remove_absent}
 
 pub with_row-same : (rows : FinMap name_cmp Status) (id : List ℕ) (row : Option Status) → get rows id ≡ row → with_value rows id row ≡ rows
 with_row-same rows id None e = remove_absent by_name rows id e
@@ -28,19 +28,6 @@ changed_value f m k = by (get m k) refl
     by : (o : Option Listed) → get m k ≡ o → changed f m k ≡ with_value m k (option_map f (get m k))
     by None e = changed-absent by_key f m k e ∙ sym (ap (λ o. with_value m k (option_map f o)) e ∙ with_lease-same m k None e)
     by (Some l) e = changed-found by_key f m k l e ∙ sym (ap (λ o. with_value m k (option_map f o)) e)
-
--- changed twice
-pub changed_twice : (f g : Listed → Listed) (m : FinMap key_cmp Listed) (k : Key) → changed f (changed g m k) k ≡ changed (λ l. f (g l)) m k
-changed_twice f g m k = by (get m k) refl
-  where
-    by : (o : Option Listed) → get m k ≡ o → changed f (changed g m k) k ≡ changed (λ l. f (g l)) m k
-    by None e =
-        ap (λ n. changed f n k) (changed-absent by_key g m k e) ∙ changed-absent by_key f m k e ∙ sym (changed-absent by_key (λ l. f (g l)) m k e)
-    by (Some l) e =
-        ap (λ n. changed f n k) (changed-found by_key g m k l e)
-        ∙ changed-found by_key f (insert m k (g l)) k (g l) (get_inserted by_key m k (g l))
-        ∙ insert_again by_key m k (g l) (f (g l))
-        ∙ sym (changed-found by_key (λ l. f (g l)) m k l e)
 
 -- rows that are equal by their test are equal
 same_value : (a b : Status) → eq-value.it a b ≡ true → a ≡ b

@@ -15,51 +15,29 @@ use Rattle.eu_model.specs.Change.{Change}
 use Rattle.eu_model.specs.Maps.{with_value}
 use Rattle.eu_model.specs.Plain.{Plain}
 use Rattle.eu_meter.specs.Meter.{Counted}
-use Rattle.eu_store.specs.Stored.{renewed_at, amended, upped_at, rejoined}
+use Rattle.eu_store.specs.Stored.{amended}
 use Rattle.eu_core.specs.declared.decision.Change.{Change as Decided}
 use Rattle.eu_core.specs.declared.decision.Decision.{Decision}
 use Rattle.eu_core.specs.declared.decision.LeaseChange.{LeaseChange}
-use Rattle.eu_core.specs.declared.decision.LeaseChange.TheVariants.{Stays, Renewed, Amended, Rejoined, Replaced, Begun, Ended}
+use Rattle.eu_core.specs.declared.decision.LeaseChange.TheVariants.{Stays, Amended, Begun, Ended}
 
 -- ---- what becomes of a lease
-
--- its instance up now, where it comes up
-abbrev pub marked : Bool → ℕ → Listed → Listed
-marked comes_up t l = if comes_up then upped_at t l else l
 
 -- what is held then, of what is held before
 abbrev pub lease_left : LeaseChange → Option Listed → Option Listed
 lease_left Stays held = held
-lease_left (Renewed t) held = option_map (renewed_at t) held
-lease_left (Amended t status overridden dirty comes_up) held =
-    option_map (λ l. marked comes_up t (amended status overridden dirty (renewed_at t l))) held
-lease_left (Rejoined newcomer status overridden lease) held = option_map (rejoined newcomer.value status overridden lease) held
-lease_left (Replaced by) held = option_map (λ l. by) held
+lease_left (Amended a) held = option_map (amended a) held
 lease_left (Begun by) held = Some by
 lease_left Ended held = None
-
--- it begins, replaces and keeps nothing anew, so it wants no memory
-abbrev pub is_in_place : LeaseChange → Bool
-is_in_place (Rejoined newcomer status overridden lease) = false
-is_in_place (Replaced by) = false
-is_in_place (Begun by) = false
-is_in_place _ = true
 
 abbrev pub begins : LeaseChange → Bool
 begins (Begun by) = true
 begins _ = false
 
--- a change of the lease of that key
-abbrev pub IsOf : Key → LeaseChange → Type 0
-IsOf k (Rejoined newcomer status overridden lease) = (newcomer.value.key ≡ k) × (lease.secs ≡ newcomer.value.secs)
-IsOf k (Replaced by) = by.instance.key ≡ k
-IsOf k (Begun by) = by.instance.key ≡ k
-IsOf k _ = Unit {0}
-
 -- a lease begins only where its key isn't held, and there may be one more
-abbrev pub IsNew : FinMap key_cmp Listed → LeaseChange → Type 0
-IsNew leases (Begun by) = (get leases by.instance.key ≡ None) × (len leases < 65536)
-IsNew leases _ = Unit {0}
+abbrev pub IsNew : FinMap key_cmp Listed → Key → LeaseChange → Type 0
+IsNew leases k (Begun by) = (get leases k ≡ None) × (len leases < 65536)
+IsNew leases k _ = Unit {0}
 
 -- ---- what becomes of the row of an id
 
@@ -103,8 +81,7 @@ left p k x = record p {
 
 -- it can be carried out: nothing but want of memory stands in its way
 pub record IsReady (p : Plain) (k : Key) (x : Decided) : Type 0 where
-  pub of : IsOf k x.lease
-  pub new : IsNew p.leases x.lease
+  pub new : IsNew p.leases k x.lease
   pub bound : x.expected ≤ 2 ^ 40
   pub countable : count_fault x.counted p.since ≡ None
 
@@ -116,5 +93,5 @@ pub record Decides (p : Plain) (c : Command) (t : ℕ) (k : Key) (d : Decision) 
 
 -- it wants no memory
 pub record IsFrugal (row : Option Status) (x : Decided) : Type 0 where
-  pub lease : is_in_place x.lease ≡ true
+  pub lease : begins x.lease ≡ false
   pub row_is : (x.row ≡ row) ⊎ (x.row ≡ None)

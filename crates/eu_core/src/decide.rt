@@ -6,7 +6,7 @@ ghost use Rattle.eu_model.specs.declared.views.Listed.{Listed};
 ghost use Rattle.eu_model.specs.Answers.{IsRefusal};
 ghost use Rattle.eu_model.specs.Change.{renew_reply};
 ghost use Rattle.eu_model.specs.Kept.{kept_cancel, kept_renew, kept_set_status, kept_unset_status};
-ghost use Rattle.eu_core.specs.Decided.{count_fault, decided, is_in_place, IsChange};
+ghost use Rattle.eu_core.specs.Decided.{begins, count_fault, decided, IsChange};
 
 use crate::decision::{Change, Decision, LeaseChange};
 use crate::statuses::brought;
@@ -14,7 +14,7 @@ use eu_base::{BoxedInstance, Fault, Instance, Moment, Stamp, Status};
 use eu_lease::{is_status, override_rule};
 use eu_meter::Rate;
 use eu_model::Reply;
-use eu_store::Held;
+use eu_store::{Amendment, Held};
 use std::alloc::{AllocError, Global};
 
 /// What is known beside the lease when a command on it is decided.
@@ -40,7 +40,7 @@ pub fn decide_renewal(
 ) -> Result<Decision, Fault>
     ensures change { IfOk result (λ d. IsChange d (option_copied held.entry) (kept_renew (option_copied held.entry) known.row known.expected dirty overridden replicated moment)) }
     ensures counted { OnOk result (count_fault (kept_renew (option_copied held.entry) known.row known.expected dirty overridden replicated moment).counted known.rate.since ≡ None) }
-    ensures in_place { IfOk result (λ d. is_in_place d.change.lease ≡ true) }
+    ensures in_place { IfOk result (λ d. begins d.change.lease ≡ false) }
     ensures few { IfOk result (λ d. d.change.expected ≤ known.expected) }
     ensures frugal { (dirty ≡ None) ⊎ (replicated ≡ false) → IfOk result (λ d. d.change.row ≡ known.row) }
     ensures refused { IfErr result (λ f. IsRefusal (count_fault (kept_renew (option_copied held.entry) known.row known.expected dirty overridden replicated moment).counted known.rate.since) f) }
@@ -60,13 +60,13 @@ pub fn decide_renewal(
     let brought = brought(&reply, overridden, known.row, replicated);
     Ok(Decision {
         change: Change {
-            lease: LeaseChange::Amended {
+            lease: LeaseChange::Amended(Amendment::InStatuses {
                 moment,
                 status,
                 overridden: brought.unwrap_or(instance.overridden),
                 dirty: None,
                 comes_up: false,
-            },
+            }),
             row: brought.or(known.row),
             expected: known.expected,
             counted: true,
@@ -91,10 +91,10 @@ fn renew_reply(
     let Some(stamp) = dirty else {
         return Ok(Reply::Done);
     };
-    if stamp.value > instance.dirty {
+    if stamp.value() > instance.dirty.value() {
         return Ok(Reply::Stale);
     }
-    if stamp.value < instance.dirty && replicated {
+    if stamp.value() < instance.dirty.value() && replicated {
         let mut now = instance.copy(alloc)?;
         now.status = status;
         return Ok(Reply::Conflict(BoxedInstance::new(alloc, now)?));
@@ -112,7 +112,7 @@ pub fn decide_status(
 ) -> Decision
     ensures change { (held : Option Listed) → ((l : Listed) → option_copied seen.entry ≡ Some l → held ≡ Some l)
         → IsChange result held (kept_set_status (option_copied seen.entry) held known.row known.expected status dirty moment) }
-    ensures in_place { is_in_place result.change.lease ≡ true }
+    ensures in_place { begins result.change.lease ≡ false }
     ensures few { result.change.expected ≤ known.expected }
     ensures uncounted { result.change.counted ≡ false }
 {
@@ -124,13 +124,13 @@ pub fn decide_status(
     }
     Decision {
         change: Change {
-            lease: LeaseChange::Amended {
+            lease: LeaseChange::Amended(Amendment::InStatuses {
                 moment,
                 status,
                 overridden: status,
                 dirty,
                 comes_up: is_status(status, Status::Up),
-            },
+            }),
             row: Some(status),
             expected: known.expected,
             counted: false,
@@ -149,7 +149,7 @@ pub fn decide_no_status(
 ) -> Decision
     ensures change { (held : Option Listed) → ((l : Listed) → option_copied seen.entry ≡ Some l → held ≡ Some l)
         → IsChange result held (kept_unset_status (option_copied seen.entry) held known.row known.expected status dirty moment) }
-    ensures in_place { is_in_place result.change.lease ≡ true }
+    ensures in_place { begins result.change.lease ≡ false }
     ensures few { result.change.expected ≤ known.expected }
     ensures uncounted { result.change.counted ≡ false }
     ensures frugal { (result.change.row ≡ known.row) ⊎ (result.change.row ≡ None) }
@@ -162,13 +162,13 @@ pub fn decide_no_status(
     };
     Decision {
         change: Change {
-            lease: LeaseChange::Amended {
+            lease: LeaseChange::Amended(Amendment::InStatuses {
                 moment,
                 status: status.unwrap_or(Status::Unknown),
                 overridden: Status::Unknown,
                 dirty,
                 comes_up: false,
-            },
+            }),
             row: None,
             expected: known.expected,
             counted: false,
@@ -180,7 +180,7 @@ pub fn decide_no_status(
 /// A cancel (`AbstractInstanceRegistry.internalCancel`).
 pub fn decide_cancel(held: Option<&Held>, known: Known) -> Decision
     ensures change { IsChange result (option_copied held.entry) (kept_cancel (option_copied held.entry) known.expected) }
-    ensures in_place { is_in_place result.change.lease ≡ true }
+    ensures in_place { begins result.change.lease ≡ false }
     ensures few { result.change.expected ≤ known.expected }
     ensures uncounted { result.change.counted ≡ false }
     ensures row { result.change.row ≡ None }
@@ -212,11 +212,11 @@ fn unchanged(known: Known, reply: Reply) -> Decision
 
 /// The lease is renewed, and not counted.
 fn renewed(known: Known, moment: Moment) -> Decision
-    ensures { result ≡ decided (LeaseChange.Renewed moment) known.row known.expected Reply.Done }
+    ensures { result ≡ decided (LeaseChange.Amended (Amendment.Renewed moment)) known.row known.expected Reply.Done }
 {
     Decision {
         change: Change {
-            lease: LeaseChange::Renewed { moment },
+            lease: LeaseChange::Amended(Amendment::Renewed { moment }),
             row: known.row,
             expected: known.expected,
             counted: false,

@@ -3,14 +3,12 @@ ghost use Rattle.std.specs.Prelude.{◌≡◌, ◌<◌, true, false, None, IfOk,
 ghost use Rattle.std.specs.Option.{option_map};
 ghost use Rattle.std.specs.FinMap as map;
 ghost use Rattle.eu_model.specs.Maps.{with_value};
-ghost use Rattle.eu_core.specs.Decided.{begins, is_new, lease_left, marked, new_id, IsOf};
-ghost use Rattle.eu_store.specs.Stored.{changed, renewed_at, amended};
+ghost use Rattle.eu_core.specs.Decided.{begins, is_new, lease_left, new_id};
 
-use eu_base::{Fault, Id, Instance, Key, Moment, Stamp, Status};
+use eu_base::{Fault, Id, Key, Status};
 use eu_eviction::Overrides;
-use eu_lease::Lease;
 use eu_model::Reply;
-use eu_store::{Held, Leases, Place};
+use eu_store::{Amendment, Held, Leases, Place};
 use std::alloc::{AllocError, Global};
 
 /// What becomes of the lease of a key.
@@ -18,28 +16,8 @@ use std::alloc::{AllocError, Global};
 pub enum LeaseChange {
     /// It stays, where one is held.
     Stays,
-    /// It is renewed.
-    Renewed {
-        moment: Moment,
-    },
-    /// It is renewed, with its instance in these statuses; a greater stamp replaces the held one. Where its instance comes up, the
-    /// moment is kept, if it is the first.
-    Amended {
-        moment: Moment,
-        status: Status,
-        overridden: Status,
-        dirty: Option<Stamp>,
-        comes_up: bool,
-    },
-    /// It begins anew, and keeps its instance, but for these statuses and the duration of a newcomer, who isn't taken.
-    Rejoined {
-        newcomer: Box<Instance>,
-        status: Status,
-        overridden: Status,
-        lease: Lease,
-    },
-    /// This takes its place.
-    Replaced(Held),
+    /// It is amended, where one is held.
+    Amended(Amendment),
     /// It begins.
     Begun(Held),
     /// It ends.
@@ -84,60 +62,18 @@ pub fn begin(leases: &mut Leases, alloc: Global, key: &Key, held: Held) -> Resul
 /// Carries out what becomes of the lease of a key, which was found at that place, but for one that begins. Takes no memory.
 #[inline(always)]
 pub fn write_lease(leases: &mut Leases, key: &Key, place: Place, change: LeaseChange)
-    requires of { IsOf key.now change }
-    requires goes_on { begins change ≡ false }
+    requires { begins change ≡ false }
     ensures { leases.new.held ≡ with_value leases.old.held key.now (lease_left change (map.get leases.old.held key.now)) }
 {
     match change {
         LeaseChange::Stays => {}
-        LeaseChange::Renewed { moment } => {
-            leases.renew(key, place, moment);
-        }
-        LeaseChange::Amended {
-            moment,
-            status,
-            overridden,
-            dirty,
-            comes_up,
-        } => {
-            amend(
-                leases, key, place, moment, status, overridden, dirty, comes_up,
-            );
-        }
-        LeaseChange::Rejoined {
-            newcomer,
-            status,
-            overridden,
-            lease,
-        } => {
-            leases.rejoin(place, &newcomer, status, overridden, lease);
-        }
-        LeaseChange::Replaced(held) => {
-            leases.replace(place, held);
+        LeaseChange::Amended(amendment) => {
+            leases.amend(key, place, amendment);
         }
         LeaseChange::Begun(_) => unreachable!(),
         LeaseChange::Ended => {
             leases.take(key, place);
         }
-    }
-}
-
-/// Renews the lease of a key, if one is held, and amends its instance. Takes no memory.
-fn amend(
-    leases: &mut Leases,
-    key: &Key,
-    place: Place,
-    moment: Moment,
-    status: Status,
-    overridden: Status,
-    dirty: Option<Stamp>,
-    comes_up: bool,
-)
-    ensures { leases.new.held ≡ changed (λ l. marked comes_up moment (amended status overridden dirty (renewed_at moment l))) leases.old.held key.now }
-{
-    leases.renew_as(key, place, moment, status, overridden, dirty);
-    if comes_up {
-        leases.mark_up(key, place, moment);
     }
 }
 

@@ -1,12 +1,12 @@
 //! What a registration decides.
-ghost use Rattle.std.specs.Prelude.{◌≡◌, ◌<◌, ◌≤◌, IfOk, None, Some};
+ghost use Rattle.std.specs.Prelude.{◌≡◌, ◌<◌, ◌≤◌, false, IfOk, None, Some};
 ghost use Rattle.std.specs.FinMap as map;
 ghost use Rattle.std.specs.FinMap.{FinMap};
 ghost use Rattle.std.specs.Option.{option_copied};
 ghost use Rattle.eu_base.specs.Key.{key_cmp};
 ghost use Rattle.eu_model.specs.declared.views.Listed.{Listed};
 ghost use Rattle.eu_model.specs.Change.{up_after};
-ghost use Rattle.eu_core.specs.Decided.{IsNew, IsOf};
+ghost use Rattle.eu_core.specs.Decided.{begins, IsNew};
 ghost use Rattle.eu_core.specs.Joins.{Joins};
 
 use crate::decide::Known;
@@ -15,7 +15,7 @@ use crate::statuses::settle;
 use eu_base::{Instance, Moment, Status};
 use eu_lease::Lease;
 use eu_model::Reply;
-use eu_store::Held;
+use eu_store::{Amendment, Held};
 use std::alloc::{AllocError, Global};
 
 /// A lease that begins with its instance in this status.
@@ -40,13 +40,12 @@ pub fn decide_join(
     moment: Moment,
 ) -> Result<Decision, AllocError>
     ensures joins { IfOk result (λ d. Joins d (option_copied held.entry) known.row known.expected instance.now replicated moment) }
-    ensures of { IfOk result (λ d. IsOf instance.now.key d.change.lease) }
-    ensures new { IfOk result (λ d. (leases : FinMap key_cmp Listed) → option_copied held.entry ≡ map.get leases instance.now.key → (option_copied held.entry ≡ None → map.len leases < 65536) → IsNew leases d.change.lease) }
+    ensures new { IfOk result (λ d. (leases : FinMap key_cmp Listed) → option_copied held.entry ≡ map.get leases instance.now.key → (option_copied held.entry ≡ None → map.len leases < 65536) → IsNew leases instance.now.key d.change.lease) }
 {
     match held {
         None => join_new(alloc, instance, known, replicated, moment),
-        Some(held) if instance.dirty < held.instance().dirty => {
-            join_under(alloc, instance, held, known, replicated, moment)
+        Some(held) if instance.dirty.value() < held.instance().dirty.value() => {
+            Ok(join_under(instance, held, known, replicated, moment))
         }
         Some(held) => join_over(alloc, instance, held, known, replicated, moment),
     }
@@ -76,8 +75,7 @@ fn join_new(
     moment: Moment,
 ) -> Result<Decision, AllocError>
     ensures joins { IfOk result (λ d. Joins d None known.row known.expected instance.now replicated moment) }
-    ensures of { IfOk result (λ d. IsOf instance.now.key d.change.lease) }
-    ensures new { IfOk result (λ d. (leases : FinMap key_cmp Listed) → map.get leases instance.now.key ≡ None → map.len leases < 65536 → IsNew leases d.change.lease) }
+    ensures new { IfOk result (λ d. (leases : FinMap key_cmp Listed) → map.get leases instance.now.key ≡ None → map.len leases < 65536 → IsNew leases instance.now.key d.change.lease) }
 {
     let settled = settle(
         instance.status,
@@ -112,8 +110,7 @@ fn join_over(
 ) -> Result<Decision, AllocError>
     requires { held.now.instance.dirty ≤ instance.now.dirty }
     ensures joins { IfOk result (λ d. Joins d (Some held.now) known.row known.expected instance.now replicated moment) }
-    ensures of { IfOk result (λ d. IsOf instance.now.key d.change.lease) }
-    ensures new { IfOk result (λ d. (leases : FinMap key_cmp Listed) → IsNew leases d.change.lease) }
+    ensures stays { IfOk result (λ d. begins d.change.lease ≡ false) }
 {
     let settled = settle(
         instance.status,
@@ -128,7 +125,7 @@ fn join_over(
     let held = Held::new(instance, lease);
     Ok(Decision {
         change: Change {
-            lease: LeaseChange::Replaced(held),
+            lease: LeaseChange::Amended(Amendment::Replaced(held)),
             row: settled.row,
             expected: known.expected,
             counted: false,
@@ -137,19 +134,17 @@ fn join_over(
     })
 }
 
-/// The registration of an instance whose key is held with a greater stamp: the held one stays. `AllocError` where no memory is left.
+/// The registration of an instance whose key is held with a greater stamp: the held one stays. Takes no memory.
 fn join_under(
-    alloc: Global,
     newcomer: &Instance,
     held: &Held,
     known: Known,
     replicated: bool,
     moment: Moment,
-) -> Result<Decision, AllocError>
+) -> Decision
     requires { newcomer.now.dirty < held.now.instance.dirty }
-    ensures joins { IfOk result (λ d. Joins d (Some held.now) known.row known.expected newcomer.now replicated moment) }
-    ensures of { IfOk result (λ d. IsOf newcomer.now.key d.change.lease) }
-    ensures new { IfOk result (λ d. (leases : FinMap key_cmp Listed) → IsNew leases d.change.lease) }
+    ensures joins { Joins result (Some held.now) known.row known.expected newcomer.now replicated moment }
+    ensures stays { begins result.change.lease ≡ false }
 {
     let own = held.instance();
     let settled = settle(
@@ -161,19 +156,17 @@ fn join_under(
     );
     let anew = held.lease().anew(moment, newcomer.secs);
     let lease = begun(anew, settled.status, moment);
-    let newcomer = Box::new(alloc, newcomer.copy(alloc)?)?;
-    Ok(Decision {
+    Decision {
         change: Change {
-            lease: LeaseChange::Rejoined {
-                newcomer,
+            lease: LeaseChange::Amended(Amendment::Rejoined {
                 status: settled.status,
                 overridden: settled.overridden,
                 lease,
-            },
+            }),
             row: settled.row,
             expected: known.expected,
             counted: false,
         },
         reply: Reply::Registered { fresh: false },
-    })
+    }
 }

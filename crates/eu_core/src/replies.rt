@@ -2,16 +2,15 @@
 ghost use Rattle.std.specs.Prelude.{◌≡◌, true, replicate, IfOk, IsOk};
 ghost use Rattle.std.specs.Option.{option_copied, option_map};
 ghost use Rattle.eu_model.specs.declared.views.Listed.{Listed};
-ghost use Rattle.eu_model.specs.Change.{stamped};
 ghost use Rattle.eu_model.specs.Owned.{owns_nothing};
 ghost use Rattle.eu_core.specs.Answered.{answered, for_log, replies_for};
 ghost use Rattle.eu_core.specs.Decided.{lease_left};
 ghost use Rattle.eu_core.specs.Stepped.{copies_of};
 
 use crate::decision::LeaseChange;
-use eu_base::{Instance, Stamp, Status};
+use eu_base::Instance;
 use eu_model::Reply;
-use eu_store::{Held, amend};
+use eu_store::Held;
 use std::alloc::{AllocError, Global};
 
 /// What a command is answered: equal replies, each for its use.
@@ -116,80 +115,12 @@ fn instance_left(
 ) -> Result<Option<Instance>, AllocError>
     ensures { IfOk result (λ left. left ≡ option_map (λ (l : Listed). l.instance) (lease_left change.now (option_copied held.entry))) }
 {
-    match change {
-        LeaseChange::Stays | LeaseChange::Renewed { .. } => same_copy(alloc, held),
-        LeaseChange::Amended {
-            status,
-            overridden,
-            dirty,
-            ..
-        } => amended_copy(alloc, held, *status, *overridden, *dirty),
-        LeaseChange::Rejoined {
-            newcomer,
-            status,
-            overridden,
-            ..
-        } => rejoined_copy(alloc, held, newcomer, *status, *overridden),
-        LeaseChange::Replaced(by) => match held {
-            Some(_) => same_copy(alloc, Some(by)),
-            None => Ok(None),
-        },
-        LeaseChange::Begun(begun) => same_copy(alloc, Some(begun)),
-        LeaseChange::Ended => Ok(None),
+    match (change, held) {
+        (LeaseChange::Stays, Some(held)) => Ok(Some(held.instance().copy(alloc)?)),
+        (LeaseChange::Amended(amendment), Some(held)) => {
+            Ok(Some(held.instance_amended(alloc, amendment)?))
+        }
+        (LeaseChange::Begun(begun), _) => Ok(Some(begun.instance().copy(alloc)?)),
+        _ => Ok(None),
     }
-}
-
-/// A copy of the instance that is held, if one is.
-fn same_copy(alloc: Global, held: Option<&Held>) -> Result<Option<Instance>, AllocError>
-    ensures { IfOk result (λ left. left ≡ option_map (λ (l : Listed). l.instance) (option_copied held.entry)) }
-{
-    match held {
-        Some(held) => Ok(Some(held.instance().copy(alloc)?)),
-        None => Ok(None),
-    }
-}
-
-/// The same in these statuses; a greater stamp replaces its own.
-fn amended_copy(
-    alloc: Global,
-    held: Option<&Held>,
-    status: Status,
-    overridden: Status,
-    dirty: Option<Stamp>,
-) -> Result<Option<Instance>, AllocError>
-    ensures { IfOk result (λ left. left ≡ option_map (λ (l : Listed). stamped dirty (record l.instance { status = status; overridden = overridden })) (option_copied held.entry)) }
-{
-    let Some(held) = held else {
-        return Ok(None);
-    };
-    let mut instance = held.instance().copy(alloc)?;
-    amend(&mut instance, status, overridden, dirty);
-    Ok(Some(instance))
-}
-
-/// The same in these statuses, with a newcomer's duration.
-fn rejoined_copy(
-    alloc: Global,
-    held: Option<&Held>,
-    newcomer: &Instance,
-    status: Status,
-    overridden: Status,
-) -> Result<Option<Instance>, AllocError>
-    ensures { IfOk result (λ left. left ≡ option_map (λ (l : Listed). record l.instance { status = status; overridden = overridden; secs = newcomer.now.secs; secs_bound = newcomer.now.secs_bound }) (option_copied held.entry)) }
-{
-    let Some(held) = held else {
-        return Ok(None);
-    };
-    let mut instance = held.instance().copy(alloc)?;
-    rejoin(&mut instance, newcomer, status, overridden);
-    Ok(Some(instance))
-}
-
-/// Puts an instance in these statuses, with a newcomer's duration.
-fn rejoin(instance: &mut Instance, newcomer: &Instance, status: Status, overridden: Status)
-    ensures { instance.new ≡ record instance.old { status = status; overridden = overridden; secs = newcomer.now.secs; secs_bound = newcomer.now.secs_bound } }
-{
-    instance.status = status;
-    instance.overridden = overridden;
-    instance.secs = newcomer.secs;
 }

@@ -19,8 +19,8 @@ use Rattle.eu_page.specs.Page.{shown_page}
 use Rattle.eu_routes.specs.Path.{path_of, parent}
 use Rattle.eu_framing.specs.declared.request.Request.{Request}
 use Rattle.eu_framing.specs.Target as target
-use Rattle.eu_http.specs.declared.exchange.Answer.{Answer}
-use Rattle.eu_http.specs.declared.exchange.Answer.TheVariants.{Did, Saw}
+use Rattle.eu_desk.specs.declared.asks.Answer.{Answer}
+use Rattle.eu_desk.specs.declared.asks.Answer.TheVariants.{Did, Saw}
 use Rattle.eu_http.specs.declared.exchange.Outcome.{Outcome}
 use Rattle.eu_http.specs.declared.exchange.Outcome.TheVariants.{Refused, Forbidden, Answers}
 use Rattle.eu_http.specs.declared.wanted.Wanted.{Wanted}

@@ -2,13 +2,14 @@
 ghost use Rattle.std.specs.Prelude.{◌≡◌, IfOk};
 ghost use Rattle.eu_http.specs.Response as spec;
 
-use crate::exchange::{Answer, Outcome};
+use crate::exchange::Outcome;
 use crate::response::{
     Response, all, bare, batch, did, item_of, of_app, one, page, refused, telling,
 };
 use crate::text::print;
 use crate::wanted::{Wanted, wanted_by};
 use eu_base::Fault;
+use eu_desk::Answer;
 use eu_framing::Request;
 use eu_model::{Counts, View};
 use http::StatusCode;

@@ -1,16 +1,7 @@
-//! What is asked of a registry, and what comes of it.
+//! What a request asks of a registry, and what comes of it.
 
 use eu_base::Fault;
-use eu_model::{Command, Query, Reply, View};
-
-/// What is asked of a registry.
-#[derive(Debug, Drop)]
-pub enum Ask {
-    /// A command.
-    Do(Command),
-    /// A query.
-    See(Query),
-}
+use eu_desk::{Answer, Ask};
 
 /// What a request asks.
 #[derive(Debug, Drop)]
@@ -19,15 +10,6 @@ pub enum Asked {
     Forbidden,
     /// These, in their order.
     Asks(Vec<Ask>),
-}
-
-/// What a registry answers.
-#[derive(Debug, Drop)]
-pub enum Answer {
-    /// To a command.
-    Did(Reply),
-    /// To a query.
-    Saw(View),
 }
 
 /// What comes of a request.

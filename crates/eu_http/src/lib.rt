@@ -12,5 +12,5 @@ mod text;
 mod wanted;
 
 pub use answers::answer;
-pub use exchange::{Answer, Ask, Asked, Outcome};
+pub use exchange::{Asked, Outcome};
 pub use requests::asks;

@@ -2,12 +2,10 @@
 ghost use Rattle.std.specs.Prelude.{◌≡◌, ◌∷◌, [], Some, IfOk, map};
 ghost use Rattle.eu_http.specs.Asks as spec;
 ghost use Rattle.eu_routes.specs.Chain.{Gives};
-ghost use Rattle.eu_json.specs.Fields.{fields_of};
-ghost use Rattle.eu_json.specs.Said as command;
-ghost use Rattle.eu_routes.specs.Route.{asked_of};
 
-use crate::exchange::{Ask, Asked};
+use crate::exchange::Asked;
 use eu_base::{App, BoxedInstance, Fault, Instance, Moment};
+use eu_desk::Ask;
 use eu_framing::Request;
 use eu_json::{read_batch, read_instance};
 use eu_model::{Command, Query};
@@ -16,7 +14,7 @@ use std::alloc::{AllocError, Global};
 
 /// The instance that a body says.
 fn instance_in(alloc: Global, app: &App, moment: Moment, body: &[u8]) -> Result<Instance, Fault>
-    ensures { Gives fields_of result (spec.instance_in app.now moment body.now) }
+    ensures { Gives (λ i. i) result (spec.instance_in app.now moment body.now) }
 {
     match str::from_utf8(body) {
         Ok(text) => read_instance(alloc, text, app, moment),
@@ -31,7 +29,7 @@ fn registration(
     request: &Request,
     moment: Moment,
 ) -> Result<Command, Fault>
-    ensures { Gives command.said_by result (spec.registration app.now request.now.replicated request.now.body.items moment) }
+    ensures { Gives (λ c. c) result (spec.registration app.now request.now.replicated request.now.body.items moment) }
 {
     let instance = instance_in(alloc, app, moment, &request.body)?;
     let instance = BoxedInstance::new(alloc, instance)?;
@@ -43,7 +41,7 @@ fn registration(
 
 /// The commands that a body says.
 fn batch_in(alloc: Global, moment: Moment, body: &[u8]) -> Result<Vec<Command>, Fault>
-    ensures { Gives (λ commands. map command.said_by commands.items) result (spec.batch_in moment body.now) }
+    ensures { Gives (λ commands. commands.items) result (spec.batch_in moment body.now) }
 {
     match str::from_utf8(body) {
         Ok(text) => read_batch(alloc, text, moment),
@@ -71,7 +69,7 @@ fn batch(alloc: Global, moment: Moment, body: &[u8]) -> Result<Asked, Fault>
 
 /// That one ask.
 fn just(alloc: Global, ask: Ask) -> Result<Asked, AllocError>
-    ensures { IfOk result (λ asked. spec.saids asked ≡ Some (spec.said_by ask ∷ [])) }
+    ensures { IfOk result (λ asked. spec.asks_in asked ≡ Some (ask ∷ [])) }
 {
     let mut asks = Vec::new(alloc);
     asks.push(ask)?;
@@ -80,7 +78,7 @@ fn just(alloc: Global, ask: Ask) -> Result<Asked, AllocError>
 
 /// What a status page shows.
 fn for_page(alloc: Global) -> Result<Asked, AllocError>
-    ensures { IfOk result (λ asked. spec.saids asked ≡ spec.for_page) }
+    ensures { IfOk result (λ asked. spec.asks_in asked ≡ spec.for_page) }
 {
     let mut asks = Vec::new(alloc);
     asks.push(Ask::See(Query::Counts))?;
@@ -90,7 +88,7 @@ fn for_page(alloc: Global) -> Result<Asked, AllocError>
 
 /// What is asked for a route.
 fn asks_for(alloc: Global, route: Route, request: &Request, moment: Moment) -> Result<Asked, Fault>
-    ensures { spec.Says result (spec.asks_for (asked_of route) request.now.replicated request.now.body.items moment) }
+    ensures { spec.Says result (spec.asks_for route request.now.replicated request.now.body.items moment) }
 {
     let replicated = request.replicated;
     let ask = match route {

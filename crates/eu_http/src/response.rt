@@ -5,8 +5,8 @@ ghost use Rattle.serde_json.specs.Written.{has_float, compact_text};
 ghost use Rattle.eu_http.specs.Response as spec;
 ghost use Rattle.eu_http.specs.Text as text;
 
-use crate::exchange::Answer;
 use eu_base::Fault;
+use eu_desk::Answer;
 use eu_json::{ItemAnswer, application_value, applications_value, batch_answer_value, held_value};
 use eu_model::{Counts, Listed, Reply};
 use eu_page::{page_of, status_page};

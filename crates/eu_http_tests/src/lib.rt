@@ -1,4 +1,4 @@
-//! Tests of the crates that read and write the JSON of instances and of batches, and of the responses of HTTP.
+//! Tests of HTTP: how requests are framed, which call they name, the JSON of instances and batches, and the responses.
 #![tactic(auto)]
 
 #[cfg(test)]

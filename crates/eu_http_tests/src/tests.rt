@@ -1,6 +1,9 @@
-//! The tests, by what they are of: the JSON of instances and of batches, and the responses to both.
+//! The tests, by what they are of.
 mod batch_responses;
 mod batches;
+mod framing;
 mod instances;
 mod memory;
+mod request_memory;
 mod responses;
+mod routes;

@@ -6,23 +6,18 @@ use Rattle.serde_json.specs.Written.{has_float, items_have_float}
 use Rattle.eu_base.specs.declared.instances.Instance.{Instance}
 use Rattle.eu_base.specs.declared.statuses.Status.{Status}
 use Rattle.eu_base.specs.declared.tasks.Task.{Task}
-use Rattle.eu_base.specs.declared.times.Stamp.{Stamp}
 use Rattle.eu_model.specs.declared.commands.Command.{Command}
 use Rattle.eu_model.specs.declared.commands.Command.TheVariants as command
 use Rattle.eu_model.specs.declared.commands.Reply.{Reply}
 use Rattle.eu_model.specs.declared.commands.Reply.TheVariants as reply
 use Rattle.eu_journal.specs.Lines.{line_tree}
-use Rattle.eu_journal_values.specs.Trees.{command_rest, command_tree, instance_tree, optional, reply_rest, reply_tree, rest_tree, stamp_tree, status_tree, task_rest, task_tree, whole_number}
+use Rattle.eu_journal_values.specs.Trees.{command_rest, command_tree, instance_tree, optional, reply_rest, reply_tree, rest_tree, status_tree, task_rest, task_tree, whole_number}
 use Rattle.eu_journal.specs.declared.lines.JournalLine.{JournalLine}
 use Rattle.eu_journal.specs.declared.lines.JournalLine.TheVariants as line
 
 whole_status : (s : Option Status) → has_float (optional status_tree s) ≡ false
 whole_status None = refl
 whole_status (Some s) = refl
-
-whole_stamp : (s : Option Stamp) → has_float (optional stamp_tree s) ≡ false
-whole_stamp None = refl
-whole_stamp (Some s) = refl
 
 whole_number_or_null : (n : Option ℕ) → has_float (optional whole_number n) ≡ false
 whole_number_or_null None = refl
@@ -41,10 +36,10 @@ whole_codes (c ∷ cs) = whole_codes cs
 
 whole_command : (c : Command) → has_float (command_tree c) ≡ false
 whole_command (command.Register i replicated) = refl
-whole_command (command.Renew k dirty overridden replicated) = rw (whole_stamp dirty, whole_status overridden) refl
+whole_command (command.Renew k dirty overridden replicated) = rw (whole_number_or_null dirty, whole_status overridden) refl
 whole_command (command.Cancel k replicated) = refl
-whole_command (command.SetStatus k status dirty replicated) = rw (whole_stamp dirty) refl
-whole_command (command.UnsetStatus k status dirty replicated) = rw (whole_stamp dirty, whole_status status) refl
+whole_command (command.SetStatus k status dirty replicated) = rw (whole_number_or_null dirty) refl
+whole_command (command.UnsetStatus k status dirty replicated) = rw (whole_number_or_null dirty, whole_status status) refl
 whole_command (command.Adopt i) = refl
 whole_command command.Roll = refl
 whole_command command.Update = refl

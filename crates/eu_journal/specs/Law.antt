@@ -1,8 +1,8 @@
 -- What is read of a line that was written
-use Rattle.std.specs.Prelude.{◌≡◌, ◌<◌, ◌≤◌, ◌^◌, [], Ok, IfSome, ⊤}
+use Rattle.std.specs.Prelude.{◌≡◌, ◌≤◌, ◌^◌, [], Ok, IfSome, ⊤}
 use Rattle.eu_model.specs.declared.commands.Reply.{Reply}
 use Rattle.eu_model.specs.declared.commands.Reply.TheVariants as reply
-use Rattle.eu_journal_values.specs.Limits.{IsCommand, IsInstance, IsKey, IsName, IsReply, IsTask}
+use Rattle.eu_journal_values.specs.Limits.{IsCommand, IsConfig, IsInstance, IsKey, IsName, IsReply, IsTask}
 use Rattle.eu_journal.specs.LineReading.{line_of}
 use Rattle.eu_journal.specs.Lines.{line_tree}
 use Rattle.eu_journal.specs.declared.lines.JournalLine.{JournalLine}
@@ -10,7 +10,7 @@ use Rattle.eu_journal.specs.declared.lines.JournalLine.TheVariants as line
 
 -- what a line may hold, by its types
 abbrev pub IsLine : JournalLine → Type 0
-IsLine (line.Head h) = (h.config.evict_ms < 2 ^ 32) × IfSome h.previous (λ m. m ≤ 2 ^ 62)
+IsLine (line.Head h) = IsConfig h.config × IfSome h.previous (λ m. m ≤ 2 ^ 62)
 IsLine (line.Lease l) = IsInstance l.instance
 IsLine (line.Row id status) = IsName id
 IsLine line.Peer = ⊤

@@ -10,9 +10,9 @@ use Rattle.eu_journal_read.specs.declared.faults.JournalFault.TheVariants as jou
 use Rattle.eu_journal_read.specs.declared.journal.Recorded.{Recorded}
 use Rattle.eu_lines.specs.declared.faults.ScriptFault.{ScriptFault}
 use Rattle.eu_lines.specs.declared.faults.ScriptFault.TheVariants as script
-use Rattle.eu_server.specs.Audit.{audit_text}
-use Rattle.eu_server.specs.Desk.{Writes}
-use Rattle.eu_server.specs.declared.desk.Verdict.{Verdict}
+use Rattle.eu_script.specs.Audit.{audit_text}
+use Rattle.eu_script.specs.Desk.{Writes}
+use Rattle.eu_script.specs.declared.desk.Verdict.{Verdict}
 
 abbrev pub unread : JournalFault → Result Recorded JournalFault
 unread j = Err j

@@ -6,8 +6,8 @@ use Rattle.eu_journal_read.specs.Reader.{EndsBefore, FailsToRead, TellsLine}
 use Rattle.eu_journal_read.specs.Said.{SaysJournal}
 use Rattle.eu_model.specs.declared.commands.Entry.{Entry}
 use Rattle.eu_model.specs.declared.states.State.{State}
-use Rattle.eu_server.specs.Audit.{audit_text}
-use Rattle.eu_server.specs.declared.desk.Verdict.{Verdict}
+use Rattle.eu_script.specs.Audit.{audit_text}
+use Rattle.eu_script.specs.declared.desk.Verdict.{Verdict}
 use Rattle.eu_journal_audit.specs.declared.faults.AuditFault.{AuditFault}
 use Rattle.eu_journal_audit.specs.declared.faults.AuditFault.TheVariants as fault
 

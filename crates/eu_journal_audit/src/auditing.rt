@@ -9,7 +9,7 @@ ghost use Rattle.eu_model.specs.declared.states.State.{State};
 use crate::faults::AuditFault;
 use eu_audit::audit;
 use eu_journal_read::read_journal;
-use eu_server::{Verdict, tell_verdict};
+use eu_script::{Verdict, tell_verdict};
 use eu_stream::{Reading, Sink, Source, Writing};
 use std::alloc::Global;
 use std::io::{Read, Write};

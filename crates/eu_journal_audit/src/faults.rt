@@ -1,6 +1,6 @@
 //! Why a journal isn't audited.
 use eu_journal_read::JournalFault;
-use eu_server::ScriptFault;
+use eu_script::ScriptFault;
 use std::alloc::AllocError;
 use thiserror::Error;
 

@@ -8,6 +8,7 @@ use Rattle.serde_json.specs.Find.{get}
 use Rattle.serde_json.specs.View.{items_of}
 use Rattle.eu_base.specs.Action.{action_name, action_of}
 use Rattle.eu_base.specs.Rest.{IsRest}
+use Rattle.eu_base.specs.Settings.{settings_from}
 use Rattle.eu_base.specs.Status.{status_name, status_of}
 use Rattle.eu_base.specs.declared.instances.Instance.{Instance}
 use Rattle.eu_base.specs.declared.names.Key.{Key}
@@ -17,14 +18,12 @@ use Rattle.eu_base.specs.declared.statuses.Status.TheVariants.{Up, Down, Startin
 use Rattle.eu_base.specs.declared.tasks.Action.{Action}
 use Rattle.eu_base.specs.declared.tasks.Action.TheVariants.{Register, Heartbeat, Cancel, StatusUpdate, DeleteStatusOverride}
 use Rattle.eu_base.specs.declared.tasks.Task.{Task}
-use Rattle.eu_base.specs.declared.times.Stamp.{Stamp}
 use Rattle.eu_journal_values.specs.Answered.{◌>>=◌}
-use Rattle.eu_journal_values.specs.Limits.{IsCode, IsInstance, IsKey, IsName, IsTask}
-use Rattle.eu_journal_values.specs.Trees.{config_tree, instance_tree, key_tree, optional, rest_tree, stamp_tree, status_tree, task_rest, task_tree, whole_number}
-use Rattle.eu_journal_values.specs.Members.{below_32, moment_in, moment_of, needed, optional_in, status_in}
-use Rattle.eu_journal_values.specs.Reading.{app_of, codes_of, config_from, instance_from, instance_in, key_in, key_of, name_of, optional_instance_in, rest_of, stamp_in, task_of}
+use Rattle.eu_journal_values.specs.Limits.{IsCode, IsConfig, IsInstance, IsKey, IsName, IsStamp, IsTask}
+use Rattle.eu_journal_values.specs.Trees.{config_tree, instance_tree, key_tree, optional, rest_tree, status_tree, task_rest, task_tree, whole_number}
+use Rattle.eu_journal_values.specs.Members.{below_32, lease_secs_of, moment_in, moment_of, needed, optional_in, renewal_secs_of, stamp_in, stamp_of, status_in}
+use Rattle.eu_journal_values.specs.Reading.{app_of, codes_of, config_from, instance_from, instance_in, key_in, key_of, name_of, optional_instance_in, rest_of, task_of}
 use Rattle.eu_journal_values.specs.declared.faults.LineFault.{LineFault}
-use Rattle.eu_journal_values.proofs.BoundedLemmas.{config_is, instance_is, stamp_is}
 
 pub step : {A B : Type 0} (r : Result A LineFault) (f : A → Result B LineFault) (x : A) → r ≡ Ok x → (r >>= f) ≡ f x
 step r f x is = ap (λ q. q >>= f) is
@@ -52,6 +51,12 @@ name_back (b ∷ bs) is = rw (lt-ltb (length (b ∷ bs)) 256 (omega (arith, is.1
 pub small_back : (n : ℕ) → n < 2 ^ 32 → below_32 n ≡ Ok n
 small_back n few = rw (lt-ltb n (2 ^ 32) few) refl
 
+lease_secs_back : (n : ℕ) → (1 ≤ n) × (n ≤ 2147483) → (below_32 n >>= lease_secs_of) ≡ Ok n
+lease_secs_back n is = rw (small_back n (omega (arith, is.1)), le-leb 1 n is.0, le-leb n 2147483 is.1) refl
+
+renewal_secs_back : (n : ℕ) → (1 ≤ n) × (n < 2 ^ 31) → (below_32 n >>= renewal_secs_of) ≡ Ok n
+renewal_secs_back n is = rw (small_back n (omega (arith, is.1)), le-leb 1 n is.0, lt-ltb n (2 ^ 31) is.1) refl
+
 pub moment_back : (n : ℕ) → n ≤ 2 ^ 62 → moment_of n ≡ Ok n
 moment_back n few = rw (le-leb n (2 ^ 62) few) refl
 
@@ -75,9 +80,9 @@ pub optional_status_back : (name : List ℕ) (d : Data) (s : Option Status) → 
 optional_status_back name d None there = rw there refl
 optional_status_back name d (Some s) there = rw (there, status_back s) refl
 
-pub optional_stamp_back : (name : List ℕ) (d : Data) (s : Option Stamp) → get name d ≡ Some (optional stamp_tree s) → optional_in stamp_in name d ≡ Ok s
-optional_stamp_back name d None there = rw there refl
-optional_stamp_back name d (Some s) there = rw (there, stamp_is s) refl
+pub optional_stamp_back : (name : List ℕ) (d : Data) (s : Option ℕ) → get name d ≡ Some (optional whole_number s) → IfSome s IsStamp → optional_in stamp_in name d ≡ Ok s
+optional_stamp_back name d None there few = rw there refl
+optional_stamp_back name d (Some n) there few = rw (there, lt-ltb n (2 ^ 63) few) refl
 
 pub optional_moment_back : (name : List ℕ) (d : Data) (m : Option ℕ) → get name d ≡ Some (optional whole_number m) → IfSome m (λ n. n ≤ 2 ^ 62) → optional_in moment_in name d ≡ Ok m
 optional_moment_back name d None there few = rw there refl
@@ -85,13 +90,13 @@ optional_moment_back name d (Some n) there few = rw (there, le-leb n (2 ^ 62) fe
 
 -- ---- settings, instances and tasks
 
-pub config_back : (c : Config) → c.evict_ms < 2 ^ 32 → config_from (config_tree c) ≡ Ok c
-unfolding config_from
-config_back c few =
-    step (below_32 c.evict_ms) _ c.evict_ms (small_back c.evict_ms few)
-    ∙ step (below_32 c.interval) _ c.interval (small_back c.interval (omega (arith, c.interval_bound.1)))
-    ∙ step (below_32 c.percent) _ c.percent (small_back c.percent (omega (arith, c.percent_bound)))
-    ∙ config_is c
+pub config_back : (c : Config) → IsConfig c → config_from (config_tree c) ≡ Ok c
+unfolding config_from settings_from
+config_back c is =
+    step (below_32 c.evict_ms) _ c.evict_ms (small_back c.evict_ms is.evict_ms)
+    ∙ step (below_32 c.interval) _ c.interval (small_back c.interval (omega (arith, is.interval.1)))
+    ∙ step (below_32 c.percent) _ c.percent (small_back c.percent (omega (arith, is.percent)))
+    ∙ rw (le-leb c.percent 100 is.percent, le-leb 1 c.interval is.interval.0, le-leb c.interval 3600 is.interval.1) refl
 
 rest_back : (rest : Data) → IsRest rest → rest_of rest ≡ Ok rest
 rest_back rest is = rw (is.members, is.whole) refl
@@ -102,10 +107,10 @@ from_instance i is =
     step (key_in (instance_tree i)) _ i.key (key_back (instance_tree i) i.key refl is.key)
     ∙ step (needed (status_of (status_name i.status))) _ i.status (status_back i.status)
     ∙ step (needed (status_of (status_name i.overridden))) _ i.overridden (status_back i.overridden)
-    ∙ step (below_32 i.secs) _ i.secs (small_back i.secs (omega (arith, i.secs_bound.1)))
-    ∙ step (below_32 i.interval) _ i.interval (small_back i.interval (omega (arith, i.interval_bound.1)))
+    ∙ step (stamp_of i.dirty) _ i.dirty (rw (lt-ltb i.dirty (2 ^ 63) is.dirty) refl)
+    ∙ step (below_32 i.secs >>= lease_secs_of) _ i.secs (lease_secs_back i.secs is.secs)
+    ∙ step (below_32 i.interval >>= renewal_secs_of) _ i.interval (renewal_secs_back i.interval is.interval)
     ∙ step (rest_of i.rest) _ i.rest (rest_back i.rest is.rest)
-    ∙ instance_is i
 
 pub instance_back : (d : Data) (i : Instance) → get (codes "instance") d ≡ Some (instance_tree i) → IsInstance i → instance_in i.rest d ≡ Ok i
 unfolding instance_in

@@ -1,3 +1,2 @@
 pub mod BackLemmas
-pub mod BoundedLemmas
 pub mod CodeLemmas

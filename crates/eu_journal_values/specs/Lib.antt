@@ -1,5 +1,4 @@
 pub mod Answered
-pub mod Bounded
 pub mod Limits
 pub mod Members
 pub mod Reading

@@ -1,5 +1,5 @@
 -- Members of a line, and the values that they have
-use Rattle.std.specs.Prelude.{ℕ, Bool, List, ◌^◌, Option, Some, None, Result, Ok, Err, nat_lt, nat_le, if◌then◌else◌, ok_or, option_and_then}
+use Rattle.std.specs.Prelude.{ℕ, Bool, List, ◌^◌, Option, Some, None, Result, Ok, Err, nat_lt, nat_le, ◌&&◌, if◌then◌else◌, ok_or, option_and_then}
 use Rattle.serde_json.specs.Data.{Data, null}
 use Rattle.serde_json.specs.Find.{get, as_bool, as_number, as_str, as_u64}
 use Rattle.eu_base.specs.Action.{action_of}
@@ -40,6 +40,27 @@ moment_of n = if nat_le n (2 ^ 62) then Ok n else Err NotALine
 
 abbrev pub moment_in : List ℕ → Data → Result ℕ LineFault
 moment_in name d = number_in name d >>= moment_of
+
+-- a stamp is below 2^63
+abbrev pub stamp_of : ℕ → Result ℕ LineFault
+stamp_of n = if nat_lt n (2 ^ 63) then Ok n else Err NotALine
+
+abbrev pub stamp_in : List ℕ → Data → Result ℕ LineFault
+stamp_in name d = number_in name d >>= stamp_of
+
+-- a lease lasts 1 to 2,147,483 s
+abbrev pub lease_secs_of : ℕ → Result ℕ LineFault
+lease_secs_of n = if nat_le 1 n && nat_le n 2147483 then Ok n else Err NotALine
+
+abbrev pub lease_secs_in : List ℕ → Data → Result ℕ LineFault
+lease_secs_in name d = small_in name d >>= lease_secs_of
+
+-- a client means to renew each 1 to 2^31 - 1 s
+abbrev pub renewal_secs_of : ℕ → Result ℕ LineFault
+renewal_secs_of n = if nat_le 1 n && nat_lt n (2 ^ 31) then Ok n else Err NotALine
+
+abbrev pub renewal_secs_in : List ℕ → Data → Result ℕ LineFault
+renewal_secs_in name d = small_in name d >>= renewal_secs_of
 
 abbrev pub status_in : List ℕ → Data → Result Status LineFault
 status_in name d = text_in name d >>= (λ text. needed (status_of text))

@@ -4,11 +4,11 @@ use Rattle.std.specs.Str.{bytes_eq}
 use Rattle.serde_json.specs.Data.{Data, Items, no_items, item}
 use Rattle.serde_json.specs.Find.{as_array, as_number, as_object, as_u64}
 use Rattle.serde_json.specs.Written.{has_float}
+use Rattle.eu_base.specs.Settings.{settings_from}
 use Rattle.eu_base.specs.declared.instances.Instance.{Instance}
 use Rattle.eu_base.specs.declared.names.Key.{Key}
 use Rattle.eu_base.specs.declared.settings.Config.{Config}
 use Rattle.eu_base.specs.declared.tasks.Task.{Task}
-use Rattle.eu_base.specs.declared.times.Stamp.{Stamp}
 use Rattle.eu_model.specs.declared.views.Times.{Times}
 use Rattle.eu_model.specs.declared.commands.Command.{Command}
 use Rattle.eu_model.specs.declared.commands.Command.TheVariants as command
@@ -16,8 +16,7 @@ use Rattle.eu_model.specs.declared.commands.Reply.{Reply}
 use Rattle.eu_model.specs.declared.commands.Reply.TheVariants as reply
 use Rattle.std.specs.Str.{str_to_ascii_uppercase}
 use Rattle.eu_journal_values.specs.Answered.{◌>>=◌}
-use Rattle.eu_journal_values.specs.Bounded.{config_of, instance_of, stamp_of}
-use Rattle.eu_journal_values.specs.Members.{action_in, member_in, moment_in, needed, number_in, optional_in, small_in, status_in, text_in, truth_in, unless_null}
+use Rattle.eu_journal_values.specs.Members.{action_in, lease_secs_in, member_in, moment_in, needed, number_in, optional_in, renewal_secs_in, small_in, stamp_in, status_in, text_in, truth_in, unless_null}
 use Rattle.eu_journal_values.specs.declared.faults.LineFault.{LineFault}
 use Rattle.eu_journal_values.specs.declared.faults.LineFault.TheVariants.{NotALine}
 
@@ -43,16 +42,13 @@ key_of d = do
 unfoldable pub key_in : Data → Result Key LineFault
 key_in d = member_in (codes "key") d >>= key_of
 
-abbrev pub stamp_in : List ℕ → Data → Result Stamp LineFault
-stamp_in name d = number_in name d >>= stamp_of
-
 unfoldable pub config_from : Data → Result Config LineFault
 config_from d = do
   evict_ms ← small_in (codes "evict_ms") d
   interval ← small_in (codes "interval") d
   percent ← small_in (codes "percent") d
   preservation ← truth_in (codes "preservation") d
-  config_of preservation percent interval evict_ms
+  needed (settings_from preservation percent interval evict_ms)
 
 unfoldable pub times_of : Data → Result Times LineFault
 times_of d = do
@@ -70,11 +66,11 @@ instance_from rest d = do
   key ← key_in d
   status ← status_in (codes "status") d
   overridden ← status_in (codes "overridden") d
-  dirty ← number_in (codes "dirty") d
-  secs ← small_in (codes "secs") d
-  interval ← small_in (codes "interval") d
+  dirty ← stamp_in (codes "dirty") d
+  secs ← lease_secs_in (codes "secs") d
+  interval ← renewal_secs_in (codes "interval") d
   kept ← rest_of rest
-  instance_of key status overridden dirty secs interval kept
+  Ok (record { key = key; status = status; overridden = overridden; dirty = dirty; secs = secs; interval = interval; rest = kept })
 
 unfoldable pub instance_in : Data → Data → Result Instance LineFault
 instance_in rest d = member_in (codes "instance") d >>= instance_from rest

@@ -9,7 +9,6 @@ use Rattle.eu_base.specs.declared.names.Key.{Key}
 use Rattle.eu_base.specs.declared.settings.Config.{Config}
 use Rattle.eu_base.specs.declared.statuses.Status.{Status}
 use Rattle.eu_base.specs.declared.tasks.Task.{Task}
-use Rattle.eu_base.specs.declared.times.Stamp.{Stamp}
 use Rattle.eu_model.specs.declared.views.Times.{Times}
 use Rattle.eu_model.specs.declared.commands.Command.{Command}
 use Rattle.eu_model.specs.declared.commands.Command.TheVariants as command
@@ -28,9 +27,6 @@ optional tree (Some x) = tree x
 
 abbrev pub status_tree : Status → Data
 status_tree s = string (status_name s)
-
-abbrev pub stamp_tree : Stamp → Data
-stamp_tree s = whole_number s.value
 
 abbrev pub key_tree : Key → Data
 key_tree k = object (member (codes "app") (string k.app) (member (codes "id") (string k.id) no_members))
@@ -84,7 +80,7 @@ command_tree (command.Register i replicated) = object
     (member (codes "name") (string (codes "Register"))
     (member (codes "replicated") (boolean replicated) no_members)))
 command_tree (command.Renew k dirty overridden replicated) = object
-    (member (codes "dirty") (optional stamp_tree dirty)
+    (member (codes "dirty") (optional whole_number dirty)
     (member (codes "key") (key_tree k)
     (member (codes "name") (string (codes "Renew"))
     (member (codes "overridden") (optional status_tree overridden)
@@ -94,13 +90,13 @@ command_tree (command.Cancel k replicated) = object
     (member (codes "name") (string (codes "Cancel"))
     (member (codes "replicated") (boolean replicated) no_members)))
 command_tree (command.SetStatus k status dirty replicated) = object
-    (member (codes "dirty") (optional stamp_tree dirty)
+    (member (codes "dirty") (optional whole_number dirty)
     (member (codes "key") (key_tree k)
     (member (codes "name") (string (codes "SetStatus"))
     (member (codes "replicated") (boolean replicated)
     (member (codes "status") (status_tree status) no_members)))))
 command_tree (command.UnsetStatus k status dirty replicated) = object
-    (member (codes "dirty") (optional stamp_tree dirty)
+    (member (codes "dirty") (optional whole_number dirty)
     (member (codes "key") (key_tree k)
     (member (codes "name") (string (codes "UnsetStatus"))
     (member (codes "replicated") (boolean replicated)

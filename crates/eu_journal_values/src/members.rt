@@ -2,10 +2,10 @@
 ghost use Rattle.std.specs.Prelude.{◌≡◌};
 ghost use Rattle.serde_json.specs.View.{view};
 ghost use Rattle.eu_journal_values.specs.Answered.{Equals};
-ghost use Rattle.eu_journal_values.specs.Members.{action_in, member_in, moment_in, moment_of, number_in, below_32, small_in, status_in, text_in, truth_in};
+ghost use Rattle.eu_journal_values.specs.Members.{action_in, lease_secs_in, member_in, moment_in, number_in, below_32, renewal_secs_in, small_in, stamp_in, status_in, text_in, truth_in};
 
 use crate::faults::LineFault;
-use eu_base::{Action, Moment, Status};
+use eu_base::{Action, LeaseSecs, Moment, RenewalSecs, Stamp, Status};
 use serde_json::Value;
 
 /// A member. `NotALine` where there is none of that name.
@@ -64,19 +64,32 @@ pub fn small_in(object: &Value, name: &str) -> Result<u32, LineFault>
     below_32(number)
 }
 
-/// The moment of so many milliseconds, where they are at most 2^62. Else `NotALine`.
-fn moment_of(ms: u64) -> Result<Moment, LineFault>
-    ensures { result ≡ moment_of ms }
-{
-    Moment::new(ms).ok_or(LineFault::NotALine)
-}
-
 /// The moment of a member. `NotALine` where it is absent or no whole number up to 2^62.
 pub fn moment_in(object: &Value, name: &str) -> Result<Moment, LineFault>
     ensures { result ≡ moment_in name.now (view object.now) }
 {
-    let ms = number_in(object, name)?;
-    moment_of(ms)
+    Moment::new(number_in(object, name)?).ok_or(LineFault::NotALine)
+}
+
+/// The stamp of a member. `NotALine` where it is absent or no whole number below 2^63.
+pub fn stamp_in(object: &Value, name: &str) -> Result<Stamp, LineFault>
+    ensures { result ≡ stamp_in name.now (view object.now) }
+{
+    Stamp::new(number_in(object, name)?).ok_or(LineFault::NotALine)
+}
+
+/// The duration of a lease that a member gives. `NotALine` where it is absent or no whole number from 1 to 2,147,483.
+pub fn lease_secs_in(object: &Value, name: &str) -> Result<LeaseSecs, LineFault>
+    ensures { result ≡ lease_secs_in name.now (view object.now) }
+{
+    LeaseSecs::new(small_in(object, name)?).ok_or(LineFault::NotALine)
+}
+
+/// The interval of a client that a member gives. `NotALine` where it is absent or no whole number from 1 to 2^31 - 1.
+pub fn renewal_secs_in(object: &Value, name: &str) -> Result<RenewalSecs, LineFault>
+    ensures { result ≡ renewal_secs_in name.now (view object.now) }
+{
+    RenewalSecs::new(small_in(object, name)?).ok_or(LineFault::NotALine)
 }
 
 /// The status of a member. `NotALine` where it is absent or no status's name.

@@ -1,15 +1,15 @@
 //! Values from JSON.
-ghost use Rattle.std.specs.Prelude.{◌≡◌, ◌≤◌, ◌<◌, ◌^◌, IsTrue};
+ghost use Rattle.std.specs.Prelude.{◌≡◌};
 ghost use Rattle.serde_json.specs.View.{view};
 ghost use Rattle.eu_journal_values.specs.Answered.{Gives};
-ghost use Rattle.eu_journal_values.specs.Bounded.{are_settings, are_within, config_of, instance_of, stamp_of};
 ghost use Rattle.eu_journal_values.specs.Members.{optional_in};
-ghost use Rattle.eu_journal_values.specs.Reading.{app_of, config_from, instance_from, instance_in, key_in, key_of, name_of, optional_instance_in, rest_of, stamp_in, task_of, times_of};
+ghost use Rattle.eu_journal_values.specs.Reading.{app_of, config_from, instance_from, instance_in, key_in, key_of, name_of, optional_instance_in, rest_of, task_of, times_of};
 ghost use Rattle.eu_journal_values.specs.Members as members;
 
 use crate::faults::LineFault;
 use crate::members::{
-    action_in, member_in, moment_in, number_in, small_in, status_in, text_in, truth_in,
+    action_in, lease_secs_in, member_in, moment_in, number_in, renewal_secs_in, small_in, stamp_in,
+    status_in, text_in, truth_in,
 };
 use eu_base::{App, Config, Fault, Id, Instance, Key, Moment, Rest, Stamp, Status, Task};
 use eu_model::Times;
@@ -57,28 +57,9 @@ pub fn key_in(alloc: Global, object: &Value) -> Result<Key, LineFault>
     key_of(alloc, member_in(object, "key")?)
 }
 
-/// The stamp of that number. `NotALine` where it is 2^63 or more.
-fn stamp_of(number: u64) -> Result<Stamp, LineFault>
-    ensures { result ≡ stamp_of number }
-{
-    if number < 1 << 63 {
-        Ok(Stamp { value: number })
-    } else {
-        Err(LineFault::NotALine)
-    }
-}
-
-/// The stamp of a member. `NotALine` where it is none.
-fn stamp_in(object: &Value, name: &str) -> Result<Stamp, LineFault>
-    ensures { result ≡ stamp_in name.now (view object.now) }
-{
-    let number = number_in(object, name)?;
-    stamp_of(number)
-}
-
 /// The stamp of a member that may be null. `NotALine` where it is neither.
 pub fn optional_stamp_in(object: &Value, name: &str) -> Result<Option<Stamp>, LineFault>
-    ensures { result ≡ optional_in stamp_in name.now (view object.now) }
+    ensures { result ≡ optional_in members.stamp_in name.now (view object.now) }
 {
     match member_in(object, name)? {
         Value::Null => Ok(None),
@@ -96,35 +77,6 @@ pub fn optional_status_in(object: &Value, name: &str) -> Result<Option<Status>, 
     }
 }
 
-/// Whether a percentage and an interval are within their limits.
-fn are_settings(percent: u32, interval: u32) -> bool
-    ensures value { result ≡ are_settings percent interval }
-    ensures percent { IsTrue result → percent ≤ 100 }
-    ensures interval { IsTrue result → (1 ≤ interval) × (interval ≤ 3600) }
-{
-    percent <= 100 && (1 <= interval && interval <= 3600)
-}
-
-/// The settings of these values. `NotALine` where they are none.
-fn config_of(
-    preservation: bool,
-    percent: u32,
-    interval: u32,
-    evict_ms: u32,
-) -> Result<Config, LineFault>
-    ensures { result ≡ config_of preservation percent interval evict_ms }
-{
-    if !are_settings(percent, interval) {
-        return Err(LineFault::NotALine);
-    }
-    Ok(Config {
-        preservation,
-        percent,
-        interval,
-        evict_ms,
-    })
-}
-
 /// The settings of an object. `NotALine` where they are none.
 #[tactic(auto, unfolding(crate::specs::Reading::config_from))]
 pub fn config_from(object: &Value) -> Result<Config, LineFault>
@@ -134,7 +86,7 @@ pub fn config_from(object: &Value) -> Result<Config, LineFault>
     let interval = small_in(object, "interval")?;
     let percent = small_in(object, "percent")?;
     let preservation = truth_in(object, "preservation")?;
-    config_of(preservation, percent, interval, evict_ms)
+    Config::of_values(preservation, percent, interval, evict_ms).ok_or(LineFault::NotALine)
 }
 
 /// The moments of a lease. `NotALine` where they are none.
@@ -161,16 +113,6 @@ fn rest_of(alloc: Global, value: &Value) -> Result<Rest, LineFault>
     rest.ok_or(LineFault::NotALine)
 }
 
-/// Whether a stamp, a duration and an interval are within their limits.
-fn are_within(dirty: u64, secs: u32, interval: u32) -> bool
-    ensures value { result ≡ are_within dirty secs interval }
-    ensures dirty { IsTrue result → dirty < 2 ^ 63 }
-    ensures secs { IsTrue result → (1 ≤ secs) × (secs ≤ 2147483) }
-    ensures interval { IsTrue result → (1 ≤ interval) × (interval < 2 ^ 31) }
-{
-    dirty < 1 << 63 && (1 <= secs && secs <= 2_147_483) && (1 <= interval && interval < 1 << 31)
-}
-
 /// The instance of an object and its rest. `NotALine` where it is none; `OutOfMemory`.
 #[tactic(auto, unfolding(crate::specs::Reading::instance_from))]
 pub fn instance_from(alloc: Global, rest: &Value, object: &Value) -> Result<Instance, LineFault>
@@ -179,13 +121,10 @@ pub fn instance_from(alloc: Global, rest: &Value, object: &Value) -> Result<Inst
     let key = key_in(alloc, object)?;
     let status = status_in(object, "status")?;
     let overridden = status_in(object, "overridden")?;
-    let dirty = number_in(object, "dirty")?;
-    let secs = small_in(object, "secs")?;
-    let interval = small_in(object, "interval")?;
+    let dirty = stamp_in(object, "dirty")?;
+    let secs = lease_secs_in(object, "secs")?;
+    let interval = renewal_secs_in(object, "interval")?;
     let rest = rest_of(alloc, rest)?;
-    if !are_within(dirty, secs, interval) {
-        return Err(LineFault::NotALine);
-    }
     Ok(Instance {
         key,
         status,

@@ -1,7 +1,7 @@
 //! Values to JSON.
 ghost use Rattle.std.specs.Prelude.{◌≡◌, IfOk};
 ghost use Rattle.serde_json.specs.View.{view};
-ghost use Rattle.eu_journal_values.specs.Trees.{config_tree, instance_tree, key_tree, optional, stamp_tree, status_tree, task_tree, times_tree};
+ghost use Rattle.eu_journal_values.specs.Trees.{config_tree, instance_tree, key_tree, optional, status_tree, task_tree, times_tree, whole_number};
 
 use eu_base::{Config, Instance, Key, Stamp, Status, Task};
 use eu_model::Times;
@@ -27,10 +27,10 @@ pub fn optional_status_value(alloc: Global, status: Option<Status>) -> Result<Va
 
 /// The JSON of a stamp that may be there.
 pub fn optional_stamp_value(stamp: Option<Stamp>) -> Value
-    ensures { view result ≡ optional stamp_tree stamp }
+    ensures { view result ≡ optional whole_number stamp }
 {
     match stamp {
-        Some(stamp) => Value::from(stamp.value),
+        Some(stamp) => Value::from(stamp.value()),
         None => Value::Null,
     }
 }
@@ -51,8 +51,8 @@ pub fn config_value(alloc: Global, config: Config) -> Result<Value, AllocError>
 {
     json!(in alloc; {
         "evict_ms": config.evict_ms,
-        "interval": config.interval,
-        "percent": config.percent,
+        "interval": config.interval.secs(),
+        "percent": config.percent.value(),
         "preservation": config.preservation,
     })
 }
@@ -74,11 +74,11 @@ pub fn instance_value(alloc: Global, instance: &Instance) -> Result<Value, Alloc
 {
     let key = key_value(alloc, &instance.key)?;
     json!(in alloc; {
-        "dirty": instance.dirty,
-        "interval": instance.interval,
+        "dirty": instance.dirty.value(),
+        "interval": instance.interval.secs(),
         "key": key,
         "overridden": instance.overridden.name(),
-        "secs": instance.secs,
+        "secs": instance.secs.secs(),
         "status": instance.status.name(),
     })
 }

@@ -1,11 +1,11 @@
 -- Members that are taken out of an object
-use Rattle.std.proofs.Common.{◌≡◌, ℕ, Bool, true, false, ◌||◌, List, [], ◌∷◌, Option, Some, Ordering, Less, Equal, Greater, cond, is_some, refl, ap}
+use Rattle.std.proofs.Common.{◌≡◌, ℕ, Bool, true, false, ◌||◌, List, [], ◌∷◌, Option, Some, Ordering, Equal, cond, is_some, refl, ap}
 use Rattle.std.specs.String.{string_bytes}
 use Rattle.std.specs.Ordering.{nat_cmp, is_eq, match_ordering}
 use Rattle.std.specs.Cmp.Lexicographic.{slice_cmp}
 use Rattle.std.specs.BTreeMap.{is_at}
 use Rattle.std.specs.Map.{remove_entry}
-use Rattle.serde_json.specs.Data.{Data, Members, no_members, member, null, boolean, number, string, array, object}
+use Rattle.serde_json.specs.Data.{Data, Members, no_members, member, object}
 use Rattle.serde_json.specs.Find.{get, get_member, as_object}
 use Rattle.serde_json.specs.View.{view, members_view}
 use Rattle.serde_json.specs.Written.{has_float, members_have_float}
@@ -14,9 +14,8 @@ use Rattle.eu_base.specs.Rest.{IsRest}
 use Rattle.eu_json.specs.Members.{but_member, without}
 
 step : (o : Ordering) (e : Entry) (es rest : List Entry) (ms : Members) → members_view rest ≡ ms → members_view (cond (is_eq o) es (e ∷ rest)) ≡ match_ordering o (member (string_bytes e.0) (view e.1) ms) (members_view es) (member (string_bytes e.0) (view e.1) ms)
-step Less e es rest ms is = ap (λ (m : Members). member (string_bytes e.0) (view e.1) m) is
 step Equal e es rest ms is = refl
-step Greater e es rest ms is = ap (λ (m : Members). member (string_bytes e.0) (view e.1) m) is
+step o e es rest ms is = ap (λ (m : Members). member (string_bytes e.0) (view e.1) m) is
 
 pub members_view-remove_entry : (name : List ℕ) (es : List Entry) → members_view (remove_entry (is_at (λ k. slice_cmp nat_cmp name (string_bytes k))) es) ≡ but_member name (members_view es)
 members_view-remove_entry name [] = refl
@@ -29,9 +28,8 @@ neither false b e = (refl, e)
 -- ---- no member of whole numbers has a fraction
 
 found : (o : Ordering) (e i : Data) (before : Option Data) → match_ordering o before (Some e) before ≡ Some i → has_float e ≡ false → (before ≡ Some i → has_float i ≡ false) → has_float i ≡ false
-found Less e i before is whole rest = rest is
 found Equal e i before is whole rest = cc
-found Greater e i before is whole rest = rest is
+found o e i before is whole rest = rest is
 
 pub whole_member : (name : List ℕ) (ms : Members) (i : Data) → members_have_float ms ≡ false → get_member name ms ≡ Some i → has_float i ≡ false
 whole_member name no_members i whole is = cc
@@ -40,27 +38,18 @@ whole_member name (member l d ms) i whole is =
     found (slice_cmp nat_cmp name l) d i (get_member name ms) is parts.0 (whole_member name ms i parts.1)
 
 pub whole_get : (name : List ℕ) (d i : Data) → has_float d ≡ false → get name d ≡ Some i → has_float i ≡ false
-whole_get name null i whole is = cc
-whole_get name (boolean b) i whole is = cc
-whole_get name (number n) i whole is = cc
-whole_get name (string s) i whole is = cc
-whole_get name (array ds) i whole is = cc
 whole_get name (object ms) i whole is = whole_member name ms i whole is
+whole_get name d i whole is = cc
 
 -- ---- an object stays one without a member, and its numbers stay whole
 
 pub object_without : (name : List ℕ) (d : Data) → is_some (as_object d) ≡ true → is_some (as_object (without name d)) ≡ true
-object_without name null is = is
-object_without name (boolean b) is = is
-object_without name (number n) is = is
-object_without name (string s) is = is
-object_without name (array ds) is = is
 object_without name (object ms) is = refl
+object_without name d is = is
 
 kept : (o : Ordering) (l : List ℕ) (d : Data) (ms rest : Members) → has_float d ≡ false → members_have_float ms ≡ false → members_have_float rest ≡ false → members_have_float (match_ordering o (member l d rest) ms (member l d rest)) ≡ false
-kept Less l d ms rest first whole later = rw (first, later) refl
 kept Equal l d ms rest first whole later = whole
-kept Greater l d ms rest first whole later = rw (first, later) refl
+kept o l d ms rest first whole later = rw (first, later) refl
 
 whole_but : (name : List ℕ) (ms : Members) → members_have_float ms ≡ false → members_have_float (but_member name ms) ≡ false
 whole_but name no_members whole = refl
@@ -69,12 +58,8 @@ whole_but name (member l d ms) whole =
     kept (slice_cmp nat_cmp name l) l d ms (but_member name ms) parts.0 parts.1 (whole_but name ms parts.1)
 
 pub whole_without : (name : List ℕ) (d : Data) → has_float d ≡ false → has_float (without name d) ≡ false
-whole_without name null whole = whole
-whole_without name (boolean b) whole = whole
-whole_without name (number n) whole = whole
-whole_without name (string s) whole = whole
-whole_without name (array ds) whole = whole
 whole_without name (object ms) whole = whole_but name ms whole
+whole_without name d whole = whole
 
 pub rest_without : (name : List ℕ) (d e : Data) → e ≡ without name d → IsRest d → IsRest e
 rest_without name d e is kept = rw is (record { members = object_without name d kept.members; whole = whole_without name d kept.whole })

@@ -110,18 +110,13 @@ read_in_order text d is =
 -- ---- a member that is got
 
 found : (o : Ordering) (e i : Data) (before : Option Data) → match_ordering o before (Some e) before ≡ Some i → InOrder e → (before ≡ Some i → InOrder i) → InOrder i
-found Less e i before is order rest = rest is
 found Equal e i before is order rest = subst InOrder (ap (λ o. unwrap_or o e) is) order
-found Greater e i before is order rest = rest is
+found o e i before is order rest = rest is
 
 in_order_member : (name : List ℕ) (ms : Members) (i : Data) → MembersInOrder ms → get_member name ms ≡ Some i → InOrder i
 in_order_member name no_members i order is = absurd cc
 in_order_member name (member l d ms) i order is = found (slice_cmp nat_cmp name l) d i (get_member name ms) is order.1 (in_order_member name ms i order.2)
 
 pub in_order_get : (name : List ℕ) (d i : Data) → InOrder d → get name d ≡ Some i → InOrder i
-in_order_get name null i order is = absurd cc
-in_order_get name (boolean b) i order is = absurd cc
-in_order_get name (number n) i order is = absurd cc
-in_order_get name (string s) i order is = absurd cc
-in_order_get name (array ds) i order is = absurd cc
 in_order_get name (object ms) i order is = in_order_member name ms i order is
+in_order_get name d i order is = absurd cc

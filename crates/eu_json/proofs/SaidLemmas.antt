@@ -1,58 +1,38 @@
 -- What is so of an instance that was read
-use Rattle.std.proofs.Common.{◌≡◌, ℕ, Bool, true, false, List, [], ◌∷◌, length, Option, Some, None, Result, Ok, Err, cond, codes, nat_lt, option_and_then, unwrap_or, is_some, refl, sym, ap, ◌∙◌, if◌then◌else◌}
-use Rattle.serde_json.specs.Data.{Data, null, boolean, number, string, array, object, Members}
-use Rattle.serde_json.specs.Find.{get, get_member, as_object, as_str}
+use Rattle.std.proofs.Common.{◌≡◌, ℕ, Bool, true, false, List, [], ◌∷◌, length, Option, Some, None, Result, Ok, Err, cond, codes, nat_lt, option_and_then, unwrap_or, is_some, refl, sym, ap, arith, ◌∙◌, subst, if◌then◌else◌}
+use Rattle.std.proofs.lemmas.Bool.Decides.{nat_tests}
+use Rattle.serde_json.specs.Data.{unsigned, Data, number, string, object, Members}
+use Rattle.serde_json.specs.Find.{get, as_object, as_str}
 use Rattle.serde_json.specs.Read.{read}
 use Rattle.serde_json.specs.Written.{has_float, members_have_float}
 use Rattle.eu_base.specs.declared.faults.Fault.{Fault}
 use Rattle.eu_base.specs.declared.faults.Fault.TheVariants.{MissingId, MissingHost, MissingIp, MissingCenter, MissingCenterName, NotJson, NotWhole, TooLong}
 use Rattle.eu_base.specs.declared.instances.Instance.{Instance}
-use Rattle.eu_json.specs.Fields.{fields_of, ◌>>=◌}
+use Rattle.eu_json.specs.Gives.{◌>>=◌}
 use Rattle.eu_json.specs.Members.{text_at, is_blank}
-use Rattle.eu_json.specs.Reading.{address_stands, app_stands, center_stands, instance_of, lease_member, name_of, of_body, of_member, of_object, secs_in, short, stamp_in}
-use Rattle.eu_json.proofs.KeptLemmas.{IsApart, buts, buts_other, buts_self}
+use Rattle.eu_json.specs.Reading.{address_stands, app_stands, center_stands, digits_within, instance_of, interval_in, interval_within, lease_member, name_of, of_body, of_member, of_object, secs_digits, secs_in, secs_within, short, stamp_in}
+use Rattle.eu_json.proofs.KeptLemmas.{Lacks, buts, buts_other, buts_self}
 use Rattle.eu_json.proofs.MemberLemmas.{whole_get, whole_without}
 use Rattle.eu_json.proofs.OrderLemmas.{InOrder, MembersInOrder, in_order_get, read_in_order}
 
--- the members that the registry writes itself, the last of them the first to be taken out
-abbrev pub from_dirty : List (List ℕ)
-from_dirty = codes "lastDirtyTimestamp" ∷ codes "leaseInfo" ∷ []
-
-abbrev pub from_small : List (List ℕ)
-from_small = codes "overriddenstatus" ∷ from_dirty
-
-abbrev pub from_overridden : List (List ℕ)
-from_overridden = codes "overriddenStatus" ∷ from_small
-
-abbrev pub from_status : List (List ℕ)
-from_status = codes "status" ∷ from_overridden
-
-abbrev pub from_app : List (List ℕ)
-from_app = codes "app" ∷ from_status
-
+-- the members that the registry writes itself
 abbrev pub own_names : List (List ℕ)
-own_names = codes "instanceId" ∷ from_app
-
--- none of them is there
-pub record Lacks (ms : Members) : Type 0 where
-  pub id : get_member (codes "instanceId") ms ≡ None
-  pub app : get_member (codes "app") ms ≡ None
-  pub status : get_member (codes "status") ms ≡ None
-  pub overridden : get_member (codes "overriddenStatus") ms ≡ None
-  pub small : get_member (codes "overriddenstatus") ms ≡ None
-  pub dirty : get_member (codes "lastDirtyTimestamp") ms ≡ None
-  pub lease : get_member (codes "leaseInfo") ms ≡ None
+own_names =
+    codes "instanceId" ∷ codes "app" ∷ codes "status" ∷ codes "overriddenStatus"
+    ∷ codes "overriddenstatus" ∷ codes "lastDirtyTimestamp" ∷ codes "leaseInfo" ∷ []
 
 -- an instance whose members but those are these
 pub record IsSaid (i : Instance) (ms : Members) : Type 0 where
   pub rest : i.rest ≡ object ms
-  pub lacks : Lacks ms
+  pub lacks : Lacks own_names ms
   pub whole : members_have_float ms ≡ false
   pub host : is_blank (text_at (codes "hostName") (object ms)) ≡ false
   pub address : address_stands (object ms) ≡ Ok tt
   pub center : center_stands (object ms) ≡ Ok tt
   pub id_filled : is_blank i.key.id ≡ false
   pub id_short : short i.key.id ≡ Ok i.key.id
+  pub secs : secs_within i.secs ≡ Ok i.secs
+  pub interval : interval_within i.interval ≡ i.interval
 
 -- ---- checks that were passed
 
@@ -66,6 +46,27 @@ value_or d (Err e) = d
 
 pub ok_same : {A : Type 0} (x y : A) → ◌≡◌ {A = Result A Fault} (Ok x) (Ok y) → x ≡ y
 ok_same x y is = ap (value_or x) is
+
+-- a duration that was read is one
+secs_by : (n m : ℕ) → secs_within n ≡ Ok m → secs_within m ≡ Ok m
+secs_by n m is = grind (arith, nat_tests, is)
+
+digits_by : (n : Option ℕ) (m : ℕ) → secs_digits n ≡ Ok m → secs_within m ≡ Ok m
+digits_by None m is = absurd cc
+digits_by (Some n) m is = secs_by n m is
+
+secs_kept : (d : Option Data) (m : ℕ) → secs_in d ≡ Ok m → secs_within m ≡ Ok m
+secs_kept (Some (number (unsigned n))) m is = secs_by n m is
+secs_kept (Some (string s)) m is = digits_by (digits_within 10 s) m is
+secs_kept d m is = grind (arith, is)
+
+-- and so is an interval
+interval_by : (n : ℕ) → interval_within (interval_within n) ≡ interval_within n
+interval_by n = grind (arith, nat_tests)
+
+interval_kept : (d : Option Data) → interval_within (interval_in d) ≡ interval_in d
+interval_kept (Some (number (unsigned n))) = interval_by n
+interval_kept d = refl
 
 abbrev pub name_by : List ℕ → List ℕ → Result (List ℕ) Fault
 name_by host id =
@@ -95,76 +96,52 @@ center_by d =
 abbrev pub text_by : Option Data → List ℕ
 text_by d = unwrap_or (option_and_then as_str d) []
 
-lacks_own : (ms : Members) → MembersInOrder ms → Lacks (buts own_names ms)
-lacks_own ms order =
-    let one = codes "instanceId" ∷ [] in
-    let two = codes "instanceId" ∷ codes "app" ∷ [] in
-    let three = codes "instanceId" ∷ codes "app" ∷ codes "status" ∷ [] in
-    let four = codes "instanceId" ∷ codes "app" ∷ codes "status" ∷ codes "overriddenStatus" ∷ [] in
-    let five = codes "instanceId" ∷ codes "app" ∷ codes "status" ∷ codes "overriddenStatus" ∷ codes "overriddenstatus" ∷ [] in
-    let six = codes "instanceId" ∷ codes "app" ∷ codes "status" ∷ codes "overriddenStatus" ∷ codes "overriddenstatus" ∷ codes "lastDirtyTimestamp" ∷ [] in
-    record {
-      id = buts_self [] (codes "instanceId") from_app ms order tt;
-      app = buts_self one (codes "app") from_status ms order (refl, tt);
-      status = buts_self two (codes "status") from_overridden ms order (refl, (refl, tt));
-      overridden = buts_self three (codes "overriddenStatus") from_small ms order (refl, (refl, (refl, tt)));
-      small = buts_self four (codes "overriddenstatus") from_dirty ms order (refl, (refl, (refl, (refl, tt))));
-      dirty = buts_self five (codes "lastDirtyTimestamp") (codes "leaseInfo" ∷ []) ms order (refl, (refl, (refl, (refl, (refl, tt)))));
-      lease = buts_self six (codes "leaseInfo") [] ms order (refl, (refl, (refl, (refl, (refl, (refl, tt))))));
-    }
-
 whole_rest : (ns : List (List ℕ)) (ms : Members) → members_have_float ms ≡ false → members_have_float (buts ns ms) ≡ false
 whole_rest [] ms whole = whole
 whole_rest (n ∷ ns) ms whole = whole_without n (object (buts ns ms)) (whole_rest ns ms whole)
 
-said_of_object : (i : Instance) (app : List ℕ) (moment : ℕ) (ms : Members) → MembersInOrder ms → members_have_float ms ≡ false → of_object app moment (object ms) ≡ Ok (fields_of i) → IsSaid i (buts own_names ms)
+said_of_object : (i : Instance) (app : List ℕ) (moment : ℕ) (ms : Members) → MembersInOrder ms → members_have_float ms ≡ false → of_object app moment (object ms) ≡ Ok i → IsSaid i (buts own_names ms)
 unfolding of_object
 said_of_object i app moment ms order whole is =
-    let name = ok_step (name_of (object ms)) _ (fields_of i) is in
-    let address = ok_step (address_stands (object ms)) _ (fields_of i) name.2 in
-    let own = ok_step (app_stands app (object ms)) _ (fields_of i) address.2 in
-    let center = ok_step (center_stands (object ms)) _ (fields_of i) own.2 in
-    let id = ok_step (short name.0) _ (fields_of i) center.2 in
-    let dirty = ok_step (stamp_in moment (get (codes "lastDirtyTimestamp") (object ms))) _ (fields_of i) id.2 in
-    let secs = ok_step (secs_in (lease_member (codes "durationInSecs") (object ms))) _ (fields_of i) dirty.2 in
-    let same = ok_same _ (fields_of i) secs.2 in
-    let named : name.0 ≡ i.key.id = short_by (nat_lt 255 (length name.0)) name.0 id.0 id.1 ∙ ap (λ f. f.key.id) same in
+    let name = ok_step (name_of (object ms)) _ i is in
+    let address = ok_step (address_stands (object ms)) _ i name.2 in
+    let own = ok_step (app_stands app (object ms)) _ i address.2 in
+    let center = ok_step (center_stands (object ms)) _ i own.2 in
+    let id = ok_step (short name.0) _ i center.2 in
+    let dirty = ok_step (stamp_in moment (get (codes "lastDirtyTimestamp") (object ms))) _ i id.2 in
+    let secs = ok_step (secs_in (lease_member (codes "durationInSecs") (object ms))) _ i dirty.2 in
+    let same = ok_same _ i secs.2 in
+    let named : name.0 ≡ i.key.id = short_by (nat_lt 255 (length name.0)) name.0 id.0 id.1 ∙ ap (λ j. j.key.id) same in
     let filled = named_by (text_at (codes "hostName") (object ms)) (text_at (codes "instanceId") (object ms)) name.0 name.1 in
-    let host : IsApart (codes "hostName") own_names = (refl, (refl, (refl, (refl, (refl, (refl, (refl, tt))))))) in
-    let ip : IsApart (codes "ipAddr") own_names = (refl, (refl, (refl, (refl, (refl, (refl, (refl, tt))))))) in
-    let info : IsApart (codes "dataCenterInfo") own_names = (refl, (refl, (refl, (refl, (refl, (refl, (refl, tt))))))) in
     record {
-      rest = sym (ap (λ f. f.rest) same);
-      lacks = lacks_own ms order;
+      rest = sym (ap (λ j. j.rest) same);
+      lacks = buts_self own_names ms order;
       whole = whole_rest own_names ms whole;
-      host = ap (λ d. is_blank (text_by d)) (buts_other (codes "hostName") own_names ms host) ∙ filled.0;
-      address = ap address_by (buts_other (codes "ipAddr") own_names ms ip) ∙ address.1;
-      center = ap center_by (buts_other (codes "dataCenterInfo") own_names ms info) ∙ center.1;
+      host = ap (λ d. is_blank (text_by d)) (buts_other (codes "hostName") own_names ms refl) ∙ filled.0;
+      address = ap address_by (buts_other (codes "ipAddr") own_names ms refl) ∙ address.1;
+      center = ap center_by (buts_other (codes "dataCenterInfo") own_names ms refl) ∙ center.1;
       id_filled = ap is_blank (sym named) ∙ filled.1;
       id_short = ap short (sym named) ∙ id.1 ∙ ap Ok (sym (short_by (nat_lt 255 (length name.0)) name.0 id.0 id.1) ∙ named);
+      secs = subst (λ (n : ℕ). secs_within n ≡ Ok n) (ap (λ j. j.secs) same) (secs_kept (lease_member (codes "durationInSecs") (object ms)) secs.0 secs.1);
+      interval = subst (λ (n : ℕ). interval_within n ≡ n) (ap (λ j. j.interval) same) (interval_kept (lease_member (codes "renewalIntervalInSecs") (object ms)));
     }
 
 -- ---- from the text
 
 said_of_member : (i : Instance) (app : List ℕ) (moment : ℕ) (body d : Data) (fraction : Bool) → fraction ≡ has_float body → InOrder body → get (codes "instance") body ≡ Some d
-    → cond (is_some (as_object d)) (cond fraction (Err NotWhole) (of_object app moment d)) (Err NotJson) ≡ Ok (fields_of i) → (ms : Members) × IsSaid i ms
-said_of_member i app moment body null fraction whole order got is = absurd cc
-said_of_member i app moment body (boolean b) fraction whole order got is = absurd cc
-said_of_member i app moment body (number n) fraction whole order got is = absurd cc
-said_of_member i app moment body (string s) fraction whole order got is = absurd cc
-said_of_member i app moment body (array ds) fraction whole order got is = absurd cc
-said_of_member i app moment body (object ms) true whole order got is = absurd cc
+    → cond (is_some (as_object d)) (cond fraction (Err NotWhole) (of_object app moment d)) (Err NotJson) ≡ Ok i → (ms : Members) × IsSaid i ms
 said_of_member i app moment body (object ms) false whole order got is =
     (buts own_names ms, said_of_object i app moment ms (in_order_get (codes "instance") body (object ms) order got) (whole_get (codes "instance") body (object ms) (sym whole) got) is)
+said_of_member i app moment body d fraction whole order got is = absurd cc
 
 said_of_found : (i : Instance) (app : List ℕ) (moment : ℕ) (body : Data) (d : Option Data) → InOrder body → get (codes "instance") body ≡ d
-    → of_member app moment (has_float body) d ≡ Ok (fields_of i) → (ms : Members) × IsSaid i ms
+    → of_member app moment (has_float body) d ≡ Ok i → (ms : Members) × IsSaid i ms
 said_of_found i app moment body None order got is = absurd cc
 said_of_found i app moment body (Some d) order got is = said_of_member i app moment body d (has_float body) refl order got is
 
-said_of_body : (i : Instance) (app : List ℕ) (moment : ℕ) (text : List ℕ) (body : Option Data) → read text ≡ body → of_body app moment body ≡ Ok (fields_of i) → (ms : Members) × IsSaid i ms
+said_of_body : (i : Instance) (app : List ℕ) (moment : ℕ) (text : List ℕ) (body : Option Data) → read text ≡ body → of_body app moment body ≡ Ok i → (ms : Members) × IsSaid i ms
 said_of_body i app moment text None got is = absurd cc
 said_of_body i app moment text (Some body) got is = said_of_found i app moment body (get (codes "instance") body) (read_in_order text body got) refl is
 
-pub said : (i : Instance) (app : List ℕ) (moment : ℕ) (text : List ℕ) → instance_of app moment text ≡ Ok (fields_of i) → (ms : Members) × IsSaid i ms
+pub said : (i : Instance) (app : List ℕ) (moment : ℕ) (text : List ℕ) → instance_of app moment text ≡ Ok i → (ms : Members) × IsSaid i ms
 said i app moment text is = said_of_body i app moment text (read text) refl is

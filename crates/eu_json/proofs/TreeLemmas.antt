@@ -1,5 +1,5 @@
 -- Members that are set, and trees whose numbers are all whole
-use Rattle.std.proofs.Common.{◌≡◌, ℕ, Bool, false, ◌||◌, List, [], ◌∷◌, ◌++◌, Option, Some, None, Ordering, Less, Equal, Greater, String, Global, string_bytes, rules, refl}
+use Rattle.std.proofs.Common.{◌≡◌, ℕ, false, List, [], ◌∷◌, ◌++◌, Option, Some, None, Ordering, Less, Equal, Greater, String, Global, string_bytes, rules, refl}
 use Rattle.std.specs.Ordering.{nat_cmp, match_ordering}
 use Rattle.std.specs.Cmp.Lexicographic.{slice_cmp}
 use Rattle.serde_json.specs.Data.{Data, Members, no_members, member, put, string}
@@ -37,9 +37,6 @@ whole_lease i None = refl
 whole_lease i (Some t) = refl
 
 -- ---- lists of trees
-
-neither_nor : (a b : Bool) → a ≡ false → b ≡ false → (a || b) ≡ false
-neither_nor a b first second = rw (first, second) refl
 
 pub whole_more : (ds : List Data) (d : Data) → items_have_float (items_of ds) ≡ false → has_float d ≡ false → items_have_float (items_of (ds ++ d ∷ [])) ≡ false
 whole_more [] d whole last = rw last refl

@@ -10,15 +10,17 @@ use Rattle.eu_base.specs.Action.{action_of}
 use Rattle.eu_base.specs.Status.{status_of}
 use Rattle.eu_base.specs.declared.faults.Fault.{Fault}
 use Rattle.eu_base.specs.declared.faults.Fault.TheVariants.{BadBatch}
+use Rattle.eu_base.specs.declared.instances.Instance.{Instance}
 use Rattle.eu_base.specs.declared.names.Key.{Key}
 use Rattle.eu_base.specs.declared.statuses.Status.{Status}
 use Rattle.eu_base.specs.declared.statuses.Status.TheVariants.{Unknown}
 use Rattle.eu_base.specs.declared.tasks.Action.{Action}
 use Rattle.eu_base.specs.declared.tasks.Action.TheVariants as action
-use Rattle.eu_json.specs.Fields.{Fields, ◌>>=◌}
+use Rattle.eu_model.specs.declared.commands.Command.{Command}
+use Rattle.eu_model.specs.declared.commands.Command.TheVariants.{Register, Renew, Cancel, SetStatus, UnsetStatus}
+use Rattle.eu_json.specs.Gives.{◌>>=◌, result_map}
 use Rattle.eu_json.specs.Members.{text_at}
 use Rattle.eu_json.specs.Reading.{of_member, stamp_in, status_in}
-use Rattle.eu_json.specs.Said.{Said, Register, Renew, Cancel, SetStatus, UnsetStatus}
 
 -- ---- members that an item may leave out
 
@@ -32,13 +34,10 @@ given (Some (string s)) = Some (string s)
 given (Some (array ds)) = Some (array ds)
 given (Some (object ms)) = Some (object ms)
 
-abbrev pub some_stamp : ℕ → Result (Option ℕ) Fault
-some_stamp n = Ok (Some n)
-
 -- a stamp, read as an instance's is, but for one that isn't given
 abbrev pub stamp_given : ℕ → Option Data → Result (Option ℕ) Fault
 stamp_given moment None = Ok None
-stamp_given moment (Some d) = stamp_in moment (Some d) >>= some_stamp
+stamp_given moment (Some d) = result_map Some (stamp_in moment (Some d))
 
 -- the stamp of an item
 abbrev pub dirty_in : ℕ → Data → Result (Option ℕ) Fault
@@ -75,16 +74,16 @@ key_in i = do
   Ok (record { app = app; id = id })
 
 -- the instance of a member: its numbers have to be whole
-abbrev pub instance_in : List ℕ → ℕ → Option Data → Result Fields Fault
+abbrev pub instance_in : List ℕ → ℕ → Option Data → Result Instance Fault
 instance_in app moment member = of_member app moment (unwrap_or (option_map has_float member) false) member
 
 -- ---- items
 
 -- The command of an item, by its action. Each reads the members that it needs, and no others
-unfoldable pub command_of : ℕ → Data → Key → Action → Result Said Fault
+unfoldable pub command_of : ℕ → Data → Key → Action → Result Command Fault
 command_of moment i key action.Register = do
-  fields ← instance_in key.app moment (get (codes "instanceInfo") i)
-  Ok (Register fields true)
+  instance ← instance_in key.app moment (get (codes "instanceInfo") i)
+  Ok (Register instance true)
 command_of moment i key action.Heartbeat = do
   dirty ← dirty_in moment i
   Ok (Renew key dirty (status_given (get (codes "overriddenStatus") i)) true)
@@ -97,19 +96,19 @@ command_of moment i key action.DeleteStatusOverride = do
   dirty ← dirty_in moment i
   Ok (UnsetStatus key (status_given (get (codes "status") i)) dirty true)
 
-unfoldable pub of_item : ℕ → Data → Result Said Fault
+unfoldable pub of_item : ℕ → Data → Result Command Fault
 of_item moment i = do
   action ← action_in i
   key ← key_in i
   command_of moment i key action
 
 -- each item's command, in order
-abbrev pub of_items : ℕ → Items → Result (List Said) Fault
+abbrev pub of_items : ℕ → Items → Result (List Command) Fault
 of_items moment no_items = Ok []
 of_items moment (item i is) = do
-  said ← of_item moment i
+  command ← of_item moment i
   rest ← of_items moment is
-  Ok (said ∷ rest)
+  Ok (command ∷ rest)
 
 -- ---- the whole
 
@@ -124,7 +123,7 @@ few_items is = if nat_lt most_items (items_len is) then Err BadBatch else Ok is
 abbrev pub items_in : Data → Result Items Fault
 items_in body = ok_or (option_and_then as_array (get (codes "replicationList") body)) BadBatch >>= few_items
 
-unfoldable pub of_text : ℕ → List ℕ → Result (List Said) Fault
+unfoldable pub of_text : ℕ → List ℕ → Result (List Command) Fault
 of_text moment text = do
   body ← ok_or (read text) BadBatch
   items ← items_in body
@@ -136,5 +135,5 @@ or_bad (Ok x) = Ok x
 or_bad (Err f) = Err BadBatch
 
 -- the commands that a text says at a moment, in order, or BadBatch
-abbrev pub batch_of : ℕ → List ℕ → Result (List Said) Fault
+abbrev pub batch_of : ℕ → List ℕ → Result (List Command) Fault
 batch_of moment text = or_bad (of_text moment text)

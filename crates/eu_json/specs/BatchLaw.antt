@@ -1,5 +1,5 @@
 -- What is read again of a batch that was written
-use Rattle.std.specs.Prelude.{◌≡◌, ℕ, true, ◌<◌, ◌≤◌, List, length, map, Option, Some, None, Ok, is_some}
+use Rattle.std.specs.Prelude.{◌≡◌, ℕ, true, ◌<◌, ◌≤◌, ◌^◌, List, length, map, Option, Some, None, Ok, is_some}
 use Rattle.std.specs.List.{AllByRecursion}
 use Rattle.std.specs.Str.{str_to_ascii_uppercase}
 use Rattle.serde_json.specs.Read.{read}
@@ -9,24 +9,25 @@ use Rattle.eu_base.specs.declared.statuses.Status.{Status}
 use Rattle.eu_base.specs.declared.tasks.Action.{Action}
 use Rattle.eu_base.specs.declared.tasks.Action.TheVariants as action
 use Rattle.eu_base.specs.declared.tasks.Task.{Task}
+use Rattle.eu_model.specs.declared.commands.Command.{Command}
+use Rattle.eu_model.specs.declared.commands.Command.TheVariants.{Register, Renew, Cancel, SetStatus, UnsetStatus}
 use Rattle.eu_json.specs.Batch.{batch_of, most_items}
 use Rattle.eu_json.specs.BatchTree.{batch_tree}
-use Rattle.eu_json.specs.Fields.{fields_of}
 use Rattle.eu_json.specs.Reading.{instance_of}
-use Rattle.eu_json.specs.Said.{Said, Register, Renew, Cancel, SetStatus, UnsetStatus, Other}
 
 -- ---- what a task asks its receiver for
 
--- A command that a peer sends, by the task's action: with its status, and the stamp and the overridden status of its instance
-abbrev pub command_by : Action → Key → Option Status → Option Instance → Said
-command_by action.Register k status (Some i) = Register (fields_of i) true
-command_by action.Heartbeat k status (Some i) = Renew k (Some i.dirty) (Some i.overridden) true
-command_by action.Cancel k status instance = Cancel k true
-command_by action.StatusUpdate k (Some status) (Some i) = SetStatus k status (Some i.dirty) true
-command_by action.DeleteStatusOverride k status (Some i) = UnsetStatus k status (Some i.dirty) true
-command_by _ k _ _ = Other
+-- A command that a peer sends, by the task's action: with its status, and the stamp and the overridden status of its instance.
+-- None where one is needed that isn't there
+abbrev pub command_by : Action → Key → Option Status → Option Instance → Option Command
+command_by action.Register k status (Some i) = Some (Register i true)
+command_by action.Heartbeat k status (Some i) = Some (Renew k (Some i.dirty) (Some i.overridden) true)
+command_by action.Cancel k status instance = Some (Cancel k true)
+command_by action.StatusUpdate k (Some status) (Some i) = Some (SetStatus k status (Some i.dirty) true)
+command_by action.DeleteStatusOverride k status (Some i) = Some (UnsetStatus k status (Some i.dirty) true)
+command_by _ k _ _ = None
 
-abbrev pub asked_by : Task → Said
+abbrev pub asked_by : Task → Option Command
 asked_by t = command_by t.action t.key t.status t.instance
 
 -- ---- which tasks
@@ -39,9 +40,9 @@ pub record IsKey (k : Key) : Type 0 where
   pub id_filled : 0 < length k.id
   pub id_short : length k.id ≤ 255
 
--- the instance is what some text says at some moment
+-- the instance is what some text says at some moment, and its stamp is below 2^63
 abbrev pub IsRead : Instance → Type 0
-IsRead i = (text : List ℕ) × (moment : ℕ) × (instance_of i.key.app moment text ≡ Ok (fields_of i))
+IsRead i = (i.dirty < 2 ^ 63) × (text : List ℕ) × (moment : ℕ) × (instance_of i.key.app moment text ≡ Ok i)
 
 -- there is an instance, with the task's key, and it is one that was read
 abbrev pub HasInstance : Key → Option Instance → Type 0
@@ -66,10 +67,13 @@ pub record IsBatch (tasks : List Task) : Type 0 where
 
 -- ---- the law
 
--- at any moment the text says what the tasks ask for, in order
+-- each task asks for a command, and at any moment the text says these, in order
 abbrev pub SaysTasks : List ℕ → List Task → Type 0
-SaysTasks text tasks = (moment : ℕ) → batch_of moment text ≡ Ok (map asked_by tasks)
+SaysTasks text tasks = (commands : List Command) × (map asked_by tasks ≡ map Some commands) × ((moment : ℕ) → batch_of moment text ≡ Ok commands)
 
--- so does each text whose JSON is the one that is written for them
+-- each task of a batch asks for a command, and each text whose JSON is the one that is written for them says these
 abbrev pub BatchesComeBack : Type 0
-BatchesComeBack = (tasks : List Task) (text : List ℕ) → IsBatch tasks → read text ≡ Some (batch_tree tasks) → SaysTasks text tasks
+BatchesComeBack =
+    (tasks : List Task) → IsBatch tasks
+    → (commands : List Command) × (map asked_by tasks ≡ map Some commands)
+    × ((text : List ℕ) → read text ≡ Some (batch_tree tasks) → (moment : ℕ) → batch_of moment text ≡ Ok commands)

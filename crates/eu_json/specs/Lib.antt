@@ -1,8 +1,7 @@
 pub mod Members
-pub mod Fields
+pub mod Gives
 pub mod Reading
 pub mod Tree
-pub mod Said
 pub mod Batch
 pub mod BatchTree
 pub mod BatchLaw

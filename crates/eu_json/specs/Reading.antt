@@ -9,9 +9,10 @@ use Rattle.serde_json.specs.Written.{has_float}
 use Rattle.eu_base.specs.Status.{status_of}
 use Rattle.eu_base.specs.declared.faults.Fault.{Fault}
 use Rattle.eu_base.specs.declared.faults.Fault.TheVariants.{NotJson, NotWhole, MissingId, MissingHost, MissingIp, MissingApp, WrongApp, MissingCenter, MissingCenterName, TooLong, BadStamp, BadDuration}
+use Rattle.eu_base.specs.declared.instances.Instance.{Instance}
 use Rattle.eu_base.specs.declared.statuses.Status.{Status}
 use Rattle.eu_base.specs.declared.statuses.Status.TheVariants.{Up, Unknown}
-use Rattle.eu_json.specs.Fields.{Fields, ◌>>=◌}
+use Rattle.eu_json.specs.Gives.{◌>>=◌}
 use Rattle.eu_json.specs.Members.{text_at, is_blank, without}
 
 -- up to so many decimal digits, and at least one
@@ -162,7 +163,7 @@ rest_of i =
     (without (codes "overriddenstatus") (without (codes "lastDirtyTimestamp") (without (codes "leaseInfo") i))))))
 
 -- what is checked, in this order
-unfoldable pub of_object : List ℕ → ℕ → Data → Result Fields Fault
+unfoldable pub of_object : List ℕ → ℕ → Data → Result Instance Fault
 of_object app moment i = do
   name ← name_of i
   address ← address_stands i
@@ -182,15 +183,15 @@ of_object app moment i = do
   })
 
 -- the member instance, and before it whether any number of the body isn't whole
-abbrev pub of_member : List ℕ → ℕ → Bool → Option Data → Result Fields Fault
+abbrev pub of_member : List ℕ → ℕ → Bool → Option Data → Result Instance Fault
 of_member app moment fraction None = Err NotJson
 of_member app moment fraction (Some i) =
     if is_some (as_object i) then (if fraction then Err NotWhole else of_object app moment i) else Err NotJson
 
-abbrev pub of_body : List ℕ → ℕ → Option Data → Result Fields Fault
+abbrev pub of_body : List ℕ → ℕ → Option Data → Result Instance Fault
 of_body app moment None = Err NotJson
 of_body app moment (Some body) = of_member app moment (has_float body) (get (codes "instance") body)
 
 -- the instance that a text says for an application at a moment, or the first fault
-abbrev pub instance_of : List ℕ → ℕ → List ℕ → Result Fields Fault
+abbrev pub instance_of : List ℕ → ℕ → List ℕ → Result Instance Fault
 instance_of app moment text = of_body app moment (read text)

@@ -1,11 +1,10 @@
 //! Batches of tasks from JSON.
-ghost use Rattle.std.specs.Prelude.{◌≡◌, ◌≢◌, [], codes, map, ok_or, option_and_then, Err, IsOk};
+ghost use Rattle.std.specs.Prelude.{◌≡◌, ◌≢◌, [], codes, ok_or, option_and_then, Err, IsOk};
 ghost use Rattle.std.specs.Option.{option_map};
 ghost use Rattle.serde_json.specs.Find.{as_array, get};
 ghost use Rattle.serde_json.specs.View.{items_view, view};
 ghost use Rattle.eu_json.specs.Batch.{action_in, app_within, batch_of, command_of, dirty_in, given, instance_in, items_in, key_in, most_items, name_within, of_item, of_items, of_text, stamp_given, status_given, status_needed};
-ghost use Rattle.eu_json.specs.Fields.{Equals, Gives, Reads};
-ghost use Rattle.eu_json.specs.Said.{said_by, stamp_value};
+ghost use Rattle.eu_json.specs.Gives.{Gives, result_map};
 
 use crate::members::{take, text_at};
 use crate::numbers::stamp_in;
@@ -33,13 +32,13 @@ fn given(member: Option<&Value>) -> Option<&Value>
 
 /// The stamp of an item, if one is given. `BadStamp` where it is none.
 fn dirty_in(item: &Value, moment: Moment) -> Result<Option<Stamp>, Fault>
-    ensures { Equals stamp_value result (dirty_in moment (view item.now)) }
+    ensures { result ≡ dirty_in moment (view item.now) }
 {
     let Some(member) = given(item.get("lastDirtyTimestamp")) else {
         return Ok(None);
     };
-    let value = stamp_in(moment, Some(member))?;
-    Ok(Some(Stamp { value }))
+    let stamp = stamp_in(moment, Some(member))?;
+    Ok(Some(stamp))
 }
 
 /// The status that a member names, if one is given; `Unknown` where it names none.
@@ -70,7 +69,7 @@ fn action_in(item: &Value) -> Result<Action, Fault>
 /// The application of that name. `BadBatch` where it is no name; `OutOfMemory`.
 #[tactic(auto, unfolding(crate::specs::Batch::app_within))]
 fn app_within(alloc: Global, text: &str) -> Result<App, Fault>
-    ensures said { Gives (λ app. app) result (app_within text.now) }
+    ensures said { Gives result (app_within text.now) }
     ensures memory { result ≡ Err Fault.OutOfMemory → IsOk (app_within text.now) }
 {
     match App::read(alloc, text) {
@@ -82,7 +81,7 @@ fn app_within(alloc: Global, text: &str) -> Result<App, Fault>
 
 /// The id of that name. `BadBatch` where it is no name; `OutOfMemory`.
 fn id_within(alloc: Global, text: &str) -> Result<Id, Fault>
-    ensures said { Gives (λ id. id) result (name_within text.now) }
+    ensures said { Gives result (name_within text.now) }
     ensures memory { result ≡ Err Fault.OutOfMemory → IsOk (name_within text.now) }
 {
     match Id::read(alloc, text) {
@@ -95,7 +94,7 @@ fn id_within(alloc: Global, text: &str) -> Result<Id, Fault>
 /// The lease of which an item speaks. `BadBatch` where a name is none; `OutOfMemory`.
 #[tactic(auto, unfolding(crate::specs::Batch::key_in))]
 fn key_in(alloc: Global, item: &Value) -> Result<Key, Fault>
-    ensures { Gives (λ key. key) result (key_in (view item.now)) }
+    ensures { Gives result (key_in (view item.now)) }
 {
     let app = app_within(alloc, text_at(item, "appName"))?;
     let id = id_within(alloc, text_at(item, "id"))?;
@@ -104,7 +103,7 @@ fn key_in(alloc: Global, item: &Value) -> Result<Key, Fault>
 
 /// The instance of an item, with the faults of `read_instance`.
 fn instance_in(alloc: Global, item: Value, app: &App, moment: Moment) -> Result<Instance, Fault>
-    ensures { Reads result (instance_in app.now moment (get (codes "instanceInfo") (view item))) }
+    ensures { Gives result (instance_in app.now moment (get (codes "instanceInfo") (view item))) }
 {
     let Some(instance) = take(item, "instanceInfo") else {
         return Err(Fault::NotJson);
@@ -121,7 +120,7 @@ fn instance_in(alloc: Global, item: Value, app: &App, moment: Moment) -> Result<
 /// The registration that an item asks for, of an instance of that application.
 #[tactic(auto, unfolding(crate::specs::Batch::command_of))]
 fn register_of(alloc: Global, item: Value, key: Key, moment: Moment) -> Result<Command, Fault>
-    ensures { Gives said_by result (command_of moment (view item) key Action.Register) }
+    ensures { Gives result (command_of moment (view item) key Action.Register) }
 {
     let instance = instance_in(alloc, item, &key.app, moment)?;
     let instance = BoxedInstance::new(alloc, instance)?;
@@ -134,7 +133,7 @@ fn register_of(alloc: Global, item: Value, key: Key, moment: Moment) -> Result<C
 /// The renewal that an item asks for.
 #[tactic(auto, unfolding(crate::specs::Batch::command_of))]
 fn renew_of(item: &Value, key: Key, moment: Moment) -> Result<Command, Fault>
-    ensures { Gives said_by result (command_of moment (view item.now) key Action.Heartbeat) }
+    ensures { Gives result (command_of moment (view item.now) key Action.Heartbeat) }
 {
     let dirty = dirty_in(item, moment)?;
     Ok(Command::Renew {
@@ -148,7 +147,7 @@ fn renew_of(item: &Value, key: Key, moment: Moment) -> Result<Command, Fault>
 /// The override that an item asks for.
 #[tactic(auto, unfolding(crate::specs::Batch::command_of))]
 fn set_status_of(item: &Value, key: Key, moment: Moment) -> Result<Command, Fault>
-    ensures { Gives said_by result (command_of moment (view item.now) key Action.StatusUpdate) }
+    ensures { Gives result (command_of moment (view item.now) key Action.StatusUpdate) }
 {
     let status = status_needed(item.get("status"))?;
     let dirty = dirty_in(item, moment)?;
@@ -163,7 +162,7 @@ fn set_status_of(item: &Value, key: Key, moment: Moment) -> Result<Command, Faul
 /// The end of an override that an item asks for.
 #[tactic(auto, unfolding(crate::specs::Batch::command_of))]
 fn unset_status_of(item: &Value, key: Key, moment: Moment) -> Result<Command, Fault>
-    ensures { Gives said_by result (command_of moment (view item.now) key Action.DeleteStatusOverride) }
+    ensures { Gives result (command_of moment (view item.now) key Action.DeleteStatusOverride) }
 {
     let dirty = dirty_in(item, moment)?;
     Ok(Command::UnsetStatus {
@@ -175,9 +174,9 @@ fn unset_status_of(item: &Value, key: Key, moment: Moment) -> Result<Command, Fa
 }
 
 /// What an item asks for.
-#[tactic(auto, unfolding(crate::specs::Batch::of_item))]
+#[tactic(auto, unfolding(crate::specs::Batch::of_item, crate::specs::Batch::command_of))]
 fn of_item(alloc: Global, item: Value, moment: Moment) -> Result<Command, Fault>
-    ensures { Gives said_by result (of_item moment (view item)) }
+    ensures { Gives result (of_item moment (view item)) }
 {
     let action = action_in(&item)?;
     let key = key_in(alloc, &item)?;
@@ -195,7 +194,7 @@ fn of_item(alloc: Global, item: Value, moment: Moment) -> Result<Command, Fault>
 
 /// What each item asks for, in order.
 fn of_items(alloc: Global, items: Vec<Value>, moment: Moment) -> Result<Vec<Command>, Fault>
-    ensures { Gives (λ v. map said_by v.items) result (of_items moment (items_view items.items)) }
+    ensures { Gives (result_map (λ v. v.items) result) (of_items moment (items_view items.items)) }
 {
     let mut commands = Vec::with_capacity(alloc, items.len())?;
     for item in items {
@@ -219,7 +218,7 @@ fn array_of(value: Value) -> Option<Vec<Value>>
 
 /// The items of a body. `BadBatch` where its member `replicationList` isn't a list of at most `MOST_ITEMS`.
 fn items_in(body: Value) -> Result<Vec<Value>, Fault>
-    ensures said { Equals (λ v. items_view v.items) result (items_in (view body)) }
+    ensures said { result_map (λ v. items_view v.items) result ≡ items_in (view body) }
     ensures memory { result ≢ Err Fault.OutOfMemory }
 {
     let Some(list) = take(body, "replicationList") else {
@@ -237,7 +236,7 @@ fn items_in(body: Value) -> Result<Vec<Value>, Fault>
 /// The commands of a text, else the first fault of what stands inside.
 #[tactic(auto, unfolding(crate::specs::Batch::of_text))]
 fn of_text(alloc: Global, text: &str, moment: Moment) -> Result<Vec<Command>, Fault>
-    ensures said { Gives (λ v. map said_by v.items) result (of_text moment text.now) }
+    ensures said { Gives (result_map (λ v. v.items) result) (of_text moment text.now) }
     ensures memory { result ≡ Err Fault.OutOfMemory → text.now ≢ [] }
 {
     let body = match parse(alloc, text) {
@@ -272,7 +271,7 @@ fn of_text(alloc: Global, text: &str, moment: Moment) -> Result<Vec<Command>, Fa
 /// `BadBatch` where the text isn't JSON or nests deeper than 127, where it isn't such a body, and where an instance has a fault by
 /// `read_instance`. `OutOfMemory` may come in place of it, but not for a text without a byte.
 pub fn read_batch(alloc: Global, text: &str, moment: Moment) -> Result<Vec<Command>, Fault>
-    ensures said { Gives (λ v. map said_by v.items) result (batch_of moment text.now) }
+    ensures said { Gives (result_map (λ v. v.items) result) (batch_of moment text.now) }
     ensures memory { result ≡ Err Fault.OutOfMemory → text.now ≢ [] }
 {
     match of_text(alloc, text, moment) {

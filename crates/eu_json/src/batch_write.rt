@@ -25,7 +25,7 @@ fn instance_members(
     ensures whole { IfOk result (λ members. members_have_float (members_view members.entries) ≡ false) }
 {
     let mut members = Map::new(alloc);
-    let dirty = Value::String(instance.dirty.to_string(alloc)?);
+    let dirty = Value::String(instance.dirty.value().to_string(alloc)?);
     set(alloc, &mut members, "lastDirtyTimestamp", dirty)?;
     let overridden = instance.overridden.name();
     set_text(alloc, &mut members, "overriddenStatus", overridden)?;

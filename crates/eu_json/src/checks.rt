@@ -1,7 +1,7 @@
 //! What must stand in an instance.
 ghost use Rattle.std.specs.Prelude.{◌≡◌, ◌≢◌, ◌<◌, length, Err, IfOk};
 ghost use Rattle.serde_json.specs.View.{view};
-ghost use Rattle.eu_json.specs.Fields.{Equals};
+ghost use Rattle.eu_json.specs.Gives.{result_map};
 ghost use Rattle.eu_json.specs.Reading.{address_stands, app_stands, center_stands, name_of};
 
 use crate::members::text_at;
@@ -13,7 +13,7 @@ use serde_json::Value;
 ///
 /// `MissingId` where both are blank, `MissingHost` where the host's name is.
 pub fn name_of(instance: &Value) -> Result<&str, Fault>
-    ensures name { Equals (λ name. name.now) result (name_of (view instance.now)) }
+    ensures name { result_map (λ name. name.now) result ≡ name_of (view instance.now) }
     ensures filled { IfOk result (λ name. 0 < length name.now) }
     ensures memory { result ≢ Err Fault.OutOfMemory }
 {

@@ -1,17 +1,11 @@
 //! Numbers that members write.
-ghost use Rattle.std.specs.Prelude.{◌≡◌, ◌≢◌, ◌≤◌, ◌<◌, ◌^◌, Err, IfOk};
+ghost use Rattle.std.specs.Prelude.{◌≡◌, ◌≢◌, ◌≤◌, Err};
 ghost use Rattle.std.specs.Option.{option_map};
 ghost use Rattle.serde_json.specs.View.{view};
-ghost use Rattle.eu_json.specs.Reading.{digits_within, interval_in, secs_in, secs_within, stamp_in, stamp_within};
+ghost use Rattle.eu_json.specs.Reading.{digits_within, interval_in, secs_in, secs_within, stamp_in};
 
-use eu_base::{Fault, Instance, Moment};
+use eu_base::{Fault, LeaseSecs, Moment, RenewalSecs, Stamp};
 use serde_json::Value;
-
-/// The longest duration of a lease, in seconds.
-const LONGEST_SECS: u64 = 2_147_483;
-
-/// The longest interval between renewals, in seconds.
-const LONGEST_INTERVAL: u64 = 2_147_483_647;
 
 /// Up to `most` decimal digits as a number. None for any other text.
 fn digits_within(most: usize, text: &[u8]) -> Option<u64>
@@ -31,63 +25,44 @@ fn digits_within(most: usize, text: &[u8]) -> Option<u64>
     Some(value)
 }
 
-/// A stamp, else `BadStamp`.
-fn stamp_within(number: u64) -> Result<u64, Fault>
-    ensures said { result ≡ stamp_within number }
-    ensures memory { result ≢ Err Fault.OutOfMemory }
-{
-    if number < 1 << 63 {
-        Ok(number)
-    } else {
-        Err(Fault::BadStamp)
-    }
-}
-
 /// The stamp that a member writes as a number or in 1 to 19 digits, else `BadStamp`; the moment where it is absent or null.
-pub fn stamp_in(moment: Moment, member: Option<&Value>) -> Result<u64, Fault>
+pub fn stamp_in(moment: Moment, member: Option<&Value>) -> Result<Stamp, Fault>
     ensures stamp { result ≡ stamp_in moment (option_map (λ v. view v.now) member.entry) }
-    ensures bound { IfOk result (λ n. n < 2 ^ 63) }
     ensures memory { result ≢ Err Fault.OutOfMemory }
 {
-    match member {
-        None | Some(Value::Null) => Ok(moment.ms()),
-        Some(Value::Number(number)) => match number.as_u64() {
-            Some(number) => stamp_within(number),
-            None => Err(Fault::BadStamp),
-        },
-        Some(Value::String(text)) => match digits_within(19, text.as_bytes()) {
-            Some(number) => stamp_within(number),
-            None => Err(Fault::BadStamp),
-        },
-        Some(Value::Bool(_) | Value::Array(_) | Value::Object(_)) => Err(Fault::BadStamp),
-    }
+    let number = match member {
+        None | Some(Value::Null) => Some(moment.ms()),
+        Some(Value::Number(number)) => number.as_u64(),
+        Some(Value::String(text)) => digits_within(19, text.as_bytes()),
+        Some(Value::Bool(_) | Value::Array(_) | Value::Object(_)) => None,
+    };
+    number.and_then(Stamp::new).ok_or(Fault::BadStamp)
 }
 
-/// A duration in seconds, else `BadDuration`. 0 stands for `Instance::DEFAULT_SECS`.
-fn secs_within(number: u64) -> Result<u32, Fault>
+/// A duration of so many seconds, else `BadDuration`. 0 stands for `LeaseSecs::DEFAULT`.
+fn secs_within(number: u64) -> Result<LeaseSecs, Fault>
     ensures said { result ≡ secs_within number }
     ensures memory { result ≢ Err Fault.OutOfMemory }
 {
-    match number {
-        0 => Ok(Instance::DEFAULT_SECS),
-        1..=LONGEST_SECS => Ok(number as u32),
-        _ => Err(Fault::BadDuration),
+    if number == 0 {
+        return Ok(LeaseSecs::DEFAULT);
     }
+    let secs = u32::try_from(number).ok().and_then(LeaseSecs::new);
+    secs.ok_or(Fault::BadDuration)
 }
 
-/// The duration that a member writes as a number or in 1 to 10 digits, else `BadDuration`. `Instance::DEFAULT_SECS` where it
-/// is absent, null or not above 0.
-pub fn secs_in(member: Option<&Value>) -> Result<u32, Fault>
+/// The duration that a member writes as a number or in 1 to 10 digits, else `BadDuration`. `LeaseSecs::DEFAULT` where it is
+/// absent, null or not above 0.
+pub fn secs_in(member: Option<&Value>) -> Result<LeaseSecs, Fault>
     ensures secs { result ≡ secs_in (option_map (λ v. view v.now) member.entry) }
-    ensures bounds { IfOk result (λ n. (1 ≤ n) × (n ≤ 2147483)) }
     ensures memory { result ≢ Err Fault.OutOfMemory }
 {
     match member {
-        None | Some(Value::Null) => Ok(Instance::DEFAULT_SECS),
+        None | Some(Value::Null) => Ok(LeaseSecs::DEFAULT),
         Some(Value::Number(number)) => match number.as_u64() {
             Some(number) => secs_within(number),
             None if number.is_f64() => Err(Fault::BadDuration),
-            None => Ok(Instance::DEFAULT_SECS),
+            None => Ok(LeaseSecs::DEFAULT),
         },
         Some(Value::String(text)) => match digits_within(10, text.as_bytes()) {
             Some(number) => secs_within(number),
@@ -97,14 +72,14 @@ pub fn secs_in(member: Option<&Value>) -> Result<u32, Fault>
     }
 }
 
-/// The interval between renewals that a member writes as a number from 1 to 2^31 - 1. `Instance::DEFAULT_INTERVAL` for any
-/// other, and where it is absent.
-pub fn interval_in(member: Option<&Value>) -> u32
-    ensures interval { result ≡ interval_in (option_map (λ v. view v.now) member.entry) }
-    ensures bounds { (1 ≤ result) × (result < 2 ^ 31) }
+/// The interval between renewals that a member writes as a number from 1 to 2^31 - 1. `RenewalSecs::DEFAULT` for any other, and
+/// where it is absent.
+pub fn interval_in(member: Option<&Value>) -> RenewalSecs
+    ensures { result ≡ interval_in (option_map (λ v. view v.now) member.entry) }
 {
-    match member.and_then(Value::as_u64) {
-        Some(number) if 1 <= number && number <= LONGEST_INTERVAL => number as u32,
-        _ => Instance::DEFAULT_INTERVAL,
-    }
+    let number = member.and_then(Value::as_u64);
+    let secs = number
+        .and_then(|number| u32::try_from(number).ok())
+        .and_then(RenewalSecs::new);
+    secs.unwrap_or(RenewalSecs::DEFAULT)
 }

@@ -4,7 +4,7 @@ ghost use Rattle.std.specs.Option.{option_map};
 ghost use Rattle.serde_json.specs.Read.{read};
 ghost use Rattle.serde_json.specs.View.{view};
 ghost use Rattle.eu_base.specs.Rest.{IsRest};
-ghost use Rattle.eu_json.specs.Fields.{Equals, Reads};
+ghost use Rattle.eu_json.specs.Gives.{Gives, result_map};
 ghost use Rattle.eu_json.specs.Reading.{instance_of, lease_member, of_object, rest_of, short};
 
 use crate::checks::{check_address, check_app, check_center, name_of};
@@ -43,7 +43,7 @@ fn lease_member<'v>(instance: &'v Value, name: &str) -> Option<&'v Value>
 
 /// `TooLong` where a name has more than 255 bytes.
 fn check_len(name: &str) -> Result<(), Fault>
-    ensures said { Equals (λ _. name.now) result (short name.now) }
+    ensures said { result_map (λ _. name.now) result ≡ short name.now }
     ensures memory { result ≢ Err Fault.OutOfMemory }
 {
     if name.len() > LONGEST_NAME {
@@ -88,7 +88,7 @@ pub fn of_object(
     moment: Moment,
 ) -> Result<Instance, Fault>
     requires { IsRest (view instance) }
-    ensures said { Reads result (of_object app.now moment (view instance)) }
+    ensures said { Gives result (of_object app.now moment (view instance)) }
     ensures memory { result ≡ Err Fault.OutOfMemory → IsOk (of_object app.now moment (view instance)) }
 {
     let name = name_of(&instance)?;
@@ -130,8 +130,8 @@ pub fn of_object(
 ///   or null;
 /// - `lastDirtyTimestamp` is a stamp, as a number or a text of 1 to 19 digits; absent or null it is the moment;
 /// - `leaseInfo`, where it is an object, has `durationInSecs`, the seconds that the lease lasts, as a number or a text of 1 to
-///   10 digits (`Instance::DEFAULT_SECS` where it is absent, null or not above 0), and `renewalIntervalInSecs`, the seconds
-///   between renewals (`Instance::DEFAULT_INTERVAL` where it isn't a whole number from 1 to 2^31 - 1);
+///   10 digits (`LeaseSecs::DEFAULT` where it is absent, null or not above 0), and `renewalIntervalInSecs`, the seconds
+///   between renewals (`RenewalSecs::DEFAULT` where it isn't a whole number from 1 to 2^31 - 1);
 /// - every other member, `hostName`, `ipAddr` and `dataCenterInfo` too, is kept as it is given, in `rest`.
 ///
 /// The first of these faults that holds is told:
@@ -154,7 +154,7 @@ pub fn read_instance(
     app: &App,
     moment: Moment,
 ) -> Result<Instance, Fault>
-    ensures said { Reads result (instance_of app.now moment text.now) }
+    ensures said { Gives result (instance_of app.now moment text.now) }
     ensures memory { result ≡ Err Fault.OutOfMemory → text.now ≢ [] }
 {
     let body = parse(alloc, text)?;

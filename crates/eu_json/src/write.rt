@@ -18,7 +18,7 @@ fn lease_value(
 ) -> Result<Value, AllocError>
     ensures { IfOk result (λ v. view v ≡ lease_tree instance.now times) }
 {
-    let (secs, interval) = (instance.secs, instance.interval);
+    let (secs, interval) = (instance.secs.secs(), instance.interval.secs());
     match times {
         None => json!(in alloc; {
             "durationInSecs": secs,
@@ -62,7 +62,7 @@ pub fn instance_value(
     )?;
     let lease = lease_value(alloc, instance, times)?;
     set(alloc, &mut members, "leaseInfo", lease)?;
-    let dirty = Value::String(instance.dirty.to_string(alloc)?);
+    let dirty = Value::String(instance.dirty.value().to_string(alloc)?);
     set(alloc, &mut members, "lastDirtyTimestamp", dirty)?;
     set_text(alloc, &mut members, "instanceId", instance.key.id.as_str())?;
     set_text(alloc, &mut members, "app", instance.key.app.as_str())?;

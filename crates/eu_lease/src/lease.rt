@@ -2,7 +2,7 @@
 ghost use Rattle.std.specs.Prelude.{◌≡◌, ◌*◌, ◌≤◌, ◌^◌};
 ghost use Rattle.eu_lease.specs.Term.{fresh, renewed, anew, upped, deadline, is_expired, times_of};
 
-use eu_base::Moment;
+use eu_base::{LeaseSecs, Moment};
 use eu_model::Times;
 use std::marker::Model;
 
@@ -12,7 +12,7 @@ pub struct Lease {
     registered: u64,
     up: u64,
     updated: u64,
-    secs: u32,
+    secs: LeaseSecs,
 }
 
 impl Model for Lease {
@@ -28,10 +28,8 @@ impl Model for Lease {
 }
 
 impl Lease {
-    /// A lease that is made now, for so many seconds, at most 2,147,483: its last update is now, and its instance was never up (`Lease`'s
-    /// constructor).
-    pub fn fresh(moment: Moment, secs: u32) -> Lease
-        requires { secs ≤ 2147483 }
+    /// A lease that is made now and lasts so long: its last update is now, and its instance was never up (`Lease`'s constructor).
+    pub fn fresh(moment: Moment, secs: LeaseSecs) -> Lease
         ensures { result ≡ fresh moment secs }
     {
         let now = moment.ms();
@@ -43,10 +41,9 @@ impl Lease {
         }
     }
 
-    /// The lease made anew, for so many seconds, at most 2,147,483: only the moment at which its instance was first up stays
+    /// The lease made anew, to last so long: only the moment at which its instance was first up stays
     /// (`AbstractInstanceRegistry.register`, which carries `serviceUpTimestamp` over).
-    pub fn anew(&self, moment: Moment, secs: u32) -> Lease
-        requires { secs ≤ 2147483 }
+    pub fn anew(&self, moment: Moment, secs: LeaseSecs) -> Lease
         ensures { result ≡ anew self.now moment secs }
     {
         Lease {
@@ -77,7 +74,7 @@ impl Lease {
     fn duration(&self) -> u64
         ensures { result ≡ 1000 * self.now.secs }
     {
-        1000 * u64::from(self.secs)
+        1000 * u64::from(self.secs.secs())
     }
 
     /// The last moment at which the lease hasn't expired: one duration after its last update.
@@ -117,8 +114,8 @@ impl Lease {
         self.updated
     }
 
-    /// How long it lasts, in seconds.
-    pub fn secs(&self) -> u32
+    /// How long it lasts.
+    pub fn secs(&self) -> LeaseSecs
         ensures { result ≡ self.now.secs }
     {
         self.secs

@@ -3,7 +3,7 @@ ghost use Rattle.std.specs.Prelude.{◌≡◌, ◌≤◌, ◌-◌, ◌*◌, ◌/
 ghost use Rattle.eu_model.specs.Meter.{threshold, is_permitted, expected_after};
 ghost use Rattle.eu_model.specs.Change.{one_more};
 
-use eu_base::{Config, Fault};
+use eu_base::{Config, Fault, Percent};
 use std::marker::Model;
 
 /// The most clients that can be expected.
@@ -45,21 +45,18 @@ fn value_of(config: &Config, expected: u64) -> u64
     requires { expected ≤ 2 ^ 40 }
     ensures { result ≡ threshold config.now expected }
 {
-    let Config {
-        percent,
-        interval,
-        ..
-    } = *config;
-    expected * 60 * u64::from(percent) / (u64::from(interval) * 100)
+    let percent = u64::from(config.percent.value());
+    let interval = u64::from(config.interval.secs());
+    expected * 60 * percent / (interval * 100)
 }
 
 /// How many of so many leases one eviction pass may take out: all but the percentage, which is rounded down
-/// (`AbstractInstanceRegistry.evict` in Eureka); none where the percentage is above 100.
-pub fn evict_limit(size: usize, percent: u32) -> usize
+/// (`AbstractInstanceRegistry.evict` in Eureka).
+pub fn evict_limit(size: usize, percent: Percent) -> usize
     ensures { result ≡ size - size * percent / 100 }
 {
-    let size = size as u128;
-    size.saturating_sub(size * u128::from(percent) / 100) as usize
+    let stay = size as u128 * u128::from(percent.value()) / 100;
+    size - stay as usize
 }
 
 impl Threshold {
@@ -148,7 +145,7 @@ impl Threshold {
         ensures { self.new ≡ record self.old { expected = expected_after self.old.config self.old.expected held } }
     {
         let held = u64::from(held);
-        let percent = u64::from(self.config.percent);
+        let percent = u64::from(self.config.percent.value());
         if percent * self.expected < held * 100 || !self.config.preservation {
             self.expected = held;
         }

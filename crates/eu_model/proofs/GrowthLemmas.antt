@@ -8,7 +8,6 @@ use Rattle.eu_base.specs.declared.instances.Instance.{Instance}
 use Rattle.eu_base.specs.declared.names.Key.{Key}
 use Rattle.eu_base.specs.declared.statuses.Status.{Status}
 use Rattle.eu_base.specs.declared.statuses.Status.TheVariants.{Unknown}
-use Rattle.eu_base.specs.declared.times.Stamp.{Stamp}
 use Rattle.eu_base.specs.Key.{key_cmp, key_eq}
 use Rattle.eu_base.proofs.KeyLemmas.{keys_total, key_eq-ties, key_eq-Decides}
 use Rattle.eu_model.specs.declared.commands.Command.{Command}
@@ -64,7 +63,7 @@ secs_under (Some row) i = refl
 
 secs_newer : (held : Option Instance) (n : Instance) → duration (newer held n) ≡ duration n
 secs_newer None n = refl
-secs_newer (Some h) n = elim (nat_lt n.dirty h.dirty) as (λ b. duration (cond b (record h { secs = n.secs; secs_bound = n.secs_bound }) n) ≡ duration n) [ true ↦ refl | false ↦ refl ]
+secs_newer (Some h) n = elim (nat_lt n.dirty h.dirty) as (λ b. duration (cond b (record h { secs = n.secs }) n) ≡ duration n) [ true ↦ refl | false ↦ refl ]
 
 secs_joined : (held : Option Instance) (row : Option Status) (n : Instance) (replicated : Bool) → duration (joined held row n replicated) ≡ duration n
 secs_joined held row n replicated = secs_under (row_after row (newer held n).overridden) (newer held n) ∙ secs_newer held n
@@ -95,18 +94,18 @@ renews_at c t m k q v true (r, r', old, new, at, long) =
       | false ↦ λ is e. e
     ] refl (get_with m q v k)
 
-pub found_reply : (dirty : Option Stamp) (i : Instance) (replicated : Bool) → is_found (renew_reply dirty i replicated) ≡ true
+pub found_reply : (dirty : Option ℕ) (i : Instance) (replicated : Bool) → is_found (renew_reply dirty i replicated) ≡ true
 found_reply None i replicated = refl
 found_reply (Some d) i replicated =
-    elim (nat_lt i.dirty d.value) as (λ b. is_found (cond b Stale (cond (nat_lt d.value i.dirty && replicated) (Conflict i) Done)) ≡ true) [
+    elim (nat_lt i.dirty d) as (λ b. is_found (cond b Stale (cond (nat_lt d i.dirty && replicated) (Conflict i) Done)) ≡ true) [
       | true ↦ refl
-      | false ↦ elim (nat_lt d.value i.dirty && replicated) as (λ b. is_found (cond b (Conflict i) Done) ≡ true) [ true ↦ refl | false ↦ refl ]
+      | false ↦ elim (nat_lt d i.dirty && replicated) as (λ b. is_found (cond b (Conflict i) Done) ≡ true) [ true ↦ refl | false ↦ refl ]
     ]
 
 renewed_at : (r : Record) (t : ℕ) → newest (renewed r t).touches ≡ record { at = t; kind = Renewed }
 renewed_at r t = newest_snoc r.touches (record { at = t; kind = Renewed })
 
-renew_renews : (held : Option Record) (row : Option Status) (expected : ℕ) (dirty : Option Stamp) (overridden : Option Status) (replicated : Bool) (t : ℕ)
+renew_renews : (held : Option Record) (row : Option Status) (expected : ℕ) (dirty : Option ℕ) (overridden : Option Status) (replicated : Bool) (t : ℕ)
     → Renews (is_found (renew held row expected dirty overridden replicated t).reply) t held (renew held row expected dirty overridden replicated t).lease
 renew_renews None row expected dirty overridden replicated t = refl
 renew_renews (Some r) row expected dirty overridden replicated t =
@@ -120,11 +119,11 @@ renew_renews (Some r) row expected dirty overridden replicated t =
       | false ↦ subst (λ b. Renews b t (Some r) (renew_as r row expected dirty overridden replicated t status).lease) (sym (found_reply dirty i replicated)) as_renewed
     ]
 
-secs_stamped : (dirty : Option Stamp) (i : Instance) → duration (stamped dirty i) ≡ duration i
+secs_stamped : (dirty : Option ℕ) (i : Instance) → duration (stamped dirty i) ≡ duration i
 secs_stamped None i = refl
-secs_stamped (Some d) i = elim (nat_lt i.dirty d.value) as (λ b. duration (cond b (record i { dirty = d.value; dirty_bound = d.bound }) i) ≡ duration i) [ true ↦ refl | false ↦ refl ]
+secs_stamped (Some d) i = elim (nat_lt i.dirty d) as (λ b. duration (cond b (record i { dirty = d }) i) ≡ duration i) [ true ↦ refl | false ↦ refl ]
 
-set_renews : (permitted : Bool) (held : Option Record) (row : Option Status) (expected : ℕ) (status : Status) (dirty : Option Stamp) (t : ℕ)
+set_renews : (permitted : Bool) (held : Option Record) (row : Option Status) (expected : ℕ) (status : Status) (dirty : Option ℕ) (t : ℕ)
     → Renews (is_found (set_status (seen permitted t held) held row expected status dirty t).reply) t held (set_status (seen permitted t held) held row expected status dirty t).lease
 set_renews permitted None row expected status dirty t = refl
 set_renews permitted (Some r) row expected status dirty t =
@@ -136,7 +135,7 @@ set_renews permitted (Some r) row expected status dirty t =
       ]
     ]
 
-unset_renews : (permitted : Bool) (held : Option Record) (row : Option Status) (expected : ℕ) (suggested : Option Status) (dirty : Option Stamp) (t : ℕ)
+unset_renews : (permitted : Bool) (held : Option Record) (row : Option Status) (expected : ℕ) (suggested : Option Status) (dirty : Option ℕ) (t : ℕ)
     → Renews (is_found (unset_status (seen permitted t held) held row expected suggested dirty t).reply) t held (unset_status (seen permitted t held) held row expected suggested dirty t).lease
 unset_renews permitted None row expected suggested dirty t = refl
 unset_renews permitted (Some r) None expected suggested dirty t =

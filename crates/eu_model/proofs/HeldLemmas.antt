@@ -12,7 +12,6 @@ use Rattle.eu_base.specs.declared.instances.Instance.{Instance}
 use Rattle.eu_base.specs.declared.names.Key.{Key}
 use Rattle.eu_base.specs.declared.statuses.Status.{Status}
 use Rattle.eu_base.specs.declared.statuses.Status.TheVariants.{Unknown}
-use Rattle.eu_base.specs.declared.times.Stamp.{Stamp}
 use Rattle.eu_base.specs.Key.{key_cmp, key_eq}
 use Rattle.eu_base.proofs.KeyLemmas.{keys_total, key_eq-ties, key_eq-flips}
 use Rattle.eu_model.specs.declared.commands.Command.TheVariants.{Register, Renew, Cancel, SetStatus, UnsetStatus, Adopt, Evict, Drain, Landed, Lost}
@@ -65,14 +64,14 @@ module _ {X : Type 0} where
 
 -- ---- the steps
 
-renew_holds : (held : Option Record) (row : Option Status) (expected : ℕ) (dirty : Option Stamp) (overridden : Option Status) (replicated : Bool) (t : ℕ)
+renew_holds : (held : Option Record) (row : Option Status) (expected : ℕ) (dirty : Option ℕ) (overridden : Option Status) (replicated : Bool) (t : ℕ)
     → is_some (renew held row expected dirty overridden replicated t).lease ≡ is_some held
 renew_holds None row expected dirty overridden replicated t = refl
 renew_holds (Some r) row expected dirty overridden replicated t =
     let status = rule r.instance.status row (Some r.instance.status) replicated in
     elim (is_status status Unknown) as (λ b. is_some (cond b (uncounted (Some r) row expected NotFound) (renew_as r row expected dirty overridden replicated t status)).lease ≡ true) [ true ↦ refl | false ↦ refl ]
 
-set_holds : (permitted : Bool) (held : Option Record) (row : Option Status) (expected : ℕ) (status : Status) (dirty : Option Stamp) (t : ℕ)
+set_holds : (permitted : Bool) (held : Option Record) (row : Option Status) (expected : ℕ) (status : Status) (dirty : Option ℕ) (t : ℕ)
     → is_some (set_status (seen permitted t held) held row expected status dirty t).lease ≡ is_some held
 set_holds permitted None row expected status dirty t = refl
 set_holds permitted (Some r) row expected status dirty t =
@@ -81,7 +80,7 @@ set_holds permitted (Some r) row expected status dirty t =
       | false ↦ elim (is_status r.instance.status status) as (λ b. is_some (cond b (uncounted (Some (renewed r t)) row expected Done) (uncounted (Some (in_status r status dirty t)) (Some status) expected Done)).lease ≡ true) [ true ↦ refl | false ↦ refl ]
     ]
 
-unset_holds : (permitted : Bool) (held : Option Record) (row : Option Status) (expected : ℕ) (suggested : Option Status) (dirty : Option Stamp) (t : ℕ)
+unset_holds : (permitted : Bool) (held : Option Record) (row : Option Status) (expected : ℕ) (suggested : Option Status) (dirty : Option ℕ) (t : ℕ)
     → is_some (unset_status (seen permitted t held) held row expected suggested dirty t).lease ≡ is_some held
 unset_holds permitted None row expected suggested dirty t = refl
 unset_holds permitted (Some r) None expected suggested dirty t =

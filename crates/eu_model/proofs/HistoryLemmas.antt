@@ -11,7 +11,6 @@ use Rattle.eu_base.specs.declared.names.Key.{Key}
 use Rattle.eu_base.specs.declared.settings.Config.{Config}
 use Rattle.eu_base.specs.declared.statuses.Status.{Status}
 use Rattle.eu_base.specs.declared.statuses.Status.TheVariants.{Unknown}
-use Rattle.eu_base.specs.declared.times.Stamp.{Stamp}
 use Rattle.eu_base.specs.Key.{key_cmp}
 use Rattle.eu_model.specs.declared.commands.Command.{Command}
 use Rattle.eu_model.specs.declared.commands.Command.TheVariants.{Register, Renew, Cancel, SetStatus, UnsetStatus, Adopt, Roll, Update, Reconfigure, Evict, Drain, Landed, Lost}
@@ -88,7 +87,7 @@ said_push k es e old new said goes =
 abbrev marks_after : Command → Reply → List Mark → List Mark
 marks_after c reply marks = cond (ends_minute c) (marks ++ (Minute ∷ [])) (marked (is_counted c reply) marks)
 
-renew_counts : (held : Option Record) (row : Option Status) (expected : ℕ) (dirty : Option Stamp) (overridden : Option Status) (replicated : Bool) (t : ℕ)
+renew_counts : (held : Option Record) (row : Option Status) (expected : ℕ) (dirty : Option ℕ) (overridden : Option Status) (replicated : Bool) (t : ℕ)
     → (renew held row expected dirty overridden replicated t).counted ≡ is_found (renew held row expected dirty overridden replicated t).reply
 renew_counts None row expected dirty overridden replicated t = refl
 renew_counts (Some r) row expected dirty overridden replicated t =
@@ -98,13 +97,13 @@ renew_counts (Some r) row expected dirty overridden replicated t =
       | false ↦ sym (found_reply dirty (record r.instance { status = status }) replicated)
     ]
 
-set_counts : (visible held : Option Record) (row : Option Status) (expected : ℕ) (status : Status) (dirty : Option Stamp) (t : ℕ)
+set_counts : (visible held : Option Record) (row : Option Status) (expected : ℕ) (status : Status) (dirty : Option ℕ) (t : ℕ)
     → (set_status visible held row expected status dirty t).counted ≡ false
 set_counts None held row expected status dirty t = refl
 set_counts (Some r) held row expected status dirty t =
     elim (is_status r.instance.status status) as (λ b. (cond b (uncounted (Some (renewed r t)) row expected Done) (uncounted (Some (in_status r status dirty t)) (Some status) expected Done)).counted ≡ false) [ true ↦ refl | false ↦ refl ]
 
-unset_counts : (visible held : Option Record) (row : Option Status) (expected : ℕ) (suggested : Option Status) (dirty : Option Stamp) (t : ℕ)
+unset_counts : (visible held : Option Record) (row : Option Status) (expected : ℕ) (suggested : Option Status) (dirty : Option ℕ) (t : ℕ)
     → (unset_status visible held row expected suggested dirty t).counted ≡ false
 unset_counts None held row expected suggested dirty t = refl
 unset_counts (Some r) held None expected suggested dirty t = refl
@@ -129,20 +128,20 @@ cancel_expects : (k : Key) (replicated : Bool) (held : Option Record) (expected 
 cancel_expects k replicated None expected = refl
 cancel_expects k replicated (Some r) expected = refl
 
-renew_expects : (held : Option Record) (row : Option Status) (expected : ℕ) (dirty : Option Stamp) (overridden : Option Status) (replicated : Bool) (t : ℕ)
+renew_expects : (held : Option Record) (row : Option Status) (expected : ℕ) (dirty : Option ℕ) (overridden : Option Status) (replicated : Bool) (t : ℕ)
     → (renew held row expected dirty overridden replicated t).expected ≡ expected
 renew_expects None row expected dirty overridden replicated t = refl
 renew_expects (Some r) row expected dirty overridden replicated t =
     let status = rule r.instance.status row (Some r.instance.status) replicated in
     elim (is_status status Unknown) as (λ b. (cond b (uncounted (Some r) row expected NotFound) (renew_as r row expected dirty overridden replicated t status)).expected ≡ expected) [ true ↦ refl | false ↦ refl ]
 
-set_expects : (visible held : Option Record) (row : Option Status) (expected : ℕ) (status : Status) (dirty : Option Stamp) (t : ℕ)
+set_expects : (visible held : Option Record) (row : Option Status) (expected : ℕ) (status : Status) (dirty : Option ℕ) (t : ℕ)
     → (set_status visible held row expected status dirty t).expected ≡ expected
 set_expects None held row expected status dirty t = refl
 set_expects (Some r) held row expected status dirty t =
     elim (is_status r.instance.status status) as (λ b. (cond b (uncounted (Some (renewed r t)) row expected Done) (uncounted (Some (in_status r status dirty t)) (Some status) expected Done)).expected ≡ expected) [ true ↦ refl | false ↦ refl ]
 
-unset_expects : (visible held : Option Record) (row : Option Status) (expected : ℕ) (suggested : Option Status) (dirty : Option Stamp) (t : ℕ)
+unset_expects : (visible held : Option Record) (row : Option Status) (expected : ℕ) (suggested : Option Status) (dirty : Option ℕ) (t : ℕ)
     → (unset_status visible held row expected suggested dirty t).expected ≡ expected
 unset_expects None held row expected suggested dirty t = refl
 unset_expects (Some r) held None expected suggested dirty t = refl

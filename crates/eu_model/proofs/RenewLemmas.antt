@@ -5,7 +5,6 @@ use Rattle.std.specs.Option.{option_map}
 use Rattle.std.specs.FinMap.{get}
 use Rattle.eu_base.specs.declared.statuses.Status.{Status}
 use Rattle.eu_base.specs.declared.statuses.Status.TheVariants.{Unknown}
-use Rattle.eu_base.specs.declared.times.Stamp.{Stamp}
 use Rattle.eu_base.specs.declared.faults.Fault.{Fault}
 use Rattle.eu_base.specs.declared.faults.Fault.TheVariants.{Exhausted}
 use Rattle.eu_base.specs.declared.instances.Instance.{Instance}
@@ -27,7 +26,7 @@ use Rattle.eu_model.proofs.RecordLemmas.{renewed_alike}
 use Rattle.eu_model.proofs.ChangedLemmas.{held_of, change_is_kept}
 use Rattle.eu_model.proofs.AnswerLemmas.{IsKept, answered, refused}
 
-module _ (row : Option Status) (expected : ℕ) (dirty : Option Stamp) (overridden : Option Status) (replicated : Bool) (t : ℕ) where
+module _ (row : Option Status) (expected : ℕ) (dirty : Option ℕ) (overridden : Option Status) (replicated : Bool) (t : ℕ) where
   renew_as-kept : (r : Record) (status : Status) →
       kept (renew_as r row expected dirty overridden replicated t status) ≡ kept (renew_as (raised (listed r)) row expected dirty overridden replicated t status)
   renew_as-kept r status =
@@ -47,7 +46,7 @@ module _ (row : Option Status) (expected : ℕ) (dirty : Option Stamp) (overridd
         | false ↦ renew_as-kept r status
       ]
 
-module _ (k : Key) (dirty : Option Stamp) (overridden : Option Status) (replicated : Bool) (t : ℕ) where
+module _ (k : Key) (dirty : Option ℕ) (overridden : Option Status) (replicated : Bool) (t : ℕ) where
   -- the change that a renewal makes, in the machine and in what is kept
   abbrev pub renew_change : Machine → Change Record
   renew_change s = renew (get s.leases k) (get s.rows k.id) s.expected dirty overridden replicated t

@@ -4,7 +4,6 @@ use Rattle.std.specs.Prelude.{cond, Option, Some, None, Ok, Err}
 use Rattle.std.specs.Option.{option_map}
 use Rattle.std.specs.FinMap.{get}
 use Rattle.eu_base.specs.declared.statuses.Status.{Status}
-use Rattle.eu_base.specs.declared.times.Stamp.{Stamp}
 use Rattle.eu_base.specs.declared.faults.Fault.TheVariants.{OutOfMemory}
 use Rattle.eu_base.specs.declared.instances.Instance.{Instance}
 use Rattle.eu_base.specs.declared.names.Key.{Key}
@@ -37,7 +36,7 @@ module _ (row : Option Status) (expected : ℕ) where
       let lease = ap Some (renewed_alike r t i up) in
       λ x. record (kept (uncounted (Some (record (renewed r t) { instance = i; up = up })) row expected Done)) { lease = lease x }
 
-set-kept : (seen held : Option Record) (row : Option Status) (expected : ℕ) (status : Status) (dirty : Option Stamp) (t : ℕ) →
+set-kept : (seen held : Option Record) (row : Option Status) (expected : ℕ) (status : Status) (dirty : Option ℕ) (t : ℕ) →
     kept (set_status seen held row expected status dirty t) ≡ kept_set_status (option_map listed seen) (option_map listed held) row expected status dirty t
 set-kept None held row expected status dirty t = left-kept row expected held NotFound
 set-kept (Some r) held row expected status dirty t =
@@ -48,13 +47,13 @@ set-kept (Some r) held row expected status dirty t =
       | false ↦ renewed-kept (Some status) expected r t (in_status r status dirty t).instance (in_status r status dirty t).up
     ]
 
-unset-kept : (seen held : Option Record) (row : Option Status) (expected : ℕ) (suggested : Option Status) (dirty : Option Stamp) (t : ℕ) →
+unset-kept : (seen held : Option Record) (row : Option Status) (expected : ℕ) (suggested : Option Status) (dirty : Option ℕ) (t : ℕ) →
     kept (unset_status seen held row expected suggested dirty t) ≡ kept_unset_status (option_map listed seen) (option_map listed held) row expected suggested dirty t
 unset-kept None held row expected suggested dirty t = left-kept row expected held NotFound
 unset-kept (Some r) held None expected suggested dirty t = renewed-kept None expected r t r.instance r.up
 unset-kept (Some r) held (Some row) expected suggested dirty t = renewed-kept None expected r t (out_of_override r suggested dirty t).instance r.up
 
-module _ (k : Key) (status : Status) (dirty : Option Stamp) (t : ℕ) where
+module _ (k : Key) (status : Status) (dirty : Option ℕ) (t : ℕ) where
   -- the change that a status makes that is set, in the machine and in what is kept
   abbrev pub set_change : Machine → Change Record
   set_change s = set_status (visible s k t) (get s.leases k) (get s.rows k.id) s.expected status dirty t
@@ -77,7 +76,7 @@ module _ (k : Key) (status : Status) (dirty : Option Stamp) (t : ℕ) where
   pub set_refused : (replicated : Bool) (p : Plain) → Answers p (SetStatus k status dirty replicated) t (Err OutOfMemory) p
   set_refused replicated p = refused (SetStatus k status dirty replicated) t (λ q. None) (λ s. refl) p OutOfMemory refl
 
-module _ (k : Key) (suggested : Option Status) (dirty : Option Stamp) (t : ℕ) where
+module _ (k : Key) (suggested : Option Status) (dirty : Option ℕ) (t : ℕ) where
   -- the change that a status makes that is unset, in the machine and in what is kept
   abbrev pub unset_change : Machine → Change Record
   unset_change s = unset_status (visible s k t) (get s.leases k) (get s.rows k.id) s.expected suggested dirty t

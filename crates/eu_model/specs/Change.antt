@@ -4,7 +4,6 @@ use Rattle.std.specs.Option.{option_map, option_map_or, option_or}
 use Rattle.eu_base.specs.declared.statuses.Status.{Status}
 use Rattle.eu_base.specs.declared.statuses.Status.TheVariants.{Up, Unknown}
 use Rattle.eu_base.specs.declared.instances.Instance.{Instance}
-use Rattle.eu_base.specs.declared.times.Stamp.{Stamp}
 use Rattle.eu_model.specs.declared.commands.Reply.{Reply}
 use Rattle.eu_model.specs.declared.commands.Reply.TheVariants.{Registered, Done, NotFound, Stale, Conflict}
 use Rattle.eu_model.specs.Override.{rule, is_status}
@@ -27,7 +26,7 @@ uncounted lease row expected reply = record { lease = lease; row = row; expected
 -- the held instance stays where its stamp is strictly greater, but its duration is the newcomer's
 abbrev pub newer : Option Instance → Instance → Instance
 newer None n = n
-newer (Some h) n = if nat_lt n.dirty h.dirty then record h { secs = n.secs; secs_bound = n.secs_bound } else n
+newer (Some h) n = if nat_lt n.dirty h.dirty then record h { secs = n.secs } else n
 
 -- the row that an overridden status tells: none, where it is UNKNOWN
 abbrev pub told : Status → Option Status
@@ -75,10 +74,10 @@ register held row expected n replicated t =
 
 -- the reply to a renewal with this stamp: a sender with a greater one is to register; a peer with a smaller one is told
 -- the instance; else all is well
-abbrev pub renew_reply : Option Stamp → Instance → Bool → Reply
+abbrev pub renew_reply : Option ℕ → Instance → Bool → Reply
 renew_reply None i replicated = Done
 renew_reply (Some d) i replicated =
-    if nat_lt i.dirty d.value then Stale else (if nat_lt d.value i.dirty && replicated then Conflict i else Done)
+    if nat_lt i.dirty d then Stale else (if nat_lt d i.dirty && replicated then Conflict i else Done)
 
 -- the row that a peer's stale renewal brings: its overridden status, unless it is UNKNOWN or the row already
 abbrev pub brought : Reply → Bool → Option Status → Option Status → Option Status
@@ -87,7 +86,7 @@ brought Stale true (Some overridden) row =
 brought _ _ _ _ = None
 
 -- a renewal that gives this status
-abbrev pub renew_as : Record → Option Status → ℕ → Option Stamp → Option Status → Bool → ℕ → Status → Change Record
+abbrev pub renew_as : Record → Option Status → ℕ → Option ℕ → Option Status → Bool → ℕ → Status → Change Record
 renew_as r row expected dirty overridden replicated t status =
     let i = record r.instance { status = status } in
     let reply = renew_reply dirty i replicated in
@@ -101,7 +100,7 @@ renew_as r row expected dirty overridden replicated t status =
     }
 
 -- a lease whose status would be UNKNOWN isn't renewed
-abbrev pub renew : Option Record → Option Status → ℕ → Option Stamp → Option Status → Bool → ℕ → Change Record
+abbrev pub renew : Option Record → Option Status → ℕ → Option ℕ → Option Status → Bool → ℕ → Change Record
 renew None row expected dirty overridden replicated t = uncounted None row expected NotFound
 renew (Some r) row expected dirty overridden replicated t =
     let status = rule r.instance.status row (Some r.instance.status) replicated in
@@ -112,32 +111,32 @@ renew (Some r) row expected dirty overridden replicated t =
 -- not counted. One that isn't visible is not found, and stays
 
 -- a greater stamp replaces the one that is held
-abbrev pub stamped : Option Stamp → Instance → Instance
+abbrev pub stamped : Option ℕ → Instance → Instance
 stamped None i = i
-stamped (Some d) i = if nat_lt i.dirty d.value then record i { dirty = d.value; dirty_bound = d.bound } else i
+stamped (Some d) i = if nat_lt i.dirty d then record i { dirty = d } else i
 
 -- a lease that is renewed now with its instance in a status that is set
-abbrev pub in_status : Record → Status → Option Stamp → ℕ → Record
+abbrev pub in_status : Record → Status → Option ℕ → ℕ → Record
 in_status r status dirty t = record (renewed r t) {
   instance = stamped dirty (record r.instance { status = status; overridden = status });
   up = up_after r.up status t;
 }
 
 -- a lease that is renewed now with nothing that overrides: its instance is in the suggested status, or UNKNOWN
-abbrev pub out_of_override : Record → Option Status → Option Stamp → ℕ → Record
+abbrev pub out_of_override : Record → Option Status → Option ℕ → ℕ → Record
 out_of_override r suggested dirty t = record (renewed r t) {
   instance = stamped dirty (record r.instance { status = unwrap_or suggested Unknown; overridden = Unknown });
 }
 
 -- another status than the instance has becomes its own and its overridden one, and the row of its id
-abbrev pub set_status : Option Record → Option Record → Option Status → ℕ → Status → Option Stamp → ℕ → Change Record
+abbrev pub set_status : Option Record → Option Record → Option Status → ℕ → Status → Option ℕ → ℕ → Change Record
 set_status None held row expected status dirty t = uncounted held row expected NotFound
 set_status (Some r) held row expected status dirty t =
     if is_status r.instance.status status then uncounted (Some (renewed r t)) row expected Done
     else uncounted (Some (in_status r status dirty t)) (Some status) expected Done
 
 -- the row of the id goes, if there is one, and then nothing overrides
-abbrev pub unset_status : Option Record → Option Record → Option Status → ℕ → Option Status → Option Stamp → ℕ → Change Record
+abbrev pub unset_status : Option Record → Option Record → Option Status → ℕ → Option Status → Option ℕ → ℕ → Change Record
 unset_status None held row expected suggested dirty t = uncounted held row expected NotFound
 unset_status (Some r) held None expected suggested dirty t = uncounted (Some (renewed r t)) None expected Done
 unset_status (Some r) held (Some row) expected suggested dirty t = uncounted (Some (out_of_override r suggested dirty t)) None expected Done

@@ -5,7 +5,6 @@ use Rattle.std.specs.List.{IsDistinct}
 use Rattle.std.specs.FinMap.{get, len, contains_key, entries}
 use Rattle.eu_base.specs.declared.settings.Config.{Config}
 use Rattle.eu_base.specs.declared.statuses.Status.{Status}
-use Rattle.eu_base.specs.declared.times.Stamp.{Stamp}
 use Rattle.eu_base.specs.declared.faults.Fault.{Fault}
 use Rattle.eu_base.specs.declared.faults.Fault.TheVariants.{Full, Exhausted}
 use Rattle.eu_base.specs.declared.instances.Instance.{Instance}
@@ -37,18 +36,18 @@ kept c = record { lease = option_map listed c.lease; row = c.row; expected = c.e
 abbrev pub kept_register : Option Listed → Option Status → ℕ → Instance → Bool → ℕ → Change Listed
 kept_register held row expected n replicated t = kept (register (option_map raised held) row expected n replicated t)
 
-abbrev pub kept_renew : Option Listed → Option Status → ℕ → Option Stamp → Option Status → Bool → ℕ → Change Listed
+abbrev pub kept_renew : Option Listed → Option Status → ℕ → Option ℕ → Option Status → Bool → ℕ → Change Listed
 kept_renew held row expected dirty overridden replicated t =
     kept (renew (option_map raised held) row expected dirty overridden replicated t)
 
 abbrev pub kept_cancel : Option Listed → ℕ → Change Listed
 kept_cancel held expected = kept (cancel (option_map raised held) expected)
 
-abbrev pub kept_set_status : Option Listed → Option Listed → Option Status → ℕ → Status → Option Stamp → ℕ → Change Listed
+abbrev pub kept_set_status : Option Listed → Option Listed → Option Status → ℕ → Status → Option ℕ → ℕ → Change Listed
 kept_set_status seen held row expected status dirty t =
     kept (set_status (option_map raised seen) (option_map raised held) row expected status dirty t)
 
-abbrev pub kept_unset_status : Option Listed → Option Listed → Option Status → ℕ → Option Status → Option Stamp → ℕ → Change Listed
+abbrev pub kept_unset_status : Option Listed → Option Listed → Option Status → ℕ → Option Status → Option ℕ → ℕ → Change Listed
 kept_unset_status seen held row expected suggested dirty t =
     kept (unset_status (option_map raised seen) (option_map raised held) row expected suggested dirty t)
 

@@ -180,7 +180,11 @@ impl Command {
 fn is_stamp(stamp: Option<Stamp>, other: Option<Stamp>) -> bool
     ensures { IsTrue result ↔ (stamp ≡ other) }
 {
-    stamp == other
+    match (stamp, other) {
+        (Some(stamp), Some(other)) => stamp.value() == other.value(),
+        (None, None) => true,
+        _ => false,
+    }
 }
 
 /// Whether it is this registration.

@@ -202,7 +202,7 @@ fn number(given: &ArgMatches<'_>, name: &str) -> Option<u32>
 /// The settings that the options give. None where one is missing or out of its range, which the command line rules out.
 pub fn config_of(given: &ArgMatches<'_>) -> Option<Config>
     ensures some { IfSome result (IsConfig given.now) }
-    ensures none { (c : Config) → c.evict_ms < 2 ^ 32 → IsConfig given.now c → IsSome result }
+    ensures none { (c : Config) → (c.percent ≤ 100) × ((1 ≤ c.interval) × (c.interval ≤ 3600)) → c.evict_ms < 2 ^ 32 → IsConfig given.now c → IsSome result }
 {
     let preservation = given.get_str("preservation")? == "on";
     let percent = number(given, "percent")?;

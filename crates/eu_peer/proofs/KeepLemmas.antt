@@ -4,15 +4,15 @@ use Rattle.eu_base.specs.declared.faults.Fault.{Fault}
 use Rattle.eu_base.specs.declared.faults.Fault.TheVariants.{Busy}
 use Rattle.eu_base.specs.declared.instances.Instance.{Instance}
 use Rattle.eu_base.specs.declared.tasks.Task.{Task}
-use Rattle.eu_http.specs.declared.exchange.Answer.{Answer}
-use Rattle.eu_http.specs.declared.exchange.Ask.{Ask}
-use Rattle.eu_http.specs.declared.exchange.Ask.TheVariants.{Do}
+use Rattle.eu_desk.specs.declared.asks.Answer.{Answer}
+use Rattle.eu_desk.specs.declared.asks.Ask.{Ask}
+use Rattle.eu_desk.specs.declared.asks.Ask.TheVariants.{Do}
 use Rattle.eu_json.specs.declared.batch_write.ItemAnswer.{ItemAnswer}
 use Rattle.eu_model.specs.declared.commands.Command.TheVariants.{Adopt, Drain, Landed, Lost}
 use Rattle.eu_peer.specs.declared.turn.Turn.{Turn}
 use Rattle.eu_peer.specs.declared.turn.Turn.TheVariants as turn
 use Rattle.eu_peer.specs.Turns.{Adopts, GivesBack, Lands, Sends, Drained, Taken, TurnsAt, Turns}
-use Rattle.eu_session.specs.Chain.{Pairs}
+use Rattle.eu_desk.specs.Chain.{Pairs}
 
 module _ {D : Type 0} (asked : D → Ask → ℕ → Result Answer Fault → D → Type 0) (R : D → D → Type 0)
     (none : (a b : D) → b ≡ a → R a b)

@@ -1,4 +1,3 @@
 mod TurnLemmas
 pub mod KeepLemmas
-mod LawLemmas
 pub mod BusyLemmas

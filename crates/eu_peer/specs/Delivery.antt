@@ -2,14 +2,14 @@
 use Rattle.std.specs.Prelude.{◌≡◌, ◌⊎◌, ℕ, List, map, Option, Some, None, Result}
 use Rattle.eu_base.specs.declared.faults.Fault.{Fault}
 use Rattle.eu_base.specs.declared.tasks.Task.{Task}
-use Rattle.eu_http.specs.declared.exchange.Answer.{Answer}
-use Rattle.eu_http.specs.declared.exchange.Ask.{Ask}
-use Rattle.eu_http.specs.declared.exchange.Ask.TheVariants.{Do}
+use Rattle.eu_desk.specs.declared.asks.Answer.{Answer}
+use Rattle.eu_desk.specs.declared.asks.Ask.{Ask}
+use Rattle.eu_desk.specs.declared.asks.Ask.TheVariants.{Do}
 use Rattle.eu_http.specs.Response.{item_of}
 use Rattle.eu_json.specs.declared.batch_write.ItemAnswer.{ItemAnswer}
 use Rattle.eu_model.specs.declared.commands.Command.{Command}
-use Rattle.eu_peer.specs.Commands.{command_of}
-use Rattle.eu_session.specs.Chain.{Pairs}
+use Rattle.eu_json.specs.BatchLaw.{asked_by}
+use Rattle.eu_desk.specs.Chain.{Pairs}
 
 -- the answer to a task that lacks what its action needs
 abbrev pub unreadable : ItemAnswer
@@ -27,5 +27,5 @@ module _ {D : Type 0} (asked : D → Ask → ℕ → Result Answer Fault → D �
   abbrev pub Delivers : {C : Type 0} → (C → ℕ → C → Type 0) → D → C → List Task → Option (List ItemAnswer) → D → C → Type 0
   Delivers tells desk clock batch (Some items) desk' clock' =
       (moment : ℕ) × tells clock moment clock'
-      × Pairs (λ s command item s'. AnswersItem moment s command item s') desk (map command_of batch) items desk'
+      × Pairs (λ s command item s'. AnswersItem moment s command item s') desk (map asked_by batch) items desk'
   Delivers tells desk clock batch None desk' clock' = (desk' ≡ desk) × ((clock' ≡ clock) ⊎ ((moment : ℕ) × tells clock moment clock'))

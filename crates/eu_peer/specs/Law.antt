@@ -1,24 +1,16 @@
--- A server of the same process is asked what a batch over HTTP says; a turn that finds a batch in flight takes it for lost
-use Rattle.std.specs.Prelude.{◌≡◌, ℕ, List, Option, Some, Result, Ok, Err}
+-- A turn that finds a batch in flight takes it for lost
+use Rattle.std.specs.Prelude.{◌≡◌, ℕ, List, Option, Result, Ok, Err}
 use Rattle.eu_base.specs.declared.faults.Fault.{Fault}
 use Rattle.eu_base.specs.declared.faults.Fault.TheVariants.{Busy}
 use Rattle.eu_base.specs.declared.tasks.Task.{Task}
-use Rattle.eu_http.specs.declared.exchange.Answer.{Answer}
-use Rattle.eu_http.specs.declared.exchange.Ask.{Ask}
-use Rattle.eu_http.specs.declared.exchange.Ask.TheVariants.{Do}
+use Rattle.eu_desk.specs.declared.asks.Answer.{Answer}
+use Rattle.eu_desk.specs.declared.asks.Ask.{Ask}
+use Rattle.eu_desk.specs.declared.asks.Ask.TheVariants.{Do}
 use Rattle.eu_json.specs.declared.batch_write.ItemAnswer.{ItemAnswer}
-use Rattle.eu_json.specs.BatchLaw.{IsSound, asked_by}
-use Rattle.eu_json.specs.Said.{said_by}
-use Rattle.eu_model.specs.declared.commands.Command.{Command}
 use Rattle.eu_model.specs.declared.commands.Command.TheVariants.{Drain}
 use Rattle.eu_peer.specs.declared.turn.Turn.{Turn}
 use Rattle.eu_peer.specs.declared.turn.Turn.TheVariants as turn
-use Rattle.eu_peer.specs.Commands.{command_of}
 use Rattle.eu_peer.specs.Turns.{Taken, Turns}
-
--- each task that has just what its action has asks for a command, which says what the task's item says
-abbrev pub AsksWhatIsWritten : Type 0
-AsksWhatIsWritten = (t : Task) → IsSound t → (c : Command) × (command_of t ≡ Some c) × (said_by c ≡ asked_by t)
 
 module _ {D P C : Type 0} (asked : D → Ask → ℕ → Result Answer Fault → D → Type 0) (told : P → List Task → Option (List ItemAnswer) → P → Type 0) (tells : C → ℕ → C → Type 0) where
   -- the drain was refused by Busy, and the batch in flight was taken for lost, or that was refused

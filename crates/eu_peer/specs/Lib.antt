@@ -1,4 +1,3 @@
-pub mod Commands
 pub mod Delivery
 pub mod Turns
 pub mod Law

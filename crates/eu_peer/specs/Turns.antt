@@ -6,16 +6,16 @@ use Rattle.eu_base.specs.declared.instances.Instance.{Instance}
 use Rattle.eu_base.specs.declared.tasks.Action.TheVariants.{Heartbeat}
 use Rattle.eu_base.specs.declared.tasks.Task.{Task}
 use Rattle.eu_base.specs.Action.{is_action}
-use Rattle.eu_http.specs.declared.exchange.Answer.{Answer}
-use Rattle.eu_http.specs.declared.exchange.Answer.TheVariants.{Did}
-use Rattle.eu_http.specs.declared.exchange.Ask.{Ask}
-use Rattle.eu_http.specs.declared.exchange.Ask.TheVariants.{Do}
+use Rattle.eu_desk.specs.declared.asks.Answer.{Answer}
+use Rattle.eu_desk.specs.declared.asks.Answer.TheVariants.{Did}
+use Rattle.eu_desk.specs.declared.asks.Ask.{Ask}
+use Rattle.eu_desk.specs.declared.asks.Ask.TheVariants.{Do}
 use Rattle.eu_json.specs.declared.batch_write.ItemAnswer.{ItemAnswer}
 use Rattle.eu_model.specs.declared.commands.Command.TheVariants.{Adopt, Drain, Landed, Lost}
 use Rattle.eu_model.specs.declared.commands.Reply.TheVariants as reply
 use Rattle.eu_peer.specs.declared.turn.Turn.{Turn}
 use Rattle.eu_peer.specs.declared.turn.Turn.TheVariants as turn
-use Rattle.eu_session.specs.Chain.{Pairs}
+use Rattle.eu_desk.specs.Chain.{Pairs}
 
 -- ---- what the answers say
 

@@ -2,16 +2,15 @@
 ghost use Rattle.std.specs.Prelude.{◌≡◌, None, IfOk, OnErr};
 ghost use Rattle.eu_http.specs.Response.{item_of};
 ghost use Rattle.eu_peer.specs.Delivery.{AnswersItem};
-ghost use Rattle.eu_session.specs.Chain.{Pairs};
+ghost use Rattle.eu_desk.specs.Chain.{Pairs};
 
 use crate::commands::commands_of;
 use crate::peer::{Lost, Peer};
 use eu_base::{Fault, Moment, Task};
 use eu_clock::Clock;
-use eu_http::{Answer, Ask};
+use eu_desk::{Answer, Ask, Desk};
 use eu_json::ItemAnswer;
 use eu_model::{Command, Reply};
-use eu_session::Desk;
 use http::StatusCode;
 use std::alloc::{AllocError, Global};
 

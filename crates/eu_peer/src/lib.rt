@@ -9,6 +9,6 @@ mod turn;
 
 pub use delivery::InProcess;
 pub use eu_json::ItemAnswer;
-pub use law::{busy_turns_wait, tasks_ask_what_is_written};
+pub use law::busy_turns_wait;
 pub use peer::{Lost, Peer};
 pub use turn::{Turn, replicate_turn};

@@ -5,10 +5,9 @@ ghost use Rattle.eu_peer.specs.Turns as spec;
 use crate::peer::Peer;
 use eu_base::{Action, BoxedInstance, Codes, Fault, Moment, Task};
 use eu_clock::Clock;
-use eu_http::{Answer, Ask};
+use eu_desk::{Answer, Ask, Desk};
 use eu_json::ItemAnswer;
 use eu_model::{Command, Reply, Tasks};
-use eu_session::Desk;
 use http::StatusCode;
 use std::alloc::{AllocError, Global};
 

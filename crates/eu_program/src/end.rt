@@ -4,7 +4,7 @@ ghost use Rattle.eu_program.specs.Ends.{status_of};
 
 use eu_base::Fault;
 use eu_journal_audit::AuditFault;
-use eu_server::ScriptFault;
+use eu_script::ScriptFault;
 
 /// The exit status of a run without a fault.
 pub(crate) const DONE: u8 = 0;

@@ -12,7 +12,7 @@ use eu_base::{Config, Fault};
 use eu_clock::{Chooser, FirstChooser, RngChooser};
 use eu_journal_audit::run_journal_audit;
 use eu_options::{command, config_of, journal_of, seed_of, serving_of};
-use eu_server::{run_audit, run_script, run_script_with_journal};
+use eu_script::{run_audit, run_script, run_script_with_journal};
 use std::net::{Net, TcpListener, TcpStream};
 use std::rt::{Env, Files};
 use std::sync::Wait;

@@ -6,7 +6,7 @@ use crate::files::create;
 use eu_base::{Config, Fault};
 use eu_clock::Chooser;
 use eu_options::Serving;
-use eu_serve::{Plan, serve_by, serve_with_journal};
+use eu_server::{Plan, serve_by, serve_with_journal};
 use eu_stream::Writing;
 use std::io;
 use std::net::{Ipv4Addr, Net, SocketAddr, TcpListener, TcpStream};

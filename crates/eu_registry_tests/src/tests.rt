@@ -1,5 +1,12 @@
 //! The tests, by what they are of.
+mod deadlines;
+mod eviction;
+mod index;
+mod lease;
 mod memory;
+mod meter;
 mod registry;
 mod steps;
+mod store;
+mod store_memory;
 mod texts;

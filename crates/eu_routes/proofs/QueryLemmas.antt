@@ -1,5 +1,5 @@
 -- Stamps and statuses
-use Rattle.std.proofs.Common.{◌≡◌, ℕ, ◌<◌, ◌≤◌, ◌^◌, Bool, true, false, List, [], ◌∷◌, length, map, Option, Some, None, Result, Ok, Err, IfSome, IfNone, refl, sym, ◌∙◌, ap, arith, rules}
+use Rattle.std.proofs.Common.{◌≡◌, ℕ, ◌<◌, ◌^◌, Bool, true, false, List, [], ◌∷◌, length, map, Option, Some, None, Result, Ok, Err, SomeIff, refl, sym, ◌∙◌, ap, arith, rules}
 use Rattle.std.proofs.lemmas.Bool.{and_parts, and_from, false_from_ne_true, ltb-true, lt-ltb}
 use Rattle.std.proofs.lemmas.Bool.Decides.{nat_tests}
 use Rattle.std.proofs.lemmas.Slice.Eq.{bytes_eq-Decides}
@@ -12,12 +12,11 @@ use Rattle.std.specs.Str.Parse.{digits_value}
 use Rattle.std.specs.Result.{OkIff, result_ok}
 use Rattle.eu_base.specs.declared.faults.Fault.{Fault}
 use Rattle.eu_base.specs.declared.statuses.Status.{Status}
-use Rattle.eu_base.specs.declared.times.Stamp.{Stamp}
 use Rattle.std.proofs.lemmas.Str.{utf8_lossy-IsUtf8}
 use Rattle.std.specs.Str.Lossy.{utf8_lossy}
 use Rattle.form_urlencoded.specs.Form.{IsPlainText}
 use Rattle.form_urlencoded.proofs.FormLemmas.{decode_plain}
-use Rattle.eu_routes.specs.Query.{text_of, is_number, stamp_of, u32_of, number_of, value_at, stamp_given, status_given, stamp_at, status_at}
+use Rattle.eu_routes.specs.Query.{text_of, is_number, stamp_of, u32_of, value_at, stamp_given, status_given, stamp_at, status_at}
 
 -- bytes that stand for themselves
 pub plain_stands : (bytes : List ℕ) → IsPlainText bytes → text_of bytes ≡ bytes
@@ -89,16 +88,16 @@ pub unparsed : {E : Type 0} (text : List ℕ) (r : Result ℕ E) → OkIff r ((a
 unparsed text (Ok n) h e = cc
 unparsed text (Err fault) h e = no_stamp text (λ filled short all small. h (all, filled, omega arith))
 
-pub parsed : {E : Type 0} (text : List ℕ) (r : Result ℕ E) (n : ℕ) (o : Option Stamp) → OkIff r ((all_ascii_digits text ≡ true) × (0 < length text) × (digits_value 10 text < 2 ^ 64)) (digits_value 10 text) → result_ok r ≡ Some n → length text < 20
-    → IfSome o (λ s. s.value ≡ n) → IfNone o (2 ^ 63 ≤ n) → number_of o ≡ stamp_of text
-parsed text (Err fault) n o h e short some none = cc
-parsed text (Ok m) n None h e short some none =
+pub parsed : {E : Type 0} (text : List ℕ) (r : Result ℕ E) (n : ℕ) (o : Option ℕ) → OkIff r ((all_ascii_digits text ≡ true) × (0 < length text) × (digits_value 10 text < 2 ^ 64)) (digits_value 10 text) → result_ok r ≡ Some n → length text < 20
+    → SomeIff o (n < 2 ^ 63) n → o ≡ stamp_of text
+parsed text (Err fault) n o h e short fits = cc
+parsed text (Ok m) n None h e short fits =
     let same : m ≡ n = cc in
-    sym (no_stamp text (λ filled less all small. absurd (omega (arith, h.1))))
-parsed text (Ok m) n (Some s) h e short some none =
+    sym (no_stamp text (λ filled less all small. fits (omega (arith, same, h.1))))
+parsed text (Ok m) n (Some s) h e short fits =
     let same : m ≡ n = cc in
-    let value : s.value ≡ digits_value 10 text = some ∙ sym same ∙ h.1 in
-    ap Some value ∙ sym (some_stamp text h.0.1 short h.0.0 (rw (← value) s.bound))
+    let value : n ≡ digits_value 10 text = sym same ∙ h.1 in
+    ap Some (fits.1 ∙ value) ∙ sym (some_stamp text h.0.1 short h.0.0 (rw (← value) fits.0))
 
 -- what a value tells, once it is found
 pub stamp_is : (name query : List ℕ) (value : Option (List ℕ)) (said : Result (Option ℕ) Fault) → value ≡ value_at name query → stamp_given value ≡ said → stamp_at name query ≡ said

@@ -1,6 +1,6 @@
 -- What a query says
 use Rattle.std.specs.Prelude.{ℕ, ◌^◌, Bool, true, false, ◌&&◌, List, [], ◌∷◌, length, Option, Some, None, Result, Ok, Err, nat_lt, if◌then◌else◌, codes}
-use Rattle.std.specs.Option.{option_map, ok_or}
+use Rattle.std.specs.Option.{ok_or}
 use Rattle.std.specs.Str.{bytes_eq, all_ascii_digits, str_to_ascii_uppercase}
 use Rattle.std.specs.Str.Lossy.{utf8_lossy}
 use Rattle.std.specs.Str.Parse.{digits_value}
@@ -8,8 +8,8 @@ use Rattle.form_urlencoded.specs.Form.{decode, raw_pairs}
 use Rattle.eu_base.specs.declared.faults.Fault.{Fault}
 use Rattle.eu_base.specs.declared.faults.Fault.TheVariants.{BadValue}
 use Rattle.eu_base.specs.declared.statuses.Status.{Status}
-use Rattle.eu_base.specs.declared.times.Stamp.{Stamp}
-use Rattle.eu_base.specs.Settings.{Settings, settings_from}
+use Rattle.eu_base.specs.declared.settings.Config.{Config}
+use Rattle.eu_base.specs.Settings.{settings_from}
 use Rattle.eu_base.specs.Status.{status_of}
 use Rattle.eu_routes.specs.Chain.{◌>>=◌}
 
@@ -45,10 +45,6 @@ stamp_of text = if is_stamp text then Some (digits_value 10 text) else None
 -- one of the five statuses, in letters of either case
 unfoldable pub status_in : List ℕ → Option Status
 status_in text = status_of (str_to_ascii_uppercase text)
-
--- the number of a stamp that may be absent
-abbrev pub number_of : Option Stamp → Option ℕ
-number_of stamp = option_map (λ s. s.value) stamp
 
 -- ---- settings
 
@@ -103,7 +99,7 @@ unfoldable pub switch_at : List ℕ → List ℕ → Result Bool Fault
 switch_at name query = needed switch_of (value_at name query)
 
 -- the settings of a query: `preservation`, `percent`, `interval` and `evictMs`, which are all needed, each within its limits
-unfoldable pub settings_at : List ℕ → Result Settings Fault
+unfoldable pub settings_at : List ℕ → Result Config Fault
 settings_at query = do
   preservation ← switch_at (codes "preservation") query
   percent ← u32_at (codes "percent") query

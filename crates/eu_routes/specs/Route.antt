@@ -4,82 +4,37 @@ use Rattle.std.specs.Option.{ok_or}
 use Rattle.std.specs.Str.{bytes_eq}
 use Rattle.eu_base.specs.declared.faults.Fault.{Fault}
 use Rattle.eu_base.specs.declared.faults.Fault.TheVariants as fault
-use Rattle.eu_base.specs.declared.names.Key.{Key}
-use Rattle.eu_base.specs.declared.statuses.Status.{Status}
-use Rattle.eu_base.specs.Settings.{Settings, settings_of}
 use Rattle.eu_routes.specs.declared.asks.Route.{Route}
-use Rattle.eu_routes.specs.declared.asks.Route.TheVariants as route
+use Rattle.eu_routes.specs.declared.asks.Route.TheVariants.{Register, Renew, Cancel, SetStatus, UnsetStatus, All, OfApp, One, Delta, Batch, StatusPage, Reconfigure}
 use Rattle.eu_routes.specs.declared.table.Page.{Page}
 use Rattle.eu_routes.specs.declared.table.Page.TheVariants as page
 use Rattle.eu_routes.specs.Chain.{◌>>=◌, Gives}
 use Rattle.eu_routes.specs.Table.{page_of}
 use Rattle.eu_routes.specs.Path.{path_of, last_segment, parent, app_at, key_at, IsUncoded}
-use Rattle.eu_routes.specs.Query.{stamp_at, status_at, settings_at, number_of}
-
--- what is asked for
-pub data Asked : Type 0 where
-  -- an instance of the application is to be registered
-  Register : List ℕ → Asked
-  -- the lease is to be renewed; the instance's stamp and the status that overrides its own, if they are told
-  Renew : Key → Option ℕ → Option Status → Asked
-  -- the lease is to be ended
-  Cancel : Key → Asked
-  -- the status is to override the instance's own; the stamp of the change, if it is told
-  SetStatus : Key → Status → Option ℕ → Asked
-  -- no status is to override the instance's own any more; the own one from now on and the stamp of the change, if they are told
-  UnsetStatus : Key → Option Status → Option ℕ → Asked
-  -- all applications are asked for
-  All : Asked
-  -- the application is asked for
-  OfApp : List ℕ → Asked
-  -- the lease is asked for
-  One : Key → Asked
-  -- the changes since an earlier listing are asked for
-  Delta : Asked
-  -- the commands that a peer tells in the body are to be done
-  Batch : Asked
-  -- the page that tells how the registry is
-  StatusPage : Asked
-  -- the registry is to have these settings from now on
-  Reconfigure : Settings → Asked
-
--- what a route asks for
-abbrev pub asked_of : Route → Asked
-asked_of (route.Register app) = Register app
-asked_of (route.Renew key dirty overridden) = Renew key (number_of dirty) overridden
-asked_of (route.Cancel key) = Cancel key
-asked_of (route.SetStatus key status dirty) = SetStatus key status (number_of dirty)
-asked_of (route.UnsetStatus key status dirty) = UnsetStatus key status (number_of dirty)
-asked_of route.All = All
-asked_of (route.OfApp app) = OfApp app
-asked_of (route.One key) = One key
-asked_of route.Delta = Delta
-asked_of route.Batch = Batch
-asked_of route.StatusPage = StatusPage
-asked_of (route.Reconfigure config) = Reconfigure (settings_of config)
+use Rattle.eu_routes.specs.Query.{stamp_at, status_at, settings_at}
 
 -- ---- what each method asks of each page
 
 -- GET apps
-unfoldable pub applications_ask : List ℕ → Result Asked Fault
+unfoldable pub applications_ask : List ℕ → Result Route Fault
 applications_ask method = if bytes_eq method (codes "GET") then Ok All else Err fault.NoRoute
 
 -- POST peerreplication/batch
-unfoldable pub batch_ask : List ℕ → Result Asked Fault
+unfoldable pub batch_ask : List ℕ → Result Route Fault
 batch_ask method = if bytes_eq method (codes "POST") then Ok Batch else Err fault.NoRoute
 
 -- GET status
-unfoldable pub page_ask : List ℕ → Result Asked Fault
+unfoldable pub page_ask : List ℕ → Result Route Fault
 page_ask method = if bytes_eq method (codes "GET") then Ok StatusPage else Err fault.NoRoute
 
 -- PUT config
-unfoldable pub config_ask : List ℕ → List ℕ → Result Asked Fault
+unfoldable pub config_ask : List ℕ → List ℕ → Result Route Fault
 config_ask method query =
     if bytes_eq method (codes "PUT") then (settings_at query >>= λ settings. Ok (Reconfigure settings))
     else Err fault.NoRoute
 
 -- an application is asked for, or, where its segment is `delta` as it is written, the changes
-unfoldable pub listing_ask : List ℕ → Result Asked Fault
+unfoldable pub listing_ask : List ℕ → Result Route Fault
 listing_ask segment =
     if bytes_eq segment (codes "delta") then Ok Delta
     else do
@@ -87,14 +42,14 @@ listing_ask segment =
       Ok (OfApp app)
 
 -- POST apps/{app}, GET apps/{app}
-unfoldable pub application_ask : List ℕ → List ℕ → Result Asked Fault
+unfoldable pub application_ask : List ℕ → List ℕ → Result Route Fault
 application_ask method path =
     if bytes_eq method (codes "GET") then listing_ask (last_segment path)
     else if bytes_eq method (codes "POST") then (app_at (last_segment path) >>= λ app. Ok (Register app))
     else Err fault.NoRoute
 
 -- the values of a renewal: `lastDirtyTimestamp` and `overriddenstatus`
-unfoldable pub renewal_ask : List ℕ → List ℕ → Result Asked Fault
+unfoldable pub renewal_ask : List ℕ → List ℕ → Result Route Fault
 renewal_ask path query = do
   key ← key_at path
   dirty ← stamp_at (codes "lastDirtyTimestamp") query
@@ -102,7 +57,7 @@ renewal_ask path query = do
   Ok (Renew key dirty overridden)
 
 -- GET apps/{app}/{id}, PUT apps/{app}/{id}, DELETE apps/{app}/{id}
-unfoldable pub lease_ask : List ℕ → List ℕ → List ℕ → Result Asked Fault
+unfoldable pub lease_ask : List ℕ → List ℕ → List ℕ → Result Route Fault
 lease_ask method path query =
     if bytes_eq method (codes "GET") then (key_at path >>= λ key. Ok (One key))
     else if bytes_eq method (codes "PUT") then renewal_ask path query
@@ -110,7 +65,7 @@ lease_ask method path query =
     else Err fault.NoRoute
 
 -- the values of a new status: `value`, which is needed, and `lastDirtyTimestamp`
-unfoldable pub setting_ask : List ℕ → List ℕ → Result Asked Fault
+unfoldable pub setting_ask : List ℕ → List ℕ → Result Route Fault
 setting_ask path query = do
   key ← key_at path
   given ← status_at (codes "value") query
@@ -119,7 +74,7 @@ setting_ask path query = do
   Ok (SetStatus key status dirty)
 
 -- the same, where `value` may be absent
-unfoldable pub unsetting_ask : List ℕ → List ℕ → Result Asked Fault
+unfoldable pub unsetting_ask : List ℕ → List ℕ → Result Route Fault
 unsetting_ask path query = do
   key ← key_at path
   status ← status_at (codes "value") query
@@ -127,14 +82,14 @@ unsetting_ask path query = do
   Ok (UnsetStatus key status dirty)
 
 -- PUT apps/{app}/{id}/status, DELETE apps/{app}/{id}/status
-unfoldable pub status_ask : List ℕ → List ℕ → List ℕ → Result Asked Fault
+unfoldable pub status_ask : List ℕ → List ℕ → List ℕ → Result Route Fault
 status_ask method path query =
     if bytes_eq method (codes "PUT") then setting_ask (parent path) query
     else if bytes_eq method (codes "DELETE") then unsetting_ask (parent path) query
     else Err fault.NoRoute
 
 -- what the method asks of the page that the path names, if it names one
-abbrev pub ask_at : Option Page → List ℕ → List ℕ → List ℕ → Result Asked Fault
+abbrev pub ask_at : Option Page → List ℕ → List ℕ → List ℕ → Result Route Fault
 ask_at None method path query = Err fault.NoRoute
 ask_at (Some page.Applications) method path query = applications_ask method
 ask_at (Some page.Application) method path query = application_ask method path
@@ -145,7 +100,7 @@ ask_at (Some page.StatusPage) method path query = page_ask method
 ask_at (Some page.Config) method path query = config_ask method query
 
 -- what a request of that method, target and query asks for
-abbrev pub route_of : List ℕ → List ℕ → List ℕ → Result Asked Fault
+abbrev pub route_of : List ℕ → List ℕ → List ℕ → Result Route Fault
 route_of method target query = ask_at (page_of (path_of target)) method (path_of target) query
 
 -- ---- what is known before any memory is taken
@@ -173,5 +128,5 @@ IsKnown None method path = ⊥
 IsKnown (Some page) method path = (takes page method ≡ true) × (IsUncoded path → HasNames page path)
 
 -- the route is what is asked for, and a fault is the one that is found; where memory ran out, nothing is known
-abbrev pub Reads : Result Route Fault → Result Asked Fault → Type 0
-Reads = Gives asked_of
+abbrev pub Reads : Result Route Fault → Result Route Fault → Type 0
+Reads = Gives (λ r. r)

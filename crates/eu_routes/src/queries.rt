@@ -5,7 +5,6 @@ ghost use Rattle.std.specs.Option.{option_or};
 ghost use Rattle.std.specs.Str.{bytes_eq, str_to_ascii_uppercase};
 ghost use Rattle.form_urlencoded.specs.Form.{IsPlainText};
 ghost use Rattle.eu_routes.specs.Chain.{Gives};
-ghost use Rattle.eu_base.specs.Settings.{settings_of};
 ghost use Rattle.eu_routes.specs.Query as spec;
 
 use eu_base::{Config, Fault, Stamp, Status};
@@ -34,7 +33,7 @@ const EVICT_MS: &str = "evictMs";
 /// The stamp of that text: 1 to 19 decimal digits, up to 2^63 - 1. None for any other text.
 #[tactic(auto, unfolding(crate::specs::Query::stamp_of))]
 pub fn read_stamp(text: &str) -> Option<Stamp>
-    ensures { spec.number_of result ≡ spec.stamp_of text.now }
+    ensures { result ≡ spec.stamp_of text.now }
 {
     if text.len() > MOST_DIGITS || text.starts_with('+') {
         return None;
@@ -149,7 +148,7 @@ pub fn values_at<'q>(
 
 /// The stamp that a value tells. None where there is no value, or an empty one; `BadValue` for any other text.
 pub fn stamp_given(value: Option<CowStr<'_, Global>>) -> Result<Option<Stamp>, Fault>
-    ensures { Gives spec.number_of result (spec.stamp_given (option_map cow_str_bytes value.entry)) }
+    ensures { Gives (λ s. s) result (spec.stamp_given (option_map cow_str_bytes value.entry)) }
 {
     let Some(value) = value else {
         return Ok(None);
@@ -224,7 +223,7 @@ fn switch_given(value: Option<CowStr<'_, Global>>) -> Result<bool, Fault>
 /// past its limits (`Config::new`); `OutOfMemory`.
 #[tactic(auto, unfolding(crate::specs::Query::settings_at, crate::specs::Query::switch_at, crate::specs::Query::u32_at, crate::specs::Query::value_at))]
 pub fn config_at(alloc: Global, query: &str) -> Result<Config, Fault>
-    ensures { Gives settings_of result (spec.settings_at query.now) }
+    ensures { Gives (λ c. c) result (spec.settings_at query.now) }
 {
     let (preservation, percent) = values_at(alloc, query, PRESERVATION, PERCENT)?;
     let (interval, evict_ms) = values_at(alloc, query, INTERVAL, EVICT_MS)?;

@@ -1,5 +1,3 @@
-pub mod Desks
-pub mod Alike
-pub mod Scripts
-pub mod Audits
-pub mod Texts
+pub mod Journals
+pub mod Adding
+pub mod Ending

@@ -1,37 +1,29 @@
--- What a script leaves of its journal
-use Rattle.std.specs.Prelude.{◌≡◌, ◌⊎◌, ℕ, Bool, true, List, [], take, Option, Some, None, Result, Ok, Err}
-use Rattle.eu_base.specs.declared.settings.Config.{Config}
+-- What a server leaves of its journal
+use Rattle.std.specs.Prelude.{◌≡◌, ◌⊎◌, ℕ, Bool, true, List, take, Option}
+use Rattle.std.specs.Io.KnownBytes.{Appends, Keeps}
+use Rattle.eu_base.specs.declared.faults.Fault.{Fault}
+use Rattle.eu_base.specs.declared.faults.Fault.TheVariants.{Write}
+use Rattle.eu_book.specs.Account.{IsLawful}
 use Rattle.eu_book.specs.Peers.{state_of}
 use Rattle.eu_journal_text.specs.Text.{journal_text}
-use Rattle.eu_lines.specs.declared.faults.ScriptFault.{ScriptFault}
-use Rattle.eu_lines.specs.declared.faults.ScriptFault.TheVariants.{Write}
-use Rattle.eu_lines.specs.Lines.{script_limits}
-use Rattle.eu_lines.specs.Script.{Outcome}
-use Rattle.eu_model.specs.declared.commands.Entry.{Entry}
-use Rattle.eu_model.specs.Server.{PlainServer, plain_server}
-use Rattle.eu_server.specs.Audit.{Journals}
-use Rattle.eu_server.specs.Script.{Ran, Answers, Refuses, ScriptRuns}
+use Rattle.eu_server.specs.Ends.{IsEnd}
+use Rattle.eu_settle.specs.declared.closed.Closed.{Closed}
+use Rattle.eu_shared.specs.Closing.{account_of}
 
--- The text of a run's journal: its base, its entries, and where the run ended. A registry that wasn't opened has none, and nothing is written
-abbrev pub IsTextOf : Option Ran → List ℕ → Type 0
-IsTextOf None text = text ≡ []
-IsTextOf (Some r) text =
-    (base : PlainServer) × (entries : List Entry) × Journals r base entries
-    × (text ≡ journal_text (state_of base) entries (state_of (plain_server r.server)))
+-- the text of a closed book's journal: its base, its entries, and where it ended
+abbrev pub closed_text : Closed → List ℕ
+closed_text c = journal_text c.base c.entries.items c.end
 
--- A script of these settings, by its chooser before and after, what it read and left, whether its reader and its writer failed, and what
--- it wrote of what its lines print
-module _ {C : Type 0} (config : Config) (asks : C → ℕ → ℕ × C) (x x' : C) (left : Option (List ℕ)) (failed_reader failed_writer : Bool) (read out : List ℕ) where
-  -- it was answered whole, and this is the text of its journal
-  abbrev pub IsText : List ℕ → Type 0
-  IsText text = (end : Option Ran) × Outcome script_limits (Answers config asks) Refuses None x end x' left failed_reader failed_writer read (Ok tt) out × IsTextOf end text
+-- such a text, of a book that came lawfully as far as it says
+abbrev pub IsJournal : List ℕ → Type 0
+IsJournal text =
+    (c : Closed) × IsLawful (account_of c) × (c.base ≡ state_of (account_of c).base) × (c.end ≡ state_of (account_of c).state) × (text ≡ closed_text c)
 
-  -- What such a script wrote to its journal, by its result. The flag says whether the journal's writer failed
-  abbrev pub JournalRuns : Bool → Result (Unit {0}) ScriptFault → List ℕ → Type 0
-  JournalRuns failed (Ok u) text = IsText text
-  -- a line's write failed, and nothing is in the journal; or the script was answered whole, and a front of its text is
-  JournalRuns failed (Err Write) text =
-      (ScriptRuns config asks x x' left failed_reader failed_writer read (Err Write) out × (text ≡ []))
-      ⊎ ((failed ≡ true) × (whole : List ℕ) × IsText whole × (k : ℕ) × (text ≡ take k whole))
-  -- the script ended by that fault, or there was no memory for the text; nothing is in the journal
-  JournalRuns failed (Err fault) text = ScriptRuns config asks x x' left failed_reader failed_writer read (Err fault) out × (text ≡ [])
+-- What a server that ended by this fault wrote to its journal, which held old and holds new now. The flag says whether the journal's writer
+-- failed; `kept` is that nothing else was written
+abbrev pub IsUntold : Type 0 → Bool → Option (List ℕ) → Option (List ℕ) → Fault → Type 0
+IsUntold kept failed old new f =
+    -- nothing at all was written
+    (IsEnd f × kept × Keeps old new)
+    -- a front of the text was, and nothing else; or all of the text, and the line that is to follow wasn't told
+    ⊎ ((f ≡ Write) × (text : List ℕ) × IsJournal text × ((kept × (failed ≡ true) × (k : ℕ) × Appends old new (take k text)) ⊎ Appends old new text))

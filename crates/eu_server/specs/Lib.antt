@@ -1,5 +1,4 @@
-pub mod Texts
-pub mod Script
-pub mod Audit
-pub mod Desk
+pub mod Ends
+pub mod Served
+pub mod Staff
 pub mod Journal

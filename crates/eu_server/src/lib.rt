@@ -1,14 +1,9 @@
-//! Scripts of a lease registry: lines of text in, printed lines out; their journal, and their audit.
+//! A server: workers that serve connections, and timers, over one shared book.
 #![tactic(auto)]
 
-mod auditing;
-mod desk;
-mod journaling;
-mod printing;
-mod script;
+mod no_peer;
+mod serve;
 
-pub use auditing::{answer_audit, run_audit, tell_verdict};
-pub use desk::Verdict;
-pub use eu_lines::ScriptFault;
-pub use journaling::{answer_script_with_journal, run_script_with_journal};
-pub use script::{answer_script, run_script};
+pub use eu_accept::{LINGER_BYTES, LINGER_MS, READ_TIMEOUT_MS, WRITE_TIMEOUT_MS};
+pub use eu_gate::{BUCKET_MS, MOST_WORKERS, THRESHOLD_MS};
+pub use serve::{Outcome, Plan, serve_book, serve_by, serve_with_journal};

@@ -5,17 +5,18 @@ use Rattle.std.proofs.lemmas.Bool.Decides.{eqb_tells}
 use Rattle.eu_base.specs.declared.faults.Fault.{Fault}
 use Rattle.eu_book.specs.Account.{Account, cleared, entry, grown, most_entries, ready}
 use Rattle.eu_book.proofs.HistoryLemmas.{run_on}
-use Rattle.eu_http.specs.declared.exchange.Answer.{Answer}
-use Rattle.eu_http.specs.declared.exchange.Answer.TheVariants.{Did, Saw}
-use Rattle.eu_http.specs.declared.exchange.Ask.{Ask}
-use Rattle.eu_http.specs.declared.exchange.Ask.TheVariants.{Do, See}
+use Rattle.eu_book.specs.Desk.{BookAsks}
+use Rattle.eu_desk.specs.declared.asks.Answer.{Answer}
+use Rattle.eu_desk.specs.declared.asks.Answer.TheVariants.{Did, Saw}
+use Rattle.eu_desk.specs.declared.asks.Ask.{Ask}
+use Rattle.eu_desk.specs.declared.asks.Ask.TheVariants.{Do, See}
 use Rattle.eu_http.specs.declared.exchange.Outcome.{Outcome}
 use Rattle.eu_http.specs.declared.exchange.Outcome.TheVariants.{Refused, Forbidden, Answers}
 use Rattle.eu_model.specs.declared.commands.Entry.{Entry}
 use Rattle.eu_model.specs.Server.{PlainServer}
 use Rattle.eu_model.specs.ServerAnswers as model
-use Rattle.eu_session.specs.Book.{BookAsks, BookTurns, BookSession, GrewBy, RunsFrom, entry_of, entries_of, AddsTurn, AddTurns}
-use Rattle.eu_session.specs.Chain.{Pairs}
+use Rattle.eu_session.specs.Book.{BookTurns, BookSession, GrewBy, RunsFrom, entry_of, entries_of, AddsTurn, AddTurns}
+use Rattle.eu_desk.specs.Chain.{Pairs}
 use Rattle.eu_session.specs.Turn.{State, Turn, Step, ComesOf}
 use Rattle.eu_session.proofs.KeepLemmas.{session_keeps}
 

@@ -1,5 +1,4 @@
 mod BookLemmas
-pub mod ChainLemmas
 mod FaultLemmas
 pub mod KeepLemmas
 mod SessionLemmas

@@ -10,15 +10,15 @@ use Rattle.eu_framing.specs.declared.request.Request.{Request}
 use Rattle.eu_framing.specs.Message.{IsCut}
 use Rattle.eu_framing.specs.Next.{FindsNext, Interrupts}
 use Rattle.eu_framing.specs.Stream.{pending, Between}
-use Rattle.eu_http.specs.declared.exchange.Answer.{Answer}
-use Rattle.eu_http.specs.declared.exchange.Ask.{Ask}
+use Rattle.eu_desk.specs.declared.asks.Answer.{Answer}
+use Rattle.eu_desk.specs.declared.asks.Ask.{Ask}
 use Rattle.eu_http.specs.Response.{response}
 use Rattle.eu_session.specs.declared.faults.SessionFault.{SessionFault}
 use Rattle.eu_session.specs.declared.faults.SessionFault.TheVariants.{Read, Write, OutOfMemory}
 use Rattle.eu_session.specs.Turn.{Turn, text_of, refusal, is_last, State, Breaks, Step}
 use Rattle.eu_session.specs.Session.{IsOpen, GoesOn, Unread, Ends, Session}
 use Rattle.eu_session.specs.Steps.{IsInside, Comes, AnswersTo, RefusesBy}
-use Rattle.eu_session.proofs.ChainLemmas.{chain_push, all_push}
+use Rattle.eu_desk.proofs.ChainLemmas.{chain_push, all_push}
 use Rattle.eu_session.proofs.FaultLemmas.{fault_differs, by_number}
 
 neither : (a b : Bool) → (a || b) ≡ false → (a ≡ false) × (b ≡ false)

@@ -3,8 +3,8 @@ use Rattle.std.proofs.Common.{◌≡◌, ℕ, Bool, true, List, take, Option, Re
 use Rattle.std.specs.Io.KnownBytes.{Appends}
 use Rattle.eu_base.specs.declared.faults.Fault.{Fault}
 use Rattle.eu_framing.specs.declared.request.Request.{Request}
-use Rattle.eu_http.specs.declared.exchange.Answer.{Answer}
-use Rattle.eu_http.specs.declared.exchange.Ask.{Ask}
+use Rattle.eu_desk.specs.declared.asks.Answer.{Answer}
+use Rattle.eu_desk.specs.declared.asks.Ask.{Ask}
 use Rattle.eu_http.specs.declared.exchange.Outcome.{Outcome}
 use Rattle.eu_http.specs.Response.{response}
 use Rattle.eu_session.specs.declared.faults.SessionFault.TheVariants.{Write}

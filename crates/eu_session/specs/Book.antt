@@ -1,37 +1,21 @@
--- What a book does that a session asks
-use Rattle.std.specs.Prelude.{◌≡◌, ℕ, ◌+◌, Bool, List, [], ◌∷◌, ◌++◌, length, map, Option, Some, Result, Ok, Err}
+-- What a book comes to that sessions ask
+use Rattle.std.specs.Prelude.{◌≡◌, ℕ, ◌+◌, Bool, List, [], ◌∷◌, ◌++◌, length, Option, Some, Result, Ok, Err}
 use Rattle.eu_base.specs.declared.faults.Fault.{Fault}
-use Rattle.eu_base.specs.declared.faults.Fault.TheVariants.{OutOfMemory}
-use Rattle.eu_book.specs.Account.{Account, Applies, Refuses, entry}
-use Rattle.eu_clock.specs.declared.choosers.FirstChooser.{FirstChooser}
-use Rattle.eu_http.specs.declared.exchange.Answer.{Answer}
-use Rattle.eu_http.specs.declared.exchange.Answer.TheVariants.{Did, Saw}
-use Rattle.eu_http.specs.declared.exchange.Ask.{Ask}
-use Rattle.eu_http.specs.declared.exchange.Ask.TheVariants.{Do, See}
+use Rattle.eu_book.specs.Account.{Account, entry}
+use Rattle.eu_book.specs.Desk.{BookAsks}
+use Rattle.eu_desk.specs.declared.asks.Answer.{Answer}
+use Rattle.eu_desk.specs.declared.asks.Answer.TheVariants.{Did}
+use Rattle.eu_desk.specs.declared.asks.Ask.{Ask}
+use Rattle.eu_desk.specs.declared.asks.Ask.TheVariants.{Do}
 use Rattle.eu_http.specs.declared.exchange.Outcome.{Outcome}
 use Rattle.eu_http.specs.declared.exchange.Outcome.TheVariants.{Refused, Forbidden, Answers}
-use Rattle.eu_http.specs.Asks.{said_by, asks_of}
+use Rattle.eu_http.specs.Asks.{asks_of}
 use Rattle.eu_model.specs.declared.commands.Entry.{Entry}
-use Rattle.eu_model.specs.Answers.{Shows}
 use Rattle.eu_model.specs.Server.{Server, PlainServer, Run, plain_server}
-use Rattle.eu_model.specs.View.{view}
 use Rattle.eu_session.specs.declared.faults.SessionFault.{SessionFault}
-use Rattle.eu_session.specs.Chain.{Chain}
+use Rattle.eu_desk.specs.Chain.{Chain}
 use Rattle.eu_session.specs.Session.{Session}
 use Rattle.eu_session.specs.Turn.{State, Turn, Step}
-
--- the words that are drawn: always the first of what they are drawn from
-abbrev pub first_asks : FirstChooser → ℕ → ℕ × FirstChooser
-first_asks chooser bound = (0, chooser)
-
--- a command is one entry more, of the pass 0, or it is refused; a query is answered by what is seen of the registry
-abbrev pub BookAsks : Account → Ask → ℕ → Result Answer Fault → Account → Type 0
-BookAsks a (Do c) t (Ok (Did reply)) b = (number : ℕ) × (x : FirstChooser) × (x' : FirstChooser) × Applies first_asks a x 0 c t reply number b x'
-BookAsks a (Do c) t (Ok (Saw v)) b = ⊥
-BookAsks a (Do c) t (Err f) b = Refuses a c t f × (b ≡ a)
-BookAsks a (See q) t (Ok (Did reply)) b = ⊥
-BookAsks a (See q) t (Ok (Saw v)) b = Shows a.state.registry (λ s. view s q t) v × (b ≡ a)
-BookAsks a (See q) t (Err f) b = (f ≡ OutOfMemory) × (b ≡ a)
 
 -- what an ask at a moment adds to the journal, by its answer: the entry of a command that was answered, with the pass 0 and the number n
 abbrev pub entry_of : ℕ → ℕ → Ask → Result Answer Fault → List Entry
@@ -49,7 +33,7 @@ abbrev pub AddsTurn : ℕ → Turn → Outcome → List Entry → Type 0
 AddsTurn n t (Refused fault) entries = entries ≡ []
 AddsTurn n t Forbidden entries = entries ≡ []
 AddsTurn n t (Answers results) entries =
-    (asks : List Ask) × (asks_of t.request t.moment ≡ Ok (Some (map said_by asks))) × (entries ≡ entries_of n t.moment asks results.items)
+    (asks : List Ask) × (asks_of t.request t.moment ≡ Ok (Some asks)) × (entries ≡ entries_of n t.moment asks results.items)
 
 -- what turns add, one after another
 abbrev pub AddTurns : ℕ → List Turn → List Entry → Type 0

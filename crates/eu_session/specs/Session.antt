@@ -6,11 +6,11 @@ use Rattle.eu_base.specs.declared.faults.Fault.{Fault}
 use Rattle.eu_framing.specs.Message.{IsCut}
 use Rattle.eu_framing.specs.Next.{FindsNext}
 use Rattle.eu_framing.specs.Stream.{pending, Between}
-use Rattle.eu_http.specs.declared.exchange.Answer.{Answer}
-use Rattle.eu_http.specs.declared.exchange.Ask.{Ask}
+use Rattle.eu_desk.specs.declared.asks.Answer.{Answer}
+use Rattle.eu_desk.specs.declared.asks.Ask.{Ask}
 use Rattle.eu_session.specs.declared.faults.SessionFault.{SessionFault}
 use Rattle.eu_session.specs.declared.faults.SessionFault.TheVariants.{Read, Write, OutOfMemory}
-use Rattle.eu_session.specs.Chain.{Chain}
+use Rattle.eu_desk.specs.Chain.{Chain}
 use Rattle.eu_session.specs.Turn.{Turn, text_of, refusal, is_last, State, Untouched, Breaks, Step, Unasked}
 
 -- The session goes on after the turn: its request doesn't close, nor does its response say so.

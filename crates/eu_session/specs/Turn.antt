@@ -1,18 +1,18 @@
 -- One turn of a session: a request, what comes of it, and its response
-use Rattle.std.specs.Prelude.{◌≡◌, ℕ, Bool, true, ◌||◌, ◌==◌, List, map, Option, Some, None, Result, Ok, Err}
+use Rattle.std.specs.Prelude.{◌≡◌, ℕ, Bool, true, ◌||◌, ◌==◌, List, Option, Some, None, Result, Ok, Err}
 use Rattle.eu_base.specs.declared.faults.Fault.{Fault}
 use Rattle.eu_framing.specs.declared.request.Request.{Request}
 use Rattle.eu_framing.specs.Message.{IsFault}
 use Rattle.eu_framing.specs.Next.{FindsNext}
 use Rattle.eu_framing.specs.Stream.{Between, OfBytes}
-use Rattle.eu_http.specs.declared.exchange.Answer.{Answer}
-use Rattle.eu_http.specs.declared.exchange.Ask.{Ask}
+use Rattle.eu_desk.specs.declared.asks.Answer.{Answer}
+use Rattle.eu_desk.specs.declared.asks.Ask.{Ask}
 use Rattle.eu_http.specs.declared.exchange.Outcome.{Outcome}
 use Rattle.eu_http.specs.declared.exchange.Outcome.TheVariants.{Refused, Forbidden, Answers}
-use Rattle.eu_http.specs.Asks.{said_by, asks_of}
+use Rattle.eu_http.specs.Asks.{asks_of}
 use Rattle.eu_http.specs.Response.{refused, response}
 use Rattle.eu_http.specs.Text.{print}
-use Rattle.eu_session.specs.Chain.{Pairs}
+use Rattle.eu_desk.specs.Chain.{Pairs}
 
 -- a request that was answered
 pub record Turn : Type 0 where
@@ -56,7 +56,7 @@ module _ {D : Type 0} (asked : D → Ask → ℕ → Result Answer Fault → D �
   ComesOf desk request moment (Refused fault) desk' = (asks_of request moment ≡ Err fault) × (desk' ≡ desk)
   ComesOf desk request moment Forbidden desk' = (asks_of request moment ≡ Ok None) × (desk' ≡ desk)
   ComesOf desk request moment (Answers results) desk' =
-      (asks : List Ask) × (asks_of request moment ≡ Ok (Some (map said_by asks)))
+      (asks : List Ask) × (asks_of request moment ≡ Ok (Some asks))
       × Pairs (λ s ask result s'. asked s ask moment result s') desk asks results.items desk'
 
 -- `tells c moment c'`: a clock in the state c tells the moment and is in the state c' then

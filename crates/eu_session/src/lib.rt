@@ -2,13 +2,11 @@
 #![tactic(auto)]
 
 mod book;
-mod desk;
 mod faults;
 mod session;
 mod turn;
 
 pub use book::sessions_are_runs;
-pub use desk::Desk;
 pub use faults::SessionFault;
 pub use session::serve_session;
 

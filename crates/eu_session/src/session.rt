@@ -4,8 +4,9 @@ ghost use Rattle.eu_session.specs.Session.{Session};
 ghost use Rattle.eu_session.specs.Turn as spec;
 
 use crate::turn::{answer_request, refuse};
-use crate::{Desk, MAX_REQUESTS, SessionFault};
+use crate::{MAX_REQUESTS, SessionFault};
 use eu_clock::Clock;
+use eu_desk::Desk;
 use eu_framing::{EMPTY_ROOM, Request, read_request};
 use eu_routes::Routes;
 use eu_stream::{Sink, Source};

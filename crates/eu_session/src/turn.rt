@@ -1,15 +1,16 @@
 //! One request after it is read: what comes of it, and its response.
 ghost use Rattle.std.specs.Prelude.{◌≡◌, ◌≢◌, ℕ, take, true, IfErr, IfOk, OnOk, OnErr};
 ghost use Rattle.std.specs.Io.KnownBytes.{Appends};
-ghost use Rattle.eu_session.specs.Chain.{Pairs};
+ghost use Rattle.eu_desk.specs.Chain.{Pairs};
 ghost use Rattle.eu_session.specs.Steps.{AnswersTo, RefusesBy};
 ghost use Rattle.eu_session.specs.Turn.{ComesOf};
 
-use crate::{Desk, SessionFault};
+use crate::SessionFault;
 use eu_base::{Fault, Moment};
 use eu_clock::Clock;
+use eu_desk::{Answer, Ask, Desk};
 use eu_framing::Request;
-use eu_http::{Answer, Ask, Asked, Outcome, answer, asks};
+use eu_http::{Asked, Outcome, answer, asks};
 use eu_routes::Routes;
 use eu_stream::{Sink, WriteFault, write_whole};
 use std::alloc::{AllocError, Global};

@@ -25,7 +25,7 @@ module _ (c : Command) (t : ℕ) where
   is_refused a f before is = (a, before, is)
 
   any_config : Config
-  any_config = record { preservation = true; percent = 85; interval = 30; evict_ms = 60000; percent_bound = omega arith; interval_bound = (omega arith, omega arith) }
+  any_config = record { preservation = true; percent = 85; interval = 30; evict_ms = 60000 }
 
   -- memory may be wanted at any time
   pub memory_is_wanted : IsRefused c t OutOfMemory

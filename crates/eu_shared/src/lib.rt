@@ -4,6 +4,7 @@
 mod closing;
 mod held;
 mod pass;
+mod seat;
 mod shared;
 mod shares;
 mod sums;
@@ -11,5 +12,6 @@ mod sums;
 pub use closing::Unclosed;
 pub use held::{Held, MOST_PASSES};
 pub use pass::Pass;
+pub use seat::Seat;
 pub use shared::{Shared, close};
 pub use shares::{Blanks, Label};

@@ -61,7 +61,7 @@ impl<K: Label> Shared<K> {
 
     /// Takes the lock. The book behind it is lawful: its invariant says so once it is looked at.
     ///
-    /// Most calls hold it for about a microsecond, and to sleep and be woken takes many times as long. So it is looked for first.
+    /// A heartbeat holds it for some 1,200 instructions, and to sleep and be woken takes many times as long. So it is looked for first.
     fn lock<R: Wait>(&self, rt: &R) -> MutexGuard<'_, Held<K>>
         ensures { IsLawful (mutex_guard_value result).book }
     {

@@ -3,6 +3,5 @@ pub mod IndexLemmas
 pub mod SortedLemmas
 pub mod TableLemmas
 pub mod MapLemmas
-pub mod ListedLemmas
 pub mod RowLemmas
 pub mod Crossing

@@ -1,12 +1,10 @@
 -- The leases as their users see them: a finite map, and how many more can be put without taking memory
-use Rattle.std.specs.Prelude.{ℕ, ◌+◌, ◌==◌, if◌then◌else◌, Option, List, map, filter, refl}
+use Rattle.std.specs.Prelude.{ℕ, Bool, ◌+◌, ◌==◌, if◌then◌else◌, Option, List, map, filter, refl}
 use Rattle.std.specs.FinMap.{FinMap, get, insert, entries}
 use Rattle.std.specs.Option.{option_map_or}
 use Rattle.std.specs.Coded.{Coded, code_by, coded×, coded_ℕ}
 use Rattle.eu_base.specs.declared.names.Key.{Key}
 use Rattle.eu_base.specs.declared.statuses.Status.{Status}
-use Rattle.eu_base.specs.declared.times.Stamp.{Stamp}
-use Rattle.eu_base.specs.declared.instances.Instance.{Instance}
 use Rattle.eu_base.specs.Key.{key_cmp}
 use Rattle.eu_model.specs.declared.views.Listed.{Listed}
 use Rattle.eu_model.specs.Record.{duration}
@@ -15,6 +13,8 @@ use Rattle.eu_model.specs.Kept.{kept_expired}
 use Rattle.eu_model.specs.PlainCode.{coded_leases}
 use Rattle.eu_model.specs.View.{is_of}
 use Rattle.eu_lease.specs.Term.{Term, listed_with}
+use Rattle.eu_store.specs.declared.held.Amendment.{Amendment}
+use Rattle.eu_store.specs.declared.held.Amendment.TheVariants.{Renewed, InStatuses, Rejoined, Replaced}
 
 pub record Stored : Type 0 where
   pub held : FinMap key_cmp Listed
@@ -47,15 +47,25 @@ renewed_at t l = record l { times = record l.times { updated = t + duration l.in
 abbrev pub upped_at : ℕ → Listed → Listed
 upped_at t l = record l { times = record l.times { up = if l.times.up == 0 then t else l.times.up } }
 
+-- the same, where it comes up
+abbrev pub marked : Bool → ℕ → Listed → Listed
+marked comes_up t l = if comes_up then upped_at t l else l
+
 -- its instance in these statuses, and with a greater stamp, where one is given
-abbrev pub amended : Status → Status → Option Stamp → Listed → Listed
-amended status overridden dirty l =
+abbrev pub in_statuses : Status → Status → Option ℕ → Listed → Listed
+in_statuses status overridden dirty l =
     record l { instance = stamped dirty (record l.instance { status = status; overridden = overridden }) }
 
--- the instance kept, but for the statuses and a newcomer's duration, and its lease begun anew
-abbrev pub rejoined : Instance → Status → Status → Term → Listed → Listed
-rejoined n status overridden term l =
-    listed_with (record l.instance { status = status; overridden = overridden; secs = n.secs; secs_bound = n.secs_bound }) term
+-- the instance kept, but for the statuses and the duration, and its lease begun anew
+abbrev pub rejoined : Status → Status → Term → Listed → Listed
+rejoined status overridden term l = listed_with (record l.instance { status = status; overridden = overridden; secs = term.secs }) term
+
+-- what an amendment leaves of a lease
+abbrev pub amended : Amendment → Listed → Listed
+amended (Renewed t) l = renewed_at t l
+amended (InStatuses t status overridden dirty comes_up) l = marked comes_up t (in_statuses status overridden dirty (renewed_at t l))
+amended (Rejoined status overridden lease) l = rejoined status overridden lease l
+amended (Replaced by) l = by
 
 -- the keys of the leases that have expired, in key order
 abbrev pub expired_keys : FinMap key_cmp Listed → ℕ → ℕ → List Key

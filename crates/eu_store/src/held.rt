@@ -3,13 +3,14 @@ ghost use Rattle.std.specs.Prelude.{◌≡◌, IfOk};
 ghost use Rattle.eu_lease.specs.Term.{listed_with};
 ghost use Rattle.eu_model.specs.Change.{stamped};
 ghost use Rattle.eu_model.specs.Kept.{kept_expired};
-ghost use Rattle.eu_store.specs.Stored.{term_of, deadline_of, renewed_at, upped_at, amended, rejoined};
+ghost use Rattle.eu_store.specs.Stored.{amended, deadline_of, term_of};
 
-use eu_base::{Instance, Moment, Stamp, Status};
+use eu_base::{Instance, LeaseSecs, Moment, Stamp, Status};
 use eu_lease::Lease;
 use eu_model::{Listed, Times};
 use std::alloc::{AllocError, Global};
 use std::marker::Model;
+use std::mem;
 
 /// An instance with its lease, which lasts as long as the instance says. Contracts see both as they are listed.
 ///
@@ -90,72 +91,110 @@ impl Held {
         self.lease.expired(moment, extra)
     }
 
-    /// Renews its lease.
-    pub fn renew(&mut self, moment: Moment)
-        ensures { self.new ≡ renewed_at moment self.old }
+    /// Amends it.
+    pub fn amend(&mut self, amendment: Amendment)
+        ensures { self.new ≡ amended amendment self.old }
     {
-        self.lease.renew(moment);
+        match amendment {
+            Amendment::Renewed { moment } => self.lease.renew(moment),
+            Amendment::InStatuses {
+                moment,
+                status,
+                overridden,
+                dirty,
+                comes_up,
+            } => {
+                set_statuses(self.instance.as_mut(), status, overridden, dirty);
+                self.lease.renew(moment);
+                if comes_up {
+                    self.lease.service_up(moment);
+                }
+            }
+            Amendment::Rejoined {
+                status,
+                overridden,
+                lease,
+            } => {
+                rejoin(self.instance.as_mut(), status, overridden, lease.secs());
+                self.lease = lease;
+            }
+            Amendment::Replaced(by) => drop(mem::replace(self, by)),
+        }
     }
 
-    /// The instance is up now: the moment is kept, where it is the first.
-    pub fn mark_up(&mut self, moment: Moment)
-        ensures { self.new ≡ upped_at moment self.old }
+    /// A copy of the instance that it has once it is amended so. `AllocError` where no memory is left.
+    pub fn instance_amended(
+        &self,
+        alloc: Global,
+        amendment: &Amendment,
+    ) -> Result<Instance, AllocError>
+        ensures { IfOk result (λ i. i ≡ (amended amendment.now self.now).instance) }
     {
-        self.lease.service_up(moment);
+        if let Amendment::Replaced(by) = amendment {
+            return by.instance.copy(alloc);
+        }
+        let mut instance = self.instance.copy(alloc)?;
+        match amendment {
+            Amendment::InStatuses {
+                status,
+                overridden,
+                dirty,
+                ..
+            } => set_statuses(&mut instance, *status, *overridden, *dirty),
+            Amendment::Rejoined {
+                status,
+                overridden,
+                lease,
+            } => rejoin(&mut instance, *status, *overridden, lease.secs()),
+            _ => {}
+        }
+        Ok(instance)
     }
+}
 
-    /// Puts the instance in these statuses; a greater stamp replaces the held one.
-    pub fn amend(&mut self, status: Status, overridden: Status, dirty: Option<Stamp>)
-        ensures { self.new ≡ amended status overridden dirty self.old }
-    {
-        amend(self.instance.as_mut(), status, overridden, dirty);
-    }
-
-    /// Renews its lease and amends the instance.
-    pub fn renew_as(
-        &mut self,
+/// What becomes of a lease that is held.
+#[derive(Drop)]
+pub enum Amendment {
+    /// It is renewed.
+    Renewed {
+        moment: Moment,
+    },
+    /// It is renewed, with its instance in these statuses; a greater stamp replaces the held one. Where its instance comes up, the
+    /// moment is kept, if it is the first.
+    InStatuses {
         moment: Moment,
         status: Status,
         overridden: Status,
         dirty: Option<Stamp>,
-    )
-        ensures { self.new ≡ amended status overridden dirty (renewed_at moment self.old) }
-    {
-        self.renew(moment);
-        self.amend(status, overridden, dirty);
-    }
-
-    /// Keeps the instance, but for the statuses and a newcomer's duration, with this lease.
-    pub fn rejoin(&mut self, newcomer: &Instance, status: Status, overridden: Status, lease: Lease)
-        requires { lease.secs ≡ newcomer.now.secs }
-        ensures { self.new ≡ rejoined newcomer.now status overridden lease self.old }
-    {
-        keep_but(self.instance.as_mut(), newcomer, status, overridden);
-        self.lease = lease;
-    }
+        comes_up: bool,
+    },
+    /// It begins anew, and keeps its instance, but for these statuses and the duration, which is the new lease's.
+    Rejoined {
+        status: Status,
+        overridden: Status,
+        lease: Lease,
+    },
+    /// This takes its place.
+    Replaced(Held),
 }
 
 /// Puts an instance in these statuses; a greater stamp replaces its own.
-pub fn amend(instance: &mut Instance, status: Status, overridden: Status, dirty: Option<Stamp>)
+fn set_statuses(instance: &mut Instance, status: Status, overridden: Status, dirty: Option<Stamp>)
     ensures { instance.new ≡ stamped dirty (record instance.old { status = status; overridden = overridden }) }
 {
     instance.status = status;
     instance.overridden = overridden;
     match dirty {
-        Some(stamp) => {
-            if stamp.value > instance.dirty {
-                instance.dirty = stamp.value;
-            }
-        }
-        None => {}
+        Some(stamp) if stamp.value() > instance.dirty.value() => instance.dirty = stamp,
+        _ => {}
     }
 }
 
-/// Keeps an instance, but for the statuses and a newcomer's duration.
-fn keep_but(instance: &mut Instance, newcomer: &Instance, status: Status, overridden: Status)
-    ensures { instance.new ≡ record instance.old { status = status; overridden = overridden; secs = newcomer.now.secs; secs_bound = newcomer.now.secs_bound } }
+/// Keeps an instance, but for the statuses and the duration of its lease.
+fn rejoin(instance: &mut Instance, status: Status, overridden: Status, secs: LeaseSecs)
+    ensures { instance.new ≡ record instance.old { status = status; overridden = overridden; secs = secs } }
 {
     instance.status = status;
     instance.overridden = overridden;
-    instance.secs = newcomer.secs;
+    instance.secs = secs;
 }

@@ -4,19 +4,17 @@ ghost use Rattle.std.specs.Option.{option_copied};
 ghost use Rattle.std.specs.FinMap as map;
 ghost use Rattle.indexmap.specs.IndexMap.{values, index_map_len, get_by, index_of_by, IsUnique};
 ghost use Rattle.eu_base.specs.Key.{key_eq};
-ghost use Rattle.eu_store.specs.Stored.{changed, renewed_at, amended, upped_at, rejoined, expired_keys, rows_of, listing_of};
+ghost use Rattle.eu_store.specs.Stored.{amended, changed, expired_keys, listing_of, rows_of};
 ghost use Rattle.eu_model.specs.View.{is_of};
 ghost use Rattle.std.specs.Map.Iter.{deref_pair};
 
-use crate::Held;
-use eu_base::{App, Fault, Instance, Key, Moment, Stamp, Status};
+use crate::{Amendment, Held};
+use eu_base::{App, Fault, Key, Moment};
 use eu_deadlines::Deadlines;
-use eu_lease::Lease;
 use eu_model::Listed;
 use indexmap::IndexMap;
 use std::alloc::{AllocError, Global};
 use std::marker::Model;
-use std::mem;
 
 /// The most leases that are held.
 pub const MOST_LEASES: usize = 65_536;
@@ -132,18 +130,6 @@ impl Leases {
         self.table.insert(key, held).unwrap();
     }
 
-    /// Puts a lease in place of the one that is held under its instance's key, and hands back that one; where none is held,
-    /// nothing changes. Takes no memory.
-    pub fn replace(&mut self, hint: Place, held: Held) -> Option<Held>
-        ensures before { result ≡ map.get self.old.held held.instance.key }
-        ensures held { self.new.held ≡ changed (λ _. held) self.old.held held.instance.key }
-        ensures room { self.new.room ≡ self.old.room }
-    {
-        let place = place_of(&self.table, &held.instance().key, hint)?;
-        self.index.set(place, held.deadline());
-        Some(mem::replace(&mut self.table[place], held))
-    }
-
     /// Takes out what is held under that key. Takes no memory.
     pub fn take(&mut self, key: &Key, hint: Place) -> Option<Held>
         ensures before { result ≡ map.get self.old.held key.now }
@@ -156,78 +142,18 @@ impl Leases {
         Some(held)
     }
 
-    /// Renews the lease of that key, and tells whether one is held. Takes no memory.
-    pub fn renew(&mut self, key: &Key, hint: Place, moment: Moment) -> bool
+    /// Amends the lease of that key, and tells whether one is held. Takes no memory.
+    pub fn amend(&mut self, key: &Key, hint: Place, amendment: Amendment) -> bool
         ensures found { result ≡ is_some (map.get self.old.held key.now) }
-        ensures held { self.new.held ≡ changed (renewed_at moment) self.old.held key.now }
+        ensures held { self.new.held ≡ changed (amended amendment) self.old.held key.now }
         ensures room { self.new.room ≡ self.old.room }
     {
         let Some(place) = place_of(&self.table, key, hint) else {
+            drop(amendment);
             return false;
         };
         let held = &mut self.table[place];
-        held.renew(moment);
-        self.index.set(place, held.deadline());
-        true
-    }
-
-    /// Renews the lease of that key, and amends its instance. Tells whether one is held. Takes no memory.
-    pub fn renew_as(
-        &mut self,
-        key: &Key,
-        hint: Place,
-        moment: Moment,
-        status: Status,
-        overridden: Status,
-        dirty: Option<Stamp>,
-    ) -> bool
-        ensures found { result ≡ is_some (map.get self.old.held key.now) }
-        ensures held { self.new.held ≡ changed (λ l. amended status overridden dirty (renewed_at moment l)) self.old.held key.now }
-        ensures room { self.new.room ≡ self.old.room }
-    {
-        let Some(place) = place_of(&self.table, key, hint) else {
-            return false;
-        };
-        let held = &mut self.table[place];
-        held.renew_as(moment, status, overridden, dirty);
-        self.index.set(place, held.deadline());
-        true
-    }
-
-    /// The instance of that key is up now: the moment is kept, where it is the first. Tells whether a lease is held. Takes no
-    /// memory.
-    pub fn mark_up(&mut self, key: &Key, hint: Place, moment: Moment) -> bool
-        ensures found { result ≡ is_some (map.get self.old.held key.now) }
-        ensures held { self.new.held ≡ changed (upped_at moment) self.old.held key.now }
-        ensures room { self.new.room ≡ self.old.room }
-    {
-        let Some(place) = place_of(&self.table, key, hint) else {
-            return false;
-        };
-        self.table[place].mark_up(moment);
-        true
-    }
-
-    /// Begins the held lease of a newcomer's key anew: it keeps its instance, but for these statuses and the newcomer's
-    /// duration. Tells whether one is held. Takes no memory.
-    pub fn rejoin(
-        &mut self,
-        hint: Place,
-        newcomer: &Instance,
-        status: Status,
-        overridden: Status,
-        lease: Lease,
-    ) -> bool
-        requires { lease.secs ≡ newcomer.now.secs }
-        ensures found { result ≡ is_some (map.get self.old.held newcomer.now.key) }
-        ensures held { self.new.held ≡ changed (rejoined newcomer.now status overridden lease) self.old.held newcomer.now.key }
-        ensures room { self.new.room ≡ self.old.room }
-    {
-        let Some(place) = place_of(&self.table, &newcomer.key, hint) else {
-            return false;
-        };
-        let held = &mut self.table[place];
-        held.rejoin(newcomer, status, overridden, lease);
+        held.amend(amendment);
         self.index.set(place, held.deadline());
         true
     }

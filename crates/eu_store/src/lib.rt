@@ -4,5 +4,5 @@
 mod held;
 mod leases;
 
-pub use held::{Held, amend};
+pub use held::{Amendment, Held};
 pub use leases::{Leases, MOST_LEASES, Place};

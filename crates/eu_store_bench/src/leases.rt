@@ -1,9 +1,9 @@
 //! Leases that are renewed, and of which the expired are looked for.
 
-use eu_base::{App, Fault, Id, Instance, Key, Moment, Rest, Status};
+use eu_base::{App, Fault, Id, Instance, Key, LeaseSecs, Moment, RenewalSecs, Rest, Stamp, Status};
 use eu_clock::{Chooser, RngChooser};
 use eu_lease::Lease;
-use eu_store::{Held, Leases};
+use eu_store::{Amendment, Held, Leases};
 use std::alloc::Global;
 
 /// A moment at which leases that were made at 0 have expired, and those that were made then have not.
@@ -28,9 +28,9 @@ fn put(alloc: Global, leases: &mut Leases, key: &Key, moment: Moment) -> Result<
         key: key.copy(alloc)?,
         status: Status::Up,
         overridden: Status::Unknown,
-        dirty: 0,
-        secs: Instance::DEFAULT_SECS,
-        interval: Instance::DEFAULT_INTERVAL,
+        dirty: Stamp::new(0).ok_or(Fault::BadStamp)?,
+        secs: LeaseSecs::DEFAULT,
+        interval: RenewalSecs::DEFAULT,
         rest: Rest::of_host(alloc, "h")?,
     };
     let lease = Lease::fresh(moment, instance.secs);
@@ -61,7 +61,8 @@ fn renew(leases: &mut Leases, keys: &[Key], times: u64) -> Result<u64, Fault> {
             return Ok(renewed);
         };
         let (place, _held) = leases.find(key);
-        if leases.renew(key, place, at(time)?) {
+        let moment = at(time)?;
+        if leases.amend(key, place, Amendment::Renewed { moment }) {
             renewed = renewed.saturating_add(1);
         }
     }

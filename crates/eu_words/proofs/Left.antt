@@ -17,7 +17,10 @@ some_left (Some text) e = λ none.
     cc
 
 -- where a word is left, it tells how many peers there are
-pub peers_told : (ws : List (List ℕ)) → ws ≢ [] → peers_at ws ≡ number_at 8 ws
+told : (ws : List (List ℕ)) → ws ≢ [] → peers_at ws ≡ number_at 8 ws
 unfolding peers_at
-peers_told [] some = absurd (some refl)
-peers_told (w ∷ ws) some = refl
+told [] some = absurd (some refl)
+told (w ∷ ws) some = refl
+
+pub peers_told : (rest : Option (Bor (List ℕ))) → is_some rest ≡ true → peers_at (words_left rest) ≡ number_at 8 (words_left rest)
+peers_told rest e = told (words_left rest) (some_left rest e)

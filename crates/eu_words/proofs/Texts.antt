@@ -6,7 +6,7 @@ use Rattle.std.proofs.Math.Nat.{pow-suc, pow-le-pow_right}
 use Rattle.std.specs.List.{onto_first}
 use Rattle.std.specs.Str.{all_ascii_digits, is_utf8, IsUtf8}
 use Rattle.std.specs.Char.{is_ascii_digit, digit_value}
-use Rattle.std.specs.Prelude.{Option, Some, Result, Ok, Err, if◌then◌else◌}
+use Rattle.std.specs.Prelude.{Some, Result, Ok, Err, if◌then◌else◌}
 use Rattle.std.specs.Str.Parse.{digits_value}
 use Rattle.std.proofs.lemmas.Int.Digits.{digits_value_push}
 use Rattle.eu_base.specs.declared.faults.Fault.{Fault}

@@ -2,13 +2,13 @@
 use Rattle.std.specs.Prelude.{◌≡◌, ℕ, ◌^◌, ◌-◌, Bool, true, false, ◌&&◌, List, [], ◌∷◌, length, Option, Some, None, Result, Ok, Err, nat_lt, nat_le, ◌==◌, if◌then◌else◌, codes}
 use Rattle.std.specs.Borrow.{Bor}
 use Rattle.std.specs.List.{slice_split}
-use Rattle.std.specs.Option.{option_map, unwrap_or}
+use Rattle.std.specs.Option.{unwrap_or}
 use Rattle.std.specs.Str.{all_ascii_digits, is_utf8, bytes_eq, str_to_ascii_uppercase}
 use Rattle.std.specs.Str.Parse.{digits_value}
 use Rattle.eu_base.specs.declared.statuses.Status.{Status}
 use Rattle.eu_base.specs.declared.names.Key.{Key}
-use Rattle.eu_base.specs.declared.times.Stamp.{Stamp}
-use Rattle.eu_base.specs.Settings.{Settings, settings_from}
+use Rattle.eu_base.specs.declared.settings.Config.{Config}
+use Rattle.eu_base.specs.Settings.{settings_from}
 use Rattle.eu_base.specs.Status.{status_of}
 use Rattle.eu_lines.specs.declared.faults.LineError.{LineError}
 use Rattle.eu_lines.specs.declared.faults.LineError.TheVariants.{Bad, OutOfMemory}
@@ -36,10 +36,15 @@ abbrev pub Fails : {X : Type 0} → LineError → Option X → Type 0
 Fails Bad said = said ≡ None
 Fails OutOfMemory said = Unit {0}
 
--- what was returned, seen by the view, and the words that are left are what is said
-abbrev pub Gives : {X Y : Type 0} → (X → Y) → Result X LineError → List (List ℕ) → Option (Y × List (List ℕ)) → Type 0
-Gives view (Ok x) left said = said ≡ Some (view x, left)
-Gives view (Err e) left said = Fails e said
+-- what was read and the words that are left are what is said
+abbrev pub Gives : {X : Type 0} → Result X LineError → List (List ℕ) → Option (X × List (List ℕ)) → Type 0
+Gives (Ok x) left said = said ≡ Some (x, left)
+Gives (Err e) left said = Fails e said
+
+-- the same where it is what all the words say
+abbrev pub IsReading : {X : Type 0} → Result X LineError → Option X → Type 0
+IsReading (Ok x) said = said ≡ Some x
+IsReading (Err e) said = Fails e said
 
 -- 1 to 20 decimal digits
 abbrev pub number : List ℕ → Option ℕ
@@ -116,10 +121,6 @@ secs_at ws = do
   n ← number_at 2147483 ws
   Some (if n.0 == 0 then 90 else n.0, n.1)
 
--- the number of a stamp that may be absent
-abbrev pub number_of : Option Stamp → Option ℕ
-number_of stamp = option_map (λ s. s.value) stamp
-
 -- a stamp: up to 2^63 - 1, or none where `-` stands
 unfoldable pub stamp_at : Field (Option ℕ)
 stamp_at ws = do
@@ -163,7 +164,7 @@ switch_at ws = do
 
 -- `on` or `off`, the percentage, the seconds between two renewals and the milliseconds between two passes, each below 2^32 and within
 -- its limits
-unfoldable pub settings_at : Field Settings
+unfoldable pub settings_at : Field Config
 settings_at ws = do
   preservation ← switch_at ws
   percent ← u32_at preservation.1
@@ -185,8 +186,3 @@ codes_of (w ∷ ws) = do
   n ← code_at (w ∷ [])
   ns ← codes_of ws
   Some (n.0 ∷ ns)
-
--- the codes that were read are what is said; where memory ran out, nothing is known
-abbrev pub IsCodes : Result (List ℕ) LineError → Option (List ℕ) → Type 0
-IsCodes (Ok codes) said = said ≡ Some codes
-IsCodes (Err e) said = Fails e said

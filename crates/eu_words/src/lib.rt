@@ -6,4 +6,4 @@ mod openings;
 mod words;
 
 pub use lines::{Line, read_line};
-pub use openings::Opening;
+pub use openings::{Opening, PeerCount};

@@ -1,11 +1,11 @@
 //! What a line says.
 ghost use Rattle.std.specs.Prelude.{◌≢◌, Err};
-ghost use Rattle.eu_words.specs.Words.{Gives};
-ghost use Rattle.eu_words.specs.Lines.{IsReading, line_of, words_say, open_says, config_says, drain_says, landed_says, lost_says, others_say, newcomer_of, newcomer_at, register_says, renew_says, cancel_says, set_says, unset_says, adopt_says, look_says, moment_says};
+ghost use Rattle.eu_words.specs.Words.{Gives, IsReading};
+ghost use Rattle.eu_words.specs.Lines.{line_of, words_say, open_says, config_says, drain_says, landed_says, lost_says, others_say, newcomer_at, register_says, renew_says, cancel_says, set_says, unset_says, adopt_says, look_says, moment_says};
 
 use crate::openings::Opening;
 use crate::words::{Words, is_text};
-use eu_base::{BoxedInstance, Instance, Key, Moment, Rest};
+use eu_base::{BoxedInstance, Instance, Key, Moment, RenewalSecs, Rest};
 use eu_lines::LineError;
 use eu_model::Command;
 use std::alloc::Global;
@@ -198,13 +198,13 @@ fn instance_at(
     words: &mut Words<'_>,
     moment: Moment,
 ) -> Result<BoxedInstance, LineError>
-    ensures { Gives newcomer_of result words.new (newcomer_at moment words.old) }
+    ensures { Gives result words.new (newcomer_at moment words.old) }
 {
     let key = words.key_at(alloc)?;
     let secs = words.secs_at()?;
     let status = words.status_at()?;
     let overridden = words.status_at()?;
-    let dirty = words.dirty_at(moment.ms())?;
+    let dirty = words.dirty_at(moment)?;
     let rest = Rest::of_host(alloc, key.id.as_str())?;
     Ok(BoxedInstance::new(
         alloc,
@@ -214,7 +214,7 @@ fn instance_at(
             overridden,
             dirty,
             secs,
-            interval: Instance::DEFAULT_INTERVAL,
+            interval: RenewalSecs::DEFAULT,
             rest,
         },
     )?)

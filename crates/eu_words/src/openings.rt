@@ -1,5 +1,48 @@
 //! How a registry is opened.
-ghost use Rattle.std.specs.Prelude.{◌≤◌};
+ghost use Rattle.std.specs.Prelude.{◌≡◌, ◌≤◌, SomeIff};
+
+use std::marker::Model;
+
+/// How many peers a registry has: 0 to 8. Contracts see the number.
+#[derive(Clone, Copy, Debug)]
+pub struct PeerCount {
+    count: u32,
+}
+
+impl Model for PeerCount {
+    ghost use Rattle.std.specs.Prelude.{ℕ, ◌≤◌};
+
+    ghost Value = { ℕ };
+
+    ghost view = { λ p. p.count };
+
+    ghost invariant = { λ p. p.count ≤ 8 };
+
+    ghost inverse = { λ n. record { count = n } };
+}
+
+impl PeerCount {
+    /// No peer.
+    pub const NONE: PeerCount = PeerCount { count: 0 };
+
+    /// So many peers. None exactly where they are more than 8.
+    pub fn new(count: u32) -> Option<PeerCount>
+        ensures { SomeIff result (count ≤ 8) count }
+    {
+        if count > 8 {
+            return None;
+        }
+        Some(PeerCount { count })
+    }
+
+    /// The number.
+    pub fn count(self) -> u32
+        ensures value { result ≡ self }
+        ensures bound { result ≤ 8 }
+    {
+        self.count
+    }
+}
 
 /// How a registry is opened.
 #[derive(Clone, Copy, Debug)]
@@ -7,6 +50,5 @@ pub struct Opening {
     /// So many clients are expected.
     pub expected: u32,
     /// So many peers there are.
-    pub peers: u32,
-    ghost few: { peers ≤ 8 },
+    pub peers: PeerCount,
 }

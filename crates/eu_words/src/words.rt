@@ -1,10 +1,10 @@
 //! The words of a line.
-ghost use Rattle.std.specs.Prelude.{◌≡◌, ◌≢◌, ◌∷◌, ◌^◌, ◌<◌, ◌≤◌, List, ℕ, IfOk, IfSome, IsSome, None, Err, true, IsAscii, IsUtf8};
+ghost use Rattle.std.specs.Prelude.{◌≡◌, ◌≢◌, ◌∷◌, ◌≤◌, List, ℕ, IfErr, IfOk, IfSome, IsSome, None, Some, Err, true, IsAscii, IsUtf8};
 ghost use Rattle.std.specs.Str.{bytes_eq};
-ghost use Rattle.eu_base.specs.Settings.{settings_of};
-ghost use Rattle.eu_words.specs.Words.{words_of, words_left, number, digits, Gives, word_at, absent_at, number_at, moment_at, app_at, id_at, key_at, status_at, maybe_status_at, secs_at, number_of, stamp_at, dirty_at, source_at, peers_at, u32_at, peer_at, switch_at, settings_at, code_at, codes_of, IsCodes, end_at};
+ghost use Rattle.eu_words.specs.Words.{words_of, words_left, number, digits, Gives, IsReading, word_at, absent_at, number_at, moment_at, app_at, id_at, key_at, status_at, maybe_status_at, secs_at, stamp_at, dirty_at, source_at, peers_at, u32_at, peer_at, switch_at, settings_at, code_at, codes_of, end_at};
 
-use eu_base::{App, Codes, Config, Fault, Id, Instance, Key, Moment, Stamp, Status};
+use crate::openings::PeerCount;
+use eu_base::{App, Codes, Config, Fault, Id, Key, LeaseSecs, Moment, Stamp, Status};
 use eu_lines::LineError;
 use std::alloc::Global;
 use std::marker::Model;
@@ -44,8 +44,8 @@ impl<'a> Words<'a> {
 
     /// The next word. `Bad` where none is left.
     pub fn next_word(&mut self) -> Result<&'a [u8], LineError>
-        ensures said { Gives (λ w. w.now) result self.new (word_at self.old) }
-        ensures memory { result ≢ Err LineError.OutOfMemory }
+        ensures said { IfOk result (λ word. word_at self.old ≡ Some (word.now, self.new)) }
+        ensures bad { IfErr result (λ e. (e ≡ LineError.Bad) × (word_at self.old ≡ None)) }
     {
         let Some(text) = self.rest else {
             return Err(LineError::Bad);
@@ -57,7 +57,7 @@ impl<'a> Words<'a> {
 
     /// No word is left, else `Bad`.
     pub fn end(&self) -> Result<(), LineError>
-        ensures said { Gives (λ u. u) result self.now (end_at self.now) }
+        ensures said { Gives result self.now (end_at self.now) }
         ensures memory { result ≢ Err LineError.OutOfMemory }
     {
         match self.rest {
@@ -69,7 +69,7 @@ impl<'a> Words<'a> {
     /// Whether the next word is `-`, which is then read; any other word is left. `Bad` where none is left.
     #[tactic(auto, unfolding(crate::specs::Words::absent_at))]
     fn absent_at(&mut self) -> Result<bool, LineError>
-        ensures said { Gives (λ b. b) result self.new (absent_at self.old) }
+        ensures said { Gives result self.new (absent_at self.old) }
         ensures memory { result ≢ Err LineError.OutOfMemory }
     {
         let before = self.rest;
@@ -83,7 +83,7 @@ impl<'a> Words<'a> {
     /// A number up to `most`, else `Bad`.
     #[tactic(auto, unfolding(crate::specs::Words::number_at))]
     pub fn number_at(&mut self, most: u64) -> Result<u64, LineError>
-        ensures said { Gives (λ n. n) result self.new (number_at most self.old) }
+        ensures said { Gives result self.new (number_at most self.old) }
         ensures small { IfOk result (λ n. n ≤ most) }
         ensures memory { result ≢ Err LineError.OutOfMemory }
     {
@@ -98,22 +98,21 @@ impl<'a> Words<'a> {
     }
 
     /// The number of peers, up to 8, or 0 where no word is left; else `Bad`.
-    #[tactic(auto, unfolding(crate::specs::Words::peers_at))]
-    pub fn peers_at(&mut self) -> Result<u32, LineError>
-        ensures said { Gives (λ n. n) result self.new (peers_at self.old) }
-        ensures few { IfOk result (λ n. n ≤ 8) }
+    #[tactic(auto, unfolding(crate::specs::Words::peers_at), using(crate::proofs::Left::peers_told))]
+    pub fn peers_at(&mut self) -> Result<PeerCount, LineError>
+        ensures said { Gives result self.new (peers_at self.old) }
         ensures memory { result ≢ Err LineError.OutOfMemory }
     {
         if self.rest.is_none() {
-            return Ok(0);
+            return Ok(PeerCount::NONE);
         }
         let peers = self.number_at(MOST_PEERS)?;
-        Ok(peers as u32)
+        PeerCount::new(peers as u32).ok_or(LineError::Bad)
     }
 
     /// A number below 2^32, else `Bad`.
     fn u32_at(&mut self) -> Result<u32, LineError>
-        ensures said { Gives (λ n. n) result self.new (u32_at self.old) }
+        ensures said { Gives result self.new (u32_at self.old) }
         ensures memory { result ≢ Err LineError.OutOfMemory }
     {
         let number = self.number_at(u64::from(u32::MAX))?;
@@ -122,7 +121,7 @@ impl<'a> Words<'a> {
 
     /// The number of a peer, below 2^32, else `Bad`.
     pub fn peer_at(&mut self) -> Result<u32, LineError>
-        ensures said { Gives (λ n. n) result self.new (peer_at self.old) }
+        ensures said { Gives result self.new (peer_at self.old) }
         ensures memory { result ≢ Err LineError.OutOfMemory }
     {
         self.u32_at()
@@ -131,7 +130,7 @@ impl<'a> Words<'a> {
     /// Whether a setting is `on` or `off`, else `Bad`.
     #[tactic(auto, unfolding(crate::specs::Words::switch_at))]
     fn switch_at(&mut self) -> Result<bool, LineError>
-        ensures said { Gives (λ b. b) result self.new (switch_at self.old) }
+        ensures said { Gives result self.new (switch_at self.old) }
         ensures memory { result ≢ Err LineError.OutOfMemory }
     {
         let word = self.next_word()?;
@@ -148,7 +147,7 @@ impl<'a> Words<'a> {
     /// between two passes. `Bad` where one of these isn't there or is past its limits (`Config::new`).
     #[tactic(auto, unfolding(crate::specs::Words::settings_at))]
     pub fn config_at(&mut self) -> Result<Config, LineError>
-        ensures said { Gives settings_of result self.new (settings_at self.old) }
+        ensures said { Gives result self.new (settings_at self.old) }
         ensures memory { result ≢ Err LineError.OutOfMemory }
     {
         let preservation = self.switch_at()?;
@@ -161,7 +160,7 @@ impl<'a> Words<'a> {
     /// An HTTP status, 100 to 999, else `Bad`.
     #[tactic(auto, unfolding(crate::specs::Words::code_at))]
     fn code(&mut self) -> Result<u16, LineError>
-        ensures said { Gives (λ n. n) result self.new (code_at self.old) }
+        ensures said { Gives result self.new (code_at self.old) }
         ensures memory { result ≢ Err LineError.OutOfMemory }
     {
         let code = self.number_at(999)?;
@@ -173,7 +172,7 @@ impl<'a> Words<'a> {
 
     /// The HTTP statuses that are left, each 100 to 999, else `Bad`; `OutOfMemory`. No word is left behind them.
     pub fn codes(&mut self, alloc: Global) -> Result<Codes, LineError>
-        ensures { IsCodes result (codes_of self.old) }
+        ensures { IsReading result (codes_of self.old) }
     {
         let mut codes = Vec::new(alloc);
         'words: while self.rest.is_some() {
@@ -184,7 +183,7 @@ impl<'a> Words<'a> {
 
     /// A moment, else `Bad`.
     pub fn moment_at(&mut self) -> Result<Moment, LineError>
-        ensures said { Gives (λ t. t) result self.new (moment_at self.old) }
+        ensures said { Gives result self.new (moment_at self.old) }
         ensures memory { result ≢ Err LineError.OutOfMemory }
     {
         let ms = self.number_at(LAST_MOMENT)?;
@@ -194,7 +193,7 @@ impl<'a> Words<'a> {
     /// An application, else `Bad`; `OutOfMemory`, where the word is one.
     #[tactic(auto, unfolding(crate::specs::Words::app_at))]
     pub fn app_at(&mut self, alloc: Global) -> Result<App, LineError>
-        ensures said { Gives (λ a. a) result self.new (app_at self.old) }
+        ensures said { Gives result self.new (app_at self.old) }
         ensures memory { result ≡ Err LineError.OutOfMemory → IsSome (app_at self.old) }
     {
         let word = self.next_word()?;
@@ -211,7 +210,7 @@ impl<'a> Words<'a> {
     /// The id of an instance, else `Bad`; `OutOfMemory`, where the word is one.
     #[tactic(auto, unfolding(crate::specs::Words::id_at))]
     pub fn id_at(&mut self, alloc: Global) -> Result<Id, LineError>
-        ensures said { Gives (λ i. i) result self.new (id_at self.old) }
+        ensures said { Gives result self.new (id_at self.old) }
         ensures memory { result ≡ Err LineError.OutOfMemory → IsSome (id_at self.old) }
     {
         let word = self.next_word()?;
@@ -228,7 +227,7 @@ impl<'a> Words<'a> {
     /// An application and an id, else `Bad`; `OutOfMemory`.
     #[tactic(auto, unfolding(crate::specs::Words::key_at))]
     pub fn key_at(&mut self, alloc: Global) -> Result<Key, LineError>
-        ensures { Gives (λ k. k) result self.new (key_at self.old) }
+        ensures { Gives result self.new (key_at self.old) }
     {
         let app = self.app_at(alloc)?;
         let id = self.id_at(alloc)?;
@@ -238,7 +237,7 @@ impl<'a> Words<'a> {
     /// A status, else `Bad`.
     #[tactic(auto, unfolding(crate::specs::Words::status_at))]
     pub fn status_at(&mut self) -> Result<Status, LineError>
-        ensures said { Gives (λ s. s) result self.new (status_at self.old) }
+        ensures said { Gives result self.new (status_at self.old) }
         ensures memory { result ≢ Err LineError.OutOfMemory }
     {
         let word = self.next_word()?;
@@ -248,7 +247,7 @@ impl<'a> Words<'a> {
     /// A status, or none where `-` stands, else `Bad`.
     #[tactic(auto, unfolding(crate::specs::Words::maybe_status_at))]
     pub fn maybe_status_at(&mut self) -> Result<Option<Status>, LineError>
-        ensures said { Gives (λ s. s) result self.new (maybe_status_at self.old) }
+        ensures said { Gives result self.new (maybe_status_at self.old) }
         ensures memory { result ≢ Err LineError.OutOfMemory }
     {
         if self.absent_at()? {
@@ -257,17 +256,16 @@ impl<'a> Words<'a> {
         Ok(Some(self.status_at()?))
     }
 
-    /// The seconds that a lease lasts, else `Bad`. 0 stands for `Instance::DEFAULT_SECS`.
+    /// The seconds that a lease lasts, else `Bad`. 0 stands for `LeaseSecs::DEFAULT`.
     #[tactic(auto, unfolding(crate::specs::Words::secs_at))]
     #[inline(always)]
-    pub fn secs_at(&mut self) -> Result<u32, LineError>
-        ensures said { Gives (λ n. n) result self.new (secs_at self.old) }
-        ensures small { IfOk result (λ n. (1 ≤ n) × (n ≤ 2147483)) }
+    pub fn secs_at(&mut self) -> Result<LeaseSecs, LineError>
+        ensures said { Gives result self.new (secs_at self.old) }
         ensures memory { result ≢ Err LineError.OutOfMemory }
     {
         match self.number_at(LONGEST_SECS)? {
-            0 => Ok(Instance::DEFAULT_SECS),
-            secs => Ok(secs as u32),
+            0 => Ok(LeaseSecs::DEFAULT),
+            secs => LeaseSecs::new(secs as u32).ok_or(LineError::Bad),
         }
     }
 
@@ -275,35 +273,33 @@ impl<'a> Words<'a> {
     #[tactic(auto, unfolding(crate::specs::Words::stamp_at))]
     #[inline(always)]
     pub fn stamp_at(&mut self) -> Result<Option<Stamp>, LineError>
-        ensures said { Gives number_of result self.new (stamp_at self.old) }
+        ensures said { Gives result self.new (stamp_at self.old) }
         ensures memory { result ≢ Err LineError.OutOfMemory }
     {
         if self.absent_at()? {
             return Ok(None);
         }
         let value = self.number_at(LAST_STAMP)?;
-        Ok(Some(Stamp { value }))
+        Ok(Some(Stamp::new(value).ok_or(LineError::Bad)?))
     }
 
-    /// The number of a stamp, else `Bad`. `-` stands for `given`.
+    /// A stamp, else `Bad`. `-` stands for the number of the moment.
     #[tactic(auto, unfolding(crate::specs::Words::dirty_at))]
     #[inline(always)]
-    pub fn dirty_at(&mut self, given: u64) -> Result<u64, LineError>
-        requires { given < 2 ^ 63 }
-        ensures said { Gives (λ n. n) result self.new (dirty_at given self.old) }
-        ensures small { IfOk result (λ n. n < 2 ^ 63) }
+    pub fn dirty_at(&mut self, moment: Moment) -> Result<Stamp, LineError>
+        ensures said { Gives result self.new (dirty_at moment self.old) }
         ensures memory { result ≢ Err LineError.OutOfMemory }
     {
         match self.stamp_at()? {
-            Some(stamp) => Ok(stamp.value),
-            None => Ok(given),
+            Some(stamp) => Ok(stamp),
+            None => Stamp::new(moment.ms()).ok_or(LineError::Bad),
         }
     }
 
     /// Whether a peer sends the line: `r`, or `c` for a client, else `Bad`.
     #[tactic(auto, unfolding(crate::specs::Words::source_at))]
     pub fn source_at(&mut self) -> Result<bool, LineError>
-        ensures said { Gives (λ b. b) result self.new (source_at self.old) }
+        ensures said { Gives result self.new (source_at self.old) }
         ensures memory { result ≢ Err LineError.OutOfMemory }
     {
         let word = self.next_word()?;

@@ -5,16 +5,16 @@ use Rattle.eu_base.specs.declared.tasks.Task.{Task}
 use Rattle.eu_book.specs.declared.journal.Logged.{Logged}
 use Rattle.eu_book.specs.Account.{logged}
 use Rattle.eu_book.proofs.HistoryLemmas.{nothing_plus, plus_assoc, plus_nothing}
-use Rattle.eu_http.specs.declared.exchange.Answer.{Answer}
-use Rattle.eu_http.specs.declared.exchange.Answer.TheVariants.{Did, Saw}
-use Rattle.eu_http.specs.declared.exchange.Ask.{Ask}
-use Rattle.eu_http.specs.declared.exchange.Ask.TheVariants.{Do, See}
+use Rattle.eu_desk.specs.declared.asks.Answer.{Answer}
+use Rattle.eu_desk.specs.declared.asks.Answer.TheVariants.{Did, Saw}
+use Rattle.eu_desk.specs.declared.asks.Ask.{Ask}
+use Rattle.eu_desk.specs.declared.asks.Ask.TheVariants.{Do, See}
 use Rattle.eu_json.specs.declared.batch_write.ItemAnswer.{ItemAnswer}
 use Rattle.eu_model.specs.Delta.{delta, plus}
 use Rattle.eu_peer.specs.declared.turn.Turn.{Turn}
 use Rattle.eu_peer.specs.Turns.{Turns}
 use Rattle.eu_peer.proofs.KeepLemmas.{turns_keep}
-use Rattle.eu_seat.specs.Seat.{PassAsks}
+use Rattle.eu_shared.specs.Seat.{PassAsks}
 use Rattle.eu_session.specs.declared.faults.SessionFault.{SessionFault}
 use Rattle.eu_session.specs.Session.{Session}
 use Rattle.eu_session.specs.Turn.{State}

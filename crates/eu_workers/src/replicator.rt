@@ -8,8 +8,7 @@ use eu_base::Fault;
 use eu_clock::Clock;
 use eu_gate::{FIRST_REPLICATOR, Gate, Go, Point};
 use eu_peer::{Peer, Turn, replicate_turn};
-use eu_seat::Seat;
-use eu_shared::{Label, Pass};
+use eu_shared::{Label, Pass, Seat};
 use std::sync::Wait;
 
 /// The number at a gate of the replicator of that peer.

@@ -7,9 +7,8 @@ use crate::gated::{GatedSink, GatedSource};
 use crate::site::Site;
 use eu_clock::Clock;
 use eu_gate::{Gate, Go, Point, Source};
-use eu_seat::Seat;
 use eu_session::{SessionFault, serve_session};
-use eu_shared::{Label, Pass};
+use eu_shared::{Label, Pass, Seat};
 use std::io::{Read, Write};
 use std::sync::Wait;
 

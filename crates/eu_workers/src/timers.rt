@@ -14,8 +14,7 @@ use eu_book::Receipt;
 use eu_clock::{Chooser, Clock, FirstChooser};
 use eu_gate::{Gate, Go, Point, Timer};
 use eu_model::Command;
-use eu_seat::Seat;
-use eu_shared::{Label, Pass};
+use eu_shared::{Label, Pass, Seat};
 use std::alloc::{AllocError, Global};
 use std::sync::Wait;
 

@@ -1,4 +1,4 @@
-//! Tests of workers.
+//! Tests of peers and workers: the turns of each, and sessions at once.
 #![tactic(auto)]
 
 #[cfg(test)]

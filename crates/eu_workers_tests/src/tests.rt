@@ -1,3 +1,11 @@
 //! The tests, by what they are of.
+mod memory;
+mod peers;
+mod points;
+mod replicas;
+mod servers;
 mod sessions;
 mod timers;
+mod trims;
+mod turns;
+mod victims;

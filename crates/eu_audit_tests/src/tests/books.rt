@@ -1,10 +1,11 @@
 //! What a book writes: its journal is a run from its base to what it is.
+use crate::tests::forms::{CLIENT, Client, IDS, Step, command, entries, state, verdict};
 use crate::tests::replies::{BASE, END, LINES};
 use eu_audit::audit;
-use eu_audit_forms::{CLIENT, Client, Step, at, command, entries, state, verdict};
 use eu_base::{Config, Fault, Moment};
 use eu_book::Book;
 use eu_clock::{Chooser, FirstChooser, ListChooser};
+use eu_fixtures::{moment, settings};
 use eu_model::{Command, Reply};
 use std::alloc::Global;
 
@@ -43,10 +44,8 @@ pub fn tell_step<C: Chooser>(
     chooser: &mut C,
 ) -> Result<usize, Fault> {
     let command = command(alloc, step)?;
-    tell(alloc, book, command, at(ms)?, chooser)
+    tell(alloc, book, command, moment(ms)?, chooser)
 }
-
-const IDS: [&str; 10] = ["i0", "i1", "i2", "i3", "i4", "i5", "i6", "i7", "i8", "i9"];
 
 /// Ten clients come at 1,000 for 90 s, and two passes follow once they have expired. Tells how many each of these evicts.
 fn play(
@@ -104,7 +103,7 @@ fn compared(alloc: Global, book: &Book) -> Result<(bool, bool), Fault> {
 
 /// The same of a book with one peer that is told these steps, and the verdict on it.
 fn with_peer(alloc: Global) -> Result<((bool, bool), bool), Fault> {
-    let config = Config::new(true, 85, 30, 60_000)?;
+    let config = settings()?;
     let mut book = Book::open(alloc, config, 0, 1)?;
     let told = tell_lines(alloc, &mut book);
     let compared = compared(alloc, &book);

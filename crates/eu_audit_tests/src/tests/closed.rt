@@ -1,19 +1,13 @@
 //! A closed book of two passes. Pass 0 registers two clients and renews one three times; pass 1 renews the other twice. All is told at
 //! 7 ms, and one client was expected before.
-use eu_audit_forms::{
-    Answer, CLIENT, Client, Form, Lease, NEW, Step, entry, judged, state, verdict,
+use crate::tests::forms::{
+    Answer, CLIENT, Form, I2, Lease, NEW, RENEW_I1, RENEW_I2, Step, entry, judged, state, verdict,
 };
 use eu_base::Fault;
 use eu_book::Logged;
 use eu_model::{Entry, Tally};
 use eu_settle::{Closed, PassLog, settle};
 use std::alloc::Global;
-
-const I2: Client = Client { id: "i2", ..CLIENT };
-
-const RENEW_I1: Step = Step::Renew("i1", None, false);
-
-const RENEW_I2: Step = Step::Renew("i2", None, false);
 
 /// What each pass tells, and what it is answered.
 const STEPS: [(u64, Step, Answer); 7] = [

@@ -2,10 +2,11 @@
 ghost use Rattle.std.specs.Prelude.{◌<◌};
 
 use crate::tests::books::{audited, tell};
-use eu_audit_forms::{Client, at, instance, key};
+use crate::tests::forms::{Client, IDS, instance, key};
 use eu_base::{BoxedInstance, Codes, Config, Fault, Instance, Key, Moment, Stamp, Status};
 use eu_book::{Book, Receipt};
 use eu_clock::{FirstChooser, RngChooser};
+use eu_fixtures::moment;
 use eu_model::{Command, Reply};
 use rand::RngExt;
 use rand_core::SeedableRng;
@@ -38,8 +39,6 @@ impl Draw for Uniform {
         self.generator.random_range(0u32..bound)
     }
 }
-
-const IDS: [&str; 10] = ["i0", "i1", "i2", "i3", "i4", "i5", "i6", "i7", "i8", "i9"];
 
 const STATUSES: [Status; 5] = [
     Status::Up,
@@ -168,7 +167,7 @@ fn drawn_command<D: Draw>(alloc: Global, rng: &mut D) -> Result<Command, Fault> 
 
 /// A moment up to 60 s after one, so that the moments of a run go up and down.
 fn drawn_moment<D: Draw>(rng: &mut D, from: u64) -> Result<Moment, Fault> {
-    at(from.saturating_add(u64::from(rng.below(60_000))))
+    moment(from.saturating_add(u64::from(rng.below(60_000))))
 }
 
 /// Tells a book so many drawn commands, and how many leases passes evict.

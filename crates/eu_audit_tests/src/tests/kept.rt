@@ -1,20 +1,15 @@
 //! A book that is asked by two passes in turn, at 0 to 6 ms. Pass 0 registers two clients and renews one three times; pass 1 renews the
 //! other twice. Nobody is expected when it is opened, so nobody is at the end.
-use eu_audit_forms::{
-    Answer, CLIENT, Client, Form, Lease, NEW, Step, at, command, entry, listing, stands, state,
-    verdict,
+use crate::tests::forms::{
+    Answer, CLIENT, Form, I2, Lease, NEW, RENEW_I1, RENEW_I2, Step, command, entry, listing,
+    stands, state, verdict,
 };
-use eu_base::{Config, Fault};
+use eu_base::Fault;
 use eu_book::{Book, Journal};
 use eu_clock::FirstChooser;
+use eu_fixtures::{moment, settings};
 use eu_model::State;
 use std::alloc::Global;
-
-const I2: Client = Client { id: "i2", ..CLIENT };
-
-const RENEW_I1: Step = Step::Renew("i1", None, false);
-
-const RENEW_I2: Step = Step::Renew("i2", None, false);
 
 /// What each pass tells, one step a millisecond.
 const STEPS: [(u64, Step); 7] = [
@@ -54,7 +49,7 @@ fn tell_steps(alloc: Global, book: &mut Book) -> Result<(), Fault> {
     let mut ms = 0u64;
     for (pass, step) in STEPS {
         let command = command(alloc, step)?;
-        let receipt = book.apply(alloc, pass, command, at(ms)?, &mut FirstChooser)?;
+        let receipt = book.apply(alloc, pass, command, moment(ms)?, &mut FirstChooser)?;
         drop(receipt);
         ms = ms.saturating_add(1);
     }
@@ -63,7 +58,7 @@ fn tell_steps(alloc: Global, book: &mut Book) -> Result<(), Fault> {
 
 /// The journal of a book with one peer or with none, and what the book is at the end.
 fn kept(alloc: Global, has_peer: bool) -> Result<(Journal, State), Fault> {
-    let config = Config::new(true, 85, 30, 60_000)?;
+    let config = settings()?;
     let peers = if has_peer { 1 } else { 0 };
     let mut book = Book::open(alloc, config, 0, peers)?;
     let told = tell_steps(alloc, &mut book);

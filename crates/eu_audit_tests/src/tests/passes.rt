@@ -3,14 +3,12 @@
 //! One client was expected before they came, so that eleven are then. The nine that are silent have expired after 91,000, and i9 hasn't
 //! until 230,000, which is two durations after its renewal. At 85% a pass takes two of ten, and two of eight; at 50% five of ten, and
 //! three of five.
-use eu_audit_forms::{
-    Answer, CLIENT, Client, Form, Lease, NEW, Step, entry, listing, state, verdict,
+use crate::tests::forms::{
+    Answer, CLIENT, Client, Form, IDS, Lease, NEW, Step, entry, listing, state, verdict,
 };
 use eu_base::{Fault, Moment};
 use eu_model::{Entry, Listing, State};
 use std::alloc::Global;
-
-const IDS: [&str; 10] = ["i0", "i1", "i2", "i3", "i4", "i5", "i6", "i7", "i8", "i9"];
 
 /// The passes that are told, and who is left after them.
 #[derive(Clone, Copy)]

@@ -1,10 +1,9 @@
 //! A journal of a server with one peer, with each kind of command and of reply.
-use eu_audit_forms::{Answer, CLIENT, Client, Form, Lease, Line, NEW, Step, Told, judged};
+use crate::tests::forms::{
+    Answer, CLIENT, Client, Form, I2, Lease, Line, NEW, REGISTRATION, Step, Told, judged,
+};
 use eu_base::{Action, Fault, Status};
 use std::alloc::Global;
-
-/// Another such client.
-const I2: Client = Client { id: "i2", ..CLIENT };
 
 /// i1 after an operator has taken it out of service.
 const OUT: Client = Client {
@@ -30,14 +29,6 @@ const I3: Client = Client {
 const ADOPTED: Client = Client {
     statuses: (Status::OutOfService, Status::OutOfService),
     ..I3
-};
-
-const REGISTRATION: Told = Told {
-    action: Action::Register,
-    id: "i1",
-    status: None,
-    client: Some(CLIENT),
-    queued: 1_000,
 };
 
 const HEARTBEAT: Told = Told {

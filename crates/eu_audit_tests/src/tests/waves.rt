@@ -4,17 +4,16 @@
 //! A pass takes two of ten, two of eight, one of six and one of five. Each victim is one client fewer that is expected, so that fewer
 //! renewals are owed, and the next pass is permitted too.
 use crate::tests::books::{audited, tell_step};
-use eu_audit::audit;
-use eu_audit_forms::{
-    Answer, CLIENT, Client, Form, Lease, NEW, Step, entry, listing, state, verdict,
+use crate::tests::forms::{
+    Answer, CLIENT, Client, Form, IDS, Lease, NEW, Step, entry, listing, state, verdict,
 };
-use eu_base::{Config, Fault};
+use eu_audit::audit;
+use eu_base::Fault;
 use eu_book::{Book, Journal};
 use eu_clock::FirstChooser;
+use eu_fixtures::settings;
 use eu_model::{Listing, State};
 use std::alloc::Global;
-
-const IDS: [&str; 10] = ["i0", "i1", "i2", "i3", "i4", "i5", "i6", "i7", "i8", "i9"];
 
 fn client(id: &'static str) -> Client {
     Client {
@@ -59,7 +58,7 @@ fn tell_all(alloc: Global, book: &mut Book) -> Result<Evicted, Fault> {
 
 /// A book that expects nobody when it is opened.
 fn opened(alloc: Global) -> Result<Book, Fault> {
-    let config = Config::new(true, 85, 30, 60_000)?;
+    let config = settings()?;
     Ok(Book::open(alloc, config, 0, 0)?)
 }
 

@@ -1,11 +1,8 @@
 //! Accounts worked out by hand. What commands are answered is told in words at once.
-ghost use Rattle.std.specs.Prelude.{◌≤◌, ◌^◌};
-
-use eu_base::{
-    App, BoxedInstance, Codes, Config, Fault, Id, Instance, Key, Moment, Rest, Stamp, Status, Task,
-};
+use eu_base::{Codes, Config, Fault, Moment, Stamp, Status, Task};
 use eu_book::{Book, Journal, Logged, LoggedReceipt, MOST_ENTRIES, Receipt};
 use eu_clock::{Chooser, FirstChooser, ListChooser};
+use eu_fixtures::{at, key, registration_for, settings};
 use eu_model::{Command, Entry, Query, Queue, Reply, State, Tally, View};
 use std::alloc::{AllocError, Global};
 
@@ -30,37 +27,6 @@ pub enum Step {
     Land(u16),
     /// A batch for the first peer is lost.
     Lose,
-}
-
-pub fn at(ms: u64) -> Moment
-    requires { ms ≤ 2 ^ 62 }
-{
-    Moment::new(ms).unwrap()
-}
-
-pub fn key(alloc: Global, id: &str) -> Result<Key, Fault> {
-    let app = App::read(alloc, "A")?;
-    let id = Id::read(alloc, id)?;
-    Ok(Key { app, id })
-}
-
-/// A client that is UP registers with the stamp 5, for 10 seconds.
-fn registration(alloc: Global, id: &str) -> Result<Command, Fault> {
-    let key = key(alloc, id)?;
-    let rest = Rest::of_host(alloc, "h")?;
-    let instance = Instance {
-        key,
-        status: Status::Up,
-        overridden: Status::Unknown,
-        dirty: 5,
-        secs: 10,
-        interval: 30,
-        rest,
-    };
-    Ok(Command::Register {
-        instance: BoxedInstance::new(alloc, instance)?,
-        replicated: false,
-    })
 }
 
 /// A peer's renewal of i1 with this stamp.
@@ -93,7 +59,7 @@ fn landing(alloc: Global, code: u16) -> Result<Command, Fault> {
 
 pub fn command(alloc: Global, step: Step) -> Result<Command, Fault> {
     match step {
-        Step::Register(id) => registration(alloc, id),
+        Step::Register(id) => registration_for(alloc, id, 10),
         Step::Renew(dirty) => renewal(alloc, dirty),
         Step::Set => setting(alloc),
         Step::Roll => Ok(Command::Roll),
@@ -523,7 +489,7 @@ fn a_refused_command_leaves_a_full_journal(rt: HostRuntime) {
 
 /// With one peer.
 pub fn opened_with_peer(alloc: Global) -> Result<Book, Fault> {
-    let config = Config::new(true, 85, 30, 60_000)?;
+    let config = settings()?;
     Ok(Book::open(alloc, config, 0, 1)?)
 }
 
@@ -672,7 +638,10 @@ fn peers_are_told_of_no_settings(rt: HostRuntime) {
 
 fn has_new_settings(state: &State) -> bool {
     let config = state.config;
-    !config.preservation && config.percent == 50 && config.interval == 15 && config.evict_ms == 7
+    !config.preservation
+        && config.percent.value() == 50
+        && config.interval.secs() == 15
+        && config.evict_ms == 7
 }
 
 /// Whether a journal begins anew with the settings that the first step gave, which is counted as one step and no more.

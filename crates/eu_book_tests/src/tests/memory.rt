@@ -1,8 +1,9 @@
 //! Want of memory. In a usual run no allocation is refused; `tools/sweep_memory.sh` refuses one after another.
-use crate::tests::book::{Step, at, command, extent, key, opened_with_peer, word};
+use crate::tests::book::{Step, command, extent, opened_with_peer, word};
 use eu_base::{App, Fault};
 use eu_book::{Book, MOST_ENTRIES};
 use eu_clock::FirstChooser;
+use eu_fixtures::{at, key, pause_or_go_on};
 use eu_model::{Command, Entry, Query, State, View};
 use std::alloc::{AllocError, Global};
 
@@ -139,12 +140,6 @@ fn fill(alloc: Global, twins: &mut Twins) -> bool {
         }
     }
     true
-}
-
-/// Has `tools/sweep_memory.sh`, which looks for an allocation of this size, refuse none of those that follow, or go on refusing.
-fn pause_or_go_on(alloc: Global) -> bool {
-    let room: Result<Vec<u8>, AllocError> = Vec::with_capacity(alloc, 1_234_567);
-    room.is_ok()
 }
 
 /// A client registers and is set OUT_OF_SERVICE, and minutes end until the journal is full. None of this is refused memory.

@@ -1,8 +1,8 @@
 //! Closed books worked out by hand. A step is told by the number of its pass and by a word: `+i1` registers i1, `i1` renews it.
 
-use crate::tests::book::key;
-use eu_base::{BoxedInstance, Config, Fault, Instance, Moment, Rest, Status};
+use eu_base::{Fault, Moment};
 use eu_book::Logged;
+use eu_fixtures::{registration, renewal, settings};
 use eu_model::{Command, Entry, Listing, Queues, Reply, Rows, State, Tally};
 use eu_settle::{Closed, PassLog, settle};
 use std::alloc::Global;
@@ -20,34 +20,6 @@ const STEPS: [(u64, &str); 7] = [
 
 fn start() -> Moment {
     Moment::new(0).unwrap()
-}
-
-fn registration(alloc: Global, id: &str) -> Result<Command, Fault> {
-    let key = key(alloc, id)?;
-    let rest = Rest::of_host(alloc, "h")?;
-    let instance = Instance {
-        key,
-        status: Status::Up,
-        overridden: Status::Unknown,
-        dirty: 0,
-        secs: 90,
-        interval: 30,
-        rest,
-    };
-    Ok(Command::Register {
-        instance: BoxedInstance::new(alloc, instance)?,
-        replicated: false,
-    })
-}
-
-fn renewal(alloc: Global, id: &str) -> Result<Command, Fault> {
-    let key = key(alloc, id)?;
-    Ok(Command::Renew {
-        key,
-        dirty: None,
-        overridden: None,
-        replicated: false,
-    })
 }
 
 fn command(alloc: Global, word: &str) -> Result<Command, Fault> {
@@ -114,7 +86,7 @@ fn log(alloc: Global, of: u64, steps: &[(u64, &str)]) -> Result<PassLog, Fault> 
 }
 
 fn empty(alloc: Global) -> Result<State, Fault> {
-    let config = Config::new(true, 85, 30, 60_000)?;
+    let config = settings()?;
     Ok(State {
         config,
         expected: 0,

@@ -1,6 +1,7 @@
 //! Requests that are refused for their head, their framing or their body: the desk isn't asked.
-use crate::tests::fakes::{REGISTERED, joined, told};
+use crate::tests::fakes::told;
 use eu_base::Fault;
+use eu_fixtures::{REGISTERED, joined};
 use std::alloc::{AllocError, Global};
 use std::test::Fail;
 

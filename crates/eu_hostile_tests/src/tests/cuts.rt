@@ -1,18 +1,13 @@
 //! A registration whose bytes end early.
-use crate::tests::fakes::{CHUNKED, REGISTERED, SIZED, Shaky, joined, registration, told};
+use crate::tests::fakes::{CHUNKED, SIZED, Shaky, registration, told};
 use eu_base::Fault;
+use eu_fixtures::{BAD_CHUNK, BAD_HEAD, REGISTERED, joined};
 use std::alloc::{AllocError, Global};
 use std::test::Fail;
 
-/// The response to a head that is cut, to a body with a length that is, and to a chunked one.
-const BAD_HEAD: &str =
-    "HTTP/1.1 400 Bad Request\r\nContent-Type: application/json\r\nContent-Length: 12\r\nConnection: close\r\n\r\n{\"fault\":32}";
-
+/// The response to a body with a length that is cut.
 const BAD_LENGTH: &str =
     "HTTP/1.1 400 Bad Request\r\nContent-Type: application/json\r\nContent-Length: 12\r\nConnection: close\r\n\r\n{\"fault\":35}";
-
-const BAD_CHUNK: &str =
-    "HTTP/1.1 400 Bad Request\r\nContent-Type: application/json\r\nContent-Length: 12\r\nConnection: close\r\n\r\n{\"fault\":36}";
 
 /// What a session tells of so many bytes of a registration, whose head has so many and which has so many in all.
 fn wanted(

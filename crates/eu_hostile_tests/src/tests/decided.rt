@@ -1,9 +1,10 @@
 //! Refusals that the bytes have decided: each is answered at the last byte that it takes, also where the next read fails, and no earlier.
 use crate::tests::ends::{End, end_each};
-use crate::tests::fakes::{Shaky, joined, told};
+use crate::tests::fakes::{Shaky, told};
 use crate::tests::long::repeated;
 use crate::tests::smuggling::status_of;
 use eu_base::Fault;
+use eu_fixtures::joined;
 use std::alloc::{AllocError, Global};
 use std::test::Fail;
 

@@ -1,9 +1,9 @@
 //! A session of three requests with one read, or one write, that fails.
 use crate::tests::fakes::{
-    Brittle, CHUNKED, DELTA, FORBIDDEN, LOOK, Noting, REGISTERED, SIZED, Shaky, joined, looked,
-    registration, serve,
+    Brittle, CHUNKED, DELTA, LOOK, Noting, SIZED, Shaky, looked, registration, serve,
 };
 use eu_base::Fault;
+use eu_fixtures::{FORBIDDEN, REGISTERED, joined};
 use eu_routes::Routes;
 use std::alloc::{AllocError, Global};
 use std::test::Fail;

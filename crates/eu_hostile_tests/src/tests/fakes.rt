@@ -2,22 +2,15 @@
 ghost use Rattle.std.specs.Prelude.{None};
 
 use eu_base::{App, Fault, Moment};
-use eu_clock::{Clock, ListClock};
-use eu_http::{Answer, Ask};
+use eu_clock::Clock;
+use eu_desk::{Answer, Ask, Desk};
+use eu_fixtures::{LISTED, REGISTRATION, clock, joined};
 use eu_json::read_instance;
 use eu_model::{Command, Listed, Query, Reply, Times, View};
 use eu_routes::Routes;
-use eu_session::{Desk, serve_session};
+use eu_session::serve_session;
 use eu_stream::{ReadFault, Sink, Source, WriteFault};
 use std::alloc::{AllocError, Global};
-
-/// What a client sends at least, with a status and a stamp.
-pub const REGISTRATION: &str =
-    r#"{"instance":{"instanceId":"i1","hostName":"h","app":"a","ipAddr":"10.0.0.1","status":"UP","lastDirtyTimestamp":"5","dataCenterInfo":{"name":"MyOwn"}}}"#;
-
-/// The same, as it is listed, where it was registered at 1000.
-const LISTED: &str =
-    r#"{"instance":{"app":"A","dataCenterInfo":{"name":"MyOwn"},"hostName":"h","instanceId":"i1","ipAddr":"10.0.0.1","lastDirtyTimestamp":"5","leaseInfo":{"durationInSecs":90,"evictionTimestamp":0,"lastRenewalTimestamp":1000,"registrationTimestamp":1000,"renewalIntervalInSecs":30,"serviceUpTimestamp":1000},"overriddenStatus":"UNKNOWN","status":"UP"}}"#;
 
 /// The heads of a registration, with a length and with chunks, and what stands before and behind the body.
 pub const SIZED: [&str; 3] = [
@@ -37,22 +30,9 @@ pub const LOOK: &str = "GET /eureka/apps/A/i1 HTTP/1.1\r\nHost: x\r\n\r\n";
 
 pub const DELTA: &str = "GET /eureka/apps/delta HTTP/1.1\r\nHost: x\r\n\r\n";
 
-/// What the three are answered, but for the content that the second has.
-pub const REGISTERED: &str = "HTTP/1.1 204 No Content\r\n\r\n";
-
+/// What a look is answered, but for the content.
 const LOOKED: &str =
     "HTTP/1.1 200 OK\r\nContent-Type: application/json\r\nContent-Length: 345\r\n\r\n";
-
-pub const FORBIDDEN: &str = "HTTP/1.1 403 Forbidden\r\nContent-Length: 0\r\n\r\n";
-
-/// Texts put together.
-pub fn joined(alloc: Global, parts: &[&str]) -> Result<String, AllocError> {
-    let mut out = String::new(alloc);
-    for part in parts {
-        out.push_str(part)?;
-    }
-    Ok(out)
-}
 
 /// A registration whose body stands between these.
 pub fn registration(alloc: Global, around: &[&str; 3]) -> Result<String, AllocError> {
@@ -267,7 +247,7 @@ fn note(out: &mut String, ask: &Ask, moment: Moment) -> Result<(), AllocError> {
     let ms = moment.ms();
     match ask {
         Ask::Do(Command::Register { instance, .. }) => {
-            let dirty = instance.dirty;
+            let dirty = instance.dirty.value();
             write!(out, "register {dirty} at {ms};")
         }
         Ask::See(Query::One(key)) => {
@@ -277,15 +257,6 @@ fn note(out: &mut String, ask: &Ask, moment: Moment) -> Result<(), AllocError> {
         }
         _ => write!(out, "other at {ms};"),
     }
-}
-
-/// A clock that tells these moments.
-fn clock(alloc: Global, times: &[u64]) -> Result<ListClock, Fault> {
-    let mut moments = Vec::new(alloc);
-    for ms in times {
-        moments.push(Moment::new(*ms).ok_or(Fault::BadValue)?)?;
-    }
-    Ok(ListClock::new(moments))
 }
 
 /// Serves a session at the moments 1000, 1001 and 1002. Tells the requests or the fault of the session, and the moment that the clock tells

@@ -1,6 +1,7 @@
 //! Heads, trailers and bodies that are too long, and those that are just short enough.
-use crate::tests::fakes::{Shaky, joined, told};
+use crate::tests::fakes::{Shaky, told};
 use eu_base::Fault;
+use eu_fixtures::joined;
 use std::alloc::{AllocError, Global};
 use std::test::Fail;
 

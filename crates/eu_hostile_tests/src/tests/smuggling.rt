@@ -1,9 +1,10 @@
 //! Messages on which readers of HTTP are known to differ: what is made of each, request by request and by a session.
-use crate::tests::fakes::{Brittle, Noting, Shaky, joined, serve, told};
+use crate::tests::fakes::{Brittle, Noting, Shaky, serve, told};
 use crate::tests::tables::{
     CHUNKS, CODINGS, CONNECTIONS, DIFFERENCES, FIELDS, LENGTHS, LINES, Row, TARGETS,
 };
 use eu_base::Fault;
+use eu_fixtures::{LAST_MISSING, MISSING, joined, push_each};
 use eu_framing::{EMPTY_ROOM, Request, Room, read_request};
 use eu_routes::Routes;
 use eu_stream::Source;
@@ -17,12 +18,6 @@ struct Made {
     responses: String,
 }
 
-/// The response to a request, none of which names a route.
-const MISSING: &str = "HTTP/1.1 404 Not Found\r\nContent-Length: 0\r\n\r\n";
-
-const LAST_MISSING: &str =
-    "HTTP/1.1 404 Not Found\r\nContent-Length: 0\r\nConnection: close\r\n\r\n";
-
 /// The status of a fault, and its phrase.
 pub fn status_of(fault: Fault) -> (&'static str, &'static str) {
     match fault {
@@ -31,14 +26,6 @@ pub fn status_of(fault: Fault) -> (&'static str, &'static str) {
         Fault::BadEncoding => ("415", "Unsupported Media Type"),
         _ => ("400", "Bad Request"),
     }
-}
-
-/// Writes parts, one after another.
-fn push_each(out: &mut String, parts: &[&str]) -> Result<(), AllocError> {
-    for part in parts {
-        out.push_str(part)?;
-    }
-    Ok(())
 }
 
 /// Adds a request.

@@ -1,7 +1,9 @@
 //! Batches as peers send them, and what they are answered, byte for byte.
 use crate::tests::responses::{conflict, is_answered, is_asked, is_refused, is_said};
 use eu_base::Fault;
-use eu_http::{Answer, Outcome};
+use eu_desk::Answer;
+use eu_fixtures::{ITEM_DONE, ITEM_MISSING};
+use eu_http::Outcome;
 use eu_model::{Reply, View};
 use std::alloc::{AllocError, Global};
 
@@ -77,13 +79,6 @@ fn batches_have_one_route(rt: HostRuntime) {
     }
 }
 
-/// The responses of one item, by its status.
-const DONE: &str =
-    "HTTP/1.1 200 OK\r\nContent-Type: application/json\r\nContent-Length: 37\r\n\r\n{\"responseList\":[{\"statusCode\":200}]}";
-
-const NONE: &str =
-    "HTTP/1.1 200 OK\r\nContent-Type: application/json\r\nContent-Length: 37\r\n\r\n{\"responseList\":[{\"statusCode\":404}]}";
-
 const REFUSED: &str =
     "HTTP/1.1 200 OK\r\nContent-Type: application/json\r\nContent-Length: 37\r\n\r\n{\"responseList\":[{\"statusCode\":503}]}";
 
@@ -117,19 +112,19 @@ fn a_batch_is_answered(rt: HostRuntime) {
 #[test]
 fn each_reply_has_its_status(rt: HostRuntime) {
     let alloc = rt.alloc();
-    assert!(rt; did(alloc, Reply::Registered { fresh: true }, DONE));
-    assert!(rt; did(alloc, Reply::Registered { fresh: false }, DONE));
-    assert!(rt; did(alloc, Reply::Done, DONE));
-    assert!(rt; did(alloc, Reply::NotFound, NONE));
-    assert!(rt; did(alloc, Reply::Stale, NONE));
-    assert!(rt; did(alloc, Reply::Last(3), NONE));
+    assert!(rt; did(alloc, Reply::Registered { fresh: true }, ITEM_DONE));
+    assert!(rt; did(alloc, Reply::Registered { fresh: false }, ITEM_DONE));
+    assert!(rt; did(alloc, Reply::Done, ITEM_DONE));
+    assert!(rt; did(alloc, Reply::NotFound, ITEM_MISSING));
+    assert!(rt; did(alloc, Reply::Stale, ITEM_MISSING));
+    assert!(rt; did(alloc, Reply::Last(3), ITEM_MISSING));
 }
 
 #[test]
 fn what_is_no_reply_has_its_status(rt: HostRuntime) {
     let alloc = rt.alloc();
     let seen = Ok(Answer::Saw(View::One(None)));
-    assert!(rt; is_answered(alloc, LINE, seen, NONE));
+    assert!(rt; is_answered(alloc, LINE, seen, ITEM_MISSING));
     assert!(rt; is_answered(alloc, LINE, Err(Fault::Full), REFUSED));
     assert!(rt; is_answered(alloc, LINE, Err(Fault::Exhausted), REFUSED));
     assert!(rt; is_answered(alloc, LINE, Err(Fault::OutOfMemory), REFUSED));

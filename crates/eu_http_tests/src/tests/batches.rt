@@ -1,9 +1,10 @@
 //! Batches that are read and written, by bodies as peers send them.
 ghost use Rattle.std.specs.Prelude.{◌≤◌};
 
-use crate::tests::instances::{joined, says};
-use crate::tests::responses::{at, instance};
+use crate::tests::instances::says;
+use crate::tests::responses::instance;
 use eu_base::{Action, App, BoxedInstance, Fault, Id, Instance, Key, Stamp, Status, Task};
+use eu_fixtures::{joined, moment};
 use eu_json::{
     ItemAnswer, batch_answer_value, batch_text, batch_value, instance_value, read_batch,
 };
@@ -17,7 +18,7 @@ const WRITTEN: &str =
 
 /// A text at moment 1000.
 fn read(alloc: Global, text: &str) -> Result<Vec<Command>, Fault> {
-    read_batch(alloc, text, at(1000)?)
+    read_batch(alloc, text, moment(1000)?)
 }
 
 /// How many commands it has.
@@ -113,7 +114,7 @@ fn is_override_end(
 
 fn value(stamp: Option<Stamp>) -> Option<u64> {
     match stamp {
-        Some(stamp) => Some(stamp.value),
+        Some(stamp) => Some(stamp.value()),
         None => None,
     }
 }
@@ -369,7 +370,7 @@ fn task(
     status: Option<Status>,
     is_held: bool,
 ) -> Result<Task, Fault> {
-    let queued = at(1000)?;
+    let queued = moment(1000)?;
     let key = own(alloc)?;
     let instance = held(alloc, is_held)?;
     Ok(Task {

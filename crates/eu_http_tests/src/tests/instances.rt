@@ -1,33 +1,10 @@
 //! Instances that are read and written, by bodies as clients send them.
 use eu_base::{App, Fault, Instance, Moment, Status};
+use eu_fixtures::{LISTED, REGISTRATION, joined, push_each};
 use eu_json::{application_value, applications_value, held_value, instance_value, read_instance};
 use eu_model::{Listed, Times};
 use serde_json::Value;
 use std::alloc::{AllocError, Global};
-use std::test::Fail;
-
-/// What a client sends at least, with a status and a stamp.
-const REGISTRATION: &str =
-    r#"{"instance":{"instanceId":"i1","hostName":"h","app":"a","ipAddr":"10.0.0.1","status":"UP","lastDirtyTimestamp":"5","dataCenterInfo":{"name":"MyOwn"}}}"#;
-
-/// The same, as it is listed, where it was registered at 1000.
-const LISTED: &str =
-    r#"{"instance":{"app":"A","dataCenterInfo":{"name":"MyOwn"},"hostName":"h","instanceId":"i1","ipAddr":"10.0.0.1","lastDirtyTimestamp":"5","leaseInfo":{"durationInSecs":90,"evictionTimestamp":0,"lastRenewalTimestamp":1000,"registrationTimestamp":1000,"renewalIntervalInSecs":30,"serviceUpTimestamp":1000},"overriddenStatus":"UNKNOWN","status":"UP"}}"#;
-
-/// Writes these texts, one after another.
-pub fn push_each(out: &mut String, parts: &[&str]) -> Result<(), AllocError> {
-    for part in parts {
-        out.push_str(part)?;
-    }
-    Ok(())
-}
-
-/// These texts, one after another.
-pub fn joined(alloc: Global, parts: &[&str]) -> Result<String, AllocError> {
-    let mut text = String::new(alloc);
-    push_each(&mut text, parts)?;
-    Ok(text)
-}
 
 /// Whether that is the text of a value, which is dropped.
 pub fn says(alloc: Global, value: Value, text: &str) -> Result<bool, AllocError> {
@@ -64,9 +41,9 @@ fn is_registered(instance: &Instance) -> bool {
         && instance.key.id.as_str() == "i1"
         && instance.status == Status::Up
         && instance.overridden == Status::Unknown
-        && instance.dirty == 5
-        && instance.secs == 90
-        && instance.interval == 30
+        && instance.dirty.value() == 5
+        && instance.secs.secs() == 90
+        && instance.interval.secs() == 30
 }
 
 fn is_read(alloc: Global) -> Result<bool, Fault> {
@@ -439,7 +416,7 @@ fn overridden_statuses_in_any_case(rt: HostRuntime) {
 /// The stamp of the instance with this member.
 fn dirty(alloc: Global, before: &str, json: &str) -> Result<u64, Fault> {
     let instance = with(alloc, before, json, "")?;
-    let dirty = instance.dirty;
+    let dirty = instance.dirty.value();
     drop(instance);
     Ok(dirty)
 }
@@ -481,7 +458,7 @@ fn stamps_as_numbers_and_as_texts(rt: HostRuntime) {
 /// The duration and the interval of the instance with this member.
 fn terms(alloc: Global, before: &str, json: &str, after: &str) -> Result<(u32, u32), Fault> {
     let instance = with(alloc, before, json, after)?;
-    let terms = (instance.secs, instance.interval);
+    let terms = (instance.secs.secs(), instance.interval.secs());
     drop(instance);
     Ok(terms)
 }

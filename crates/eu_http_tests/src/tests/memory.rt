@@ -2,6 +2,7 @@
 use crate::tests::batches::{comes_back, count, is_answer};
 use crate::tests::instances::{comes_again, fault_of, is_all, is_of_app};
 use eu_base::Fault;
+use eu_fixtures::are_so;
 use std::alloc::Global;
 
 /// What is written where nothing is held.
@@ -11,16 +12,6 @@ const NOTHING: &str =
 /// What is written of application A, of which i1 is held.
 const ONE: &str =
     r#"{"application":{"instance":[{"app":"A","dataCenterInfo":{"name":"MyOwn"},"hostName":"h","instanceId":"i1","ipAddr":"x","lastDirtyTimestamp":"5","leaseInfo":{"durationInSecs":90,"evictionTimestamp":0,"lastRenewalTimestamp":90005,"registrationTimestamp":5,"renewalIntervalInSecs":30,"serviceUpTimestamp":0},"overriddenStatus":"UNKNOWN","status":"UP"}],"name":"A"}}"#;
-
-/// Whether that is so, or there was no memory to find it.
-fn is_so(answer: Result<bool, Fault>) -> bool {
-    answer == Ok(true) || answer == Err(Fault::OutOfMemory)
-}
-
-/// Whether the answers to a call that is made twice are right, of which one may have found no memory.
-fn are_so(first: Result<bool, Fault>, second: Result<bool, Fault>) -> bool {
-    is_so(first) && is_so(second) && (first == Ok(true) || second == Ok(true))
-}
 
 /// Whether a text without a byte is no instance and no batch: that is known without memory, but for the name of the application.
 fn is_nothing(alloc: Global) -> Result<bool, Fault> {

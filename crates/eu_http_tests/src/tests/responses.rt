@@ -1,25 +1,17 @@
 //! Requests as clients send them, and responses byte for byte.
-use crate::tests::instances::push_each;
-use eu_base::{App, BoxedInstance, Config, Fault, Instance, Key, Moment, Stamp, Status};
+use eu_base::{App, BoxedInstance, Config, Fault, Instance, Key, Stamp, Status};
+use eu_desk::{Answer, Ask};
+use eu_fixtures::{MISSING, REGISTRATION, moment, push_each};
 use eu_framing::{EMPTY_ROOM, Request, read_request};
-use eu_http::{Answer, Ask, Asked, Outcome, answer, asks};
+use eu_http::{Asked, Outcome, answer, asks};
 use eu_json::read_instance;
 use eu_model::{Command, Counts, Keys, Listed, Listing, Query, Reply, Times, View};
 use eu_routes::Routes;
 use std::alloc::{AllocError, Global};
 
-/// What a client sends at least, with a status and a stamp.
-const REGISTRATION: &str =
-    r#"{"instance":{"instanceId":"i1","hostName":"h","app":"a","ipAddr":"10.0.0.1","status":"UP","lastDirtyTimestamp":"5","dataCenterInfo":{"name":"MyOwn"}}}"#;
-
-/// The moment of so many milliseconds.
-pub fn at(ms: u64) -> Result<Moment, Fault> {
-    Moment::new(ms).ok_or(Fault::BadValue)
-}
-
 /// The instance that `REGISTRATION` says, at 1000.
 pub fn instance(alloc: Global) -> Result<Instance, Fault> {
-    let now = at(1000)?;
+    let now = moment(1000)?;
     let app = App::read(alloc, "A")?;
     read_instance(alloc, REGISTRATION, &app, now)
 }
@@ -74,7 +66,7 @@ fn tell_key(out: &mut String, word: &str, key: &Key) -> Result<(), AllocError> {
 fn tell_stamp(out: &mut String, stamp: Option<Stamp>) -> Result<(), AllocError> {
     match stamp {
         Some(stamp) => {
-            let value = stamp.value;
+            let value = stamp.value();
             write!(out, " {value}")
         }
         None => out.push_str(" -"),
@@ -136,8 +128,8 @@ fn tell_stamp_of(
 
 /// Writes settings as words.
 fn tell_settings(out: &mut String, config: &Config) -> Result<(), AllocError> {
-    let (preservation, percent) = (config.preservation, config.percent);
-    let (interval, evict_ms) = (config.interval, config.evict_ms);
+    let (preservation, percent) = (config.preservation, config.percent.value());
+    let (interval, evict_ms) = (config.interval.secs(), config.evict_ms);
     write!(out, "config {preservation} {percent} {interval} {evict_ms}")
 }
 
@@ -145,8 +137,7 @@ fn tell_settings(out: &mut String, config: &Config) -> Result<(), AllocError> {
 fn tell_change(out: &mut String, command: &Command) -> Result<(), AllocError> {
     match command {
         Command::Register { instance, .. } => {
-            let dirty = Stamp::new(instance.dirty);
-            tell_stamp_of(out, "register", &instance.key, dirty)
+            tell_stamp_of(out, "register", &instance.key, Some(instance.dirty))
         }
         Command::Renew {
             key,
@@ -229,7 +220,7 @@ fn words(alloc: Global, asked: Asked) -> Result<String, AllocError> {
 
 /// What a request asks at 1000, as words.
 fn request_told(alloc: Global, request: &Request) -> Result<String, Fault> {
-    let now = at(1000)?;
+    let now = moment(1000)?;
     let routes = Routes::new(alloc)?;
     let asked = asks(alloc, &routes, request, now);
     drop(routes);
@@ -374,8 +365,6 @@ fn the_first_fault_is_told(rt: HostRuntime) {
     assert!(rt; is_refused(rt.alloc(), "POST /eureka/apps/A", b"\xFF", Fault::NotJson));
 }
 
-const NONE: &str = "HTTP/1.1 404 Not Found\r\nContent-Length: 0\r\n\r\n";
-
 #[test]
 fn replies_are_written(rt: HostRuntime) {
     let alloc = rt.alloc();
@@ -383,11 +372,11 @@ fn replies_are_written(rt: HostRuntime) {
     assert!(rt; did(alloc, fresh, "HTTP/1.1 204 No Content\r\n\r\n"));
     let done = "HTTP/1.1 200 OK\r\nContent-Length: 0\r\n\r\n";
     assert!(rt; did(alloc, Reply::Done, done));
-    assert!(rt; did(alloc, Reply::NotFound, NONE));
-    assert!(rt; did(alloc, Reply::Stale, NONE));
-    assert!(rt; did(alloc, Reply::Last(3), NONE));
+    assert!(rt; did(alloc, Reply::NotFound, MISSING));
+    assert!(rt; did(alloc, Reply::Stale, MISSING));
+    assert!(rt; did(alloc, Reply::Last(3), MISSING));
     let nobody = Keys::new(Vec::new(alloc));
-    assert!(rt; did(alloc, Reply::Evicted(nobody), NONE));
+    assert!(rt; did(alloc, Reply::Evicted(nobody), MISSING));
 }
 
 /// The answer that an instance conflicts with one that is held.
@@ -427,7 +416,7 @@ fn one_lease_is_written(rt: HostRuntime) {
         "HTTP/1.1 200 OK\r\nContent-Type: application/json\r\nContent-Length: 345\r\n\r\n{\"instance\":{\"app\":\"A\",\"dataCenterInfo\":{\"name\":\"MyOwn\"},\"hostName\":\"h\",\"instanceId\":\"i1\",\"ipAddr\":\"10.0.0.1\",\"lastDirtyTimestamp\":\"5\",\"leaseInfo\":{\"durationInSecs\":90,\"evictionTimestamp\":0,\"lastRenewalTimestamp\":1000,\"registrationTimestamp\":1000,\"renewalIntervalInSecs\":30,\"serviceUpTimestamp\":1000},\"overriddenStatus\":\"UNKNOWN\",\"status\":\"UP\"}}";
     assert!(rt; is_answered(alloc, line, one(alloc), text));
     let nobody = Ok(Answer::Saw(View::One(None)));
-    assert!(rt; is_answered(alloc, line, nobody, NONE));
+    assert!(rt; is_answered(alloc, line, nobody, MISSING));
 }
 
 #[test]
@@ -440,15 +429,15 @@ fn listings_are_written(rt: HostRuntime) {
     let text =
         "HTTP/1.1 200 OK\r\nContent-Type: application/json\r\nContent-Length: 374\r\n\r\n{\"application\":{\"instance\":[{\"app\":\"A\",\"dataCenterInfo\":{\"name\":\"MyOwn\"},\"hostName\":\"h\",\"instanceId\":\"i1\",\"ipAddr\":\"10.0.0.1\",\"lastDirtyTimestamp\":\"5\",\"leaseInfo\":{\"durationInSecs\":90,\"evictionTimestamp\":0,\"lastRenewalTimestamp\":1000,\"registrationTimestamp\":1000,\"renewalIntervalInSecs\":30,\"serviceUpTimestamp\":1000},\"overriddenStatus\":\"UNKNOWN\",\"status\":\"UP\"}],\"name\":\"A\"}}";
     assert!(rt; is_answered(alloc, line, of_app(alloc, true), text));
-    assert!(rt; is_answered(alloc, line, of_app(alloc, false), NONE));
+    assert!(rt; is_answered(alloc, line, of_app(alloc, false), MISSING));
 }
 
 #[test]
 fn views_that_were_not_asked_for_are_missing(rt: HostRuntime) {
     let alloc = rt.alloc();
-    assert!(rt; is_answered(alloc, "GET /eureka/apps/A", one(alloc), NONE));
-    assert!(rt; is_answered(alloc, "GET /eureka/v2/status", nothing(alloc), NONE));
-    assert!(rt; is_answered(alloc, "DELETE /eureka/apps/A/i1", nothing(alloc), NONE));
+    assert!(rt; is_answered(alloc, "GET /eureka/apps/A", one(alloc), MISSING));
+    assert!(rt; is_answered(alloc, "GET /eureka/v2/status", nothing(alloc), MISSING));
+    assert!(rt; is_answered(alloc, "DELETE /eureka/apps/A/i1", nothing(alloc), MISSING));
 }
 
 /// The counts of a registry, and all that it holds.

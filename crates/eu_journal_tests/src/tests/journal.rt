@@ -1,5 +1,6 @@
 //! The text of a journal, line by line, and lines that are refused. The digest was computed by another program.
-use eu_base::{App, Config, Fault, Id, Instance, Key, Moment, Rest, Status};
+use eu_base::{App, Fault, Id, Instance, Key, LeaseSecs, Moment, RenewalSecs, Rest, Stamp, Status};
+use eu_fixtures::settings;
 use eu_journal::JournalLine;
 use eu_journal_text::{journal_text, read_line};
 use eu_journal_values::LineFault;
@@ -32,15 +33,16 @@ fn key(alloc: Global) -> Result<Key, Fault> {
 }
 
 fn instance(alloc: Global) -> Result<Instance, Fault> {
+    let dirty = Stamp::new(1_700_000_000_000).ok_or(Fault::BadStamp)?;
     let key = key(alloc)?;
     let rest = Rest::of_host(alloc, "a")?;
     Ok(Instance {
         key,
         status: Status::Up,
         overridden: Status::Unknown,
-        dirty: 1_700_000_000_000,
-        secs: 90,
-        interval: 30,
+        dirty,
+        secs: LeaseSecs::DEFAULT,
+        interval: RenewalSecs::DEFAULT,
         rest,
     })
 }
@@ -51,7 +53,7 @@ fn state(
     expected: u64,
     previous: Option<Moment>,
 ) -> Result<State, Fault> {
-    let config = Config::new(true, 85, 30, 60_000)?;
+    let config = settings()?;
     Ok(State {
         config,
         expected,

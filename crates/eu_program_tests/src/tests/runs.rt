@@ -1,5 +1,6 @@
 //! Whole runs of the program, on a machine whose words and input are given and whose output is kept.
 use crate::tests::files::{Kept, Place, holds_all, open_kept};
+use crate::tests::servers::{LOOK, RENEWAL};
 use eu_program::start;
 use std::alloc::{Alloc, Allocator, Global};
 use std::env::FillError;
@@ -588,10 +589,6 @@ fn a_port_that_is_taken_is_told_by_its_fault(rt: HostRuntime) -> Result<(), Fail
     Ok(())
 }
 
-/// A request for the status page, and the page of a server at which nothing is held that expects seven clients, each to renew every
-/// 20 s, of which half may go.
-const LOOK: &str = "GET /eureka/status HTTP/1.1\r\nHost: x\r\nConnection: close\r\n\r\n";
-
 const LOOKED: &str =
     "HTTP/1.1 200 OK\r\nContent-Type: text/plain; charset=utf-8\r\nContent-Length: 79\r\nConnection: close\r\n\r\nheld 0\nexpected 7\nthreshold 10\nlast 0\npreservation off\npermitted yes\nstatuses \n";
 
@@ -727,9 +724,6 @@ fn are_listed<R: Net<Stream = TcpStream>>(
     }
     Ok(as_told)
 }
-
-/// A renewal of a lease that isn't there.
-const RENEWAL: &str = "PUT /eureka/apps/A/zz HTTP/1.1\r\nHost: x\r\nConnection: close\r\n\r\n";
 
 /// A run of a server of two sessions, and whether two clients in threads of their own are told that one has registered, and that what the
 /// other renews isn't held.

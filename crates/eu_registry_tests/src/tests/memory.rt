@@ -1,9 +1,10 @@
 //! Want of memory. In a usual run no allocation is refused; `tools/sweep_memory.sh` refuses one after another.
-use crate::tests::registry::{Call, answer, at, opened};
+use crate::tests::registry::{Call, answer, opened};
 use crate::tests::steps::{Step, command};
 use eu_base::{App, Fault, Status};
 use eu_clock::FirstChooser;
 use eu_core::{Answered, Registry, Stepped};
+use eu_fixtures::moment;
 use eu_model::Reply;
 use std::alloc::{AllocError, Global};
 
@@ -29,7 +30,7 @@ fn word(reply: &Reply) -> (&'static str, u64) {
         Reply::Registered { .. } => ("registered", 0),
         Reply::Done => ("done", 0),
         Reply::NotFound => ("none", 0),
-        Reply::Conflict(held) => ("conflict", held.dirty),
+        Reply::Conflict(held) => ("conflict", held.dirty.value()),
         Reply::Last(renewals) => ("last", *renewals),
         Reply::Evicted(keys) => ("evicted", keys.as_slice().len() as u64),
         _ => ("other", 0),
@@ -37,7 +38,7 @@ fn word(reply: &Reply) -> (&'static str, u64) {
 }
 
 fn call(alloc: Global, registry: &mut Registry, call: Call, ms: u64) -> Told {
-    let reply = answer(alloc, registry, call, at(ms)?, &mut FirstChooser)?;
+    let reply = answer(alloc, registry, call, moment(ms)?, &mut FirstChooser)?;
     let told = word(&reply);
     drop(reply);
     Ok(told)
@@ -58,7 +59,7 @@ fn word_of(stepped: &Stepped) -> (&'static str, u64) {
 }
 
 fn step(alloc: Global, registry: &mut Registry, step: Step, ms: u64) -> Told {
-    let now = at(ms)?;
+    let now = moment(ms)?;
     let command = command(alloc, step)?;
     let stepped = registry.step(alloc, &command, now, true, 1, &mut FirstChooser);
     drop(command);

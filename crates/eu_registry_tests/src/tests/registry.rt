@@ -1,8 +1,9 @@
 //! Values from the rules of Eureka's registry, worked out by hand.
-use crate::tests::texts::{joined, push_number, push_numbers};
-use eu_base::{App, Config, Fault, Id, Instance, Key, Moment, Rest, Stamp, Status};
+use crate::tests::texts::push_numbers;
+use eu_base::{App, Config, Fault, Instance, LeaseSecs, Moment, RenewalSecs, Rest, Stamp, Status};
 use eu_clock::{Chooser, FirstChooser, ListChooser};
 use eu_core::Registry;
+use eu_fixtures::{joined, key, key_of, moment, push_number};
 use eu_model::{Keys, Listed, Reply, Times};
 use std::alloc::{AllocError, Global};
 
@@ -45,17 +46,6 @@ enum Line {
     All,
 }
 
-pub fn at(ms: u64) -> Result<Moment, Fault> {
-    Moment::new(ms).ok_or(Fault::BadValue)
-}
-
-pub fn key(alloc: Global, app: &str, id: &str) -> Result<Key, Fault> {
-    Ok(Key {
-        app: App::read(alloc, app)?,
-        id: Id::read(alloc, id)?,
-    })
-}
-
 pub fn instance(
     alloc: Global,
     id: &str,
@@ -63,16 +53,13 @@ pub fn instance(
     dirty: u64,
     secs: u32,
 ) -> Result<Instance, Fault> {
-    if dirty > 1_000 || secs == 0 || secs > 1_000 {
-        return Err(Fault::BadValue);
-    }
     Ok(Instance {
-        key: key(alloc, "A", id)?,
+        key: key(alloc, id)?,
         status: statuses.0,
         overridden: statuses.1,
-        dirty,
-        secs,
-        interval: 30,
+        dirty: Stamp::new(dirty).ok_or(Fault::BadStamp)?,
+        secs: LeaseSecs::new(secs).ok_or(Fault::BadDuration)?,
+        interval: RenewalSecs::DEFAULT,
         rest: Rest::of_host(alloc, "h")?,
     })
 }
@@ -112,7 +99,7 @@ fn renew(
     replicated: bool,
     now: Moment,
 ) -> Result<Reply, Fault> {
-    let key = key(alloc, "A", id)?;
+    let key = key(alloc, id)?;
     registry.renew(
         alloc,
         &key,
@@ -130,7 +117,7 @@ fn set(
     status: Status,
     now: Moment,
 ) -> Result<Reply, Fault> {
-    let key = key(alloc, "A", id)?;
+    let key = key(alloc, id)?;
     registry.set_status(alloc, &key, status, None, now)
 }
 
@@ -141,12 +128,12 @@ fn unset(
     status: Option<Status>,
     now: Moment,
 ) -> Result<Reply, Fault> {
-    let key = key(alloc, "A", id)?;
+    let key = key(alloc, id)?;
     Ok(registry.unset_status(&key, status, None, now))
 }
 
 fn cancel(alloc: Global, registry: &mut Registry, app: &str, id: &str) -> Result<Reply, Fault> {
-    let key = key(alloc, app, id)?;
+    let key = key_of(alloc, app, id)?;
     Ok(registry.cancel(&key))
 }
 
@@ -193,7 +180,7 @@ pub fn tell(out: &mut String, reply: &Reply) -> Result<(), AllocError> {
         Reply::Done => out.push_str("done "),
         Reply::NotFound => out.push_str("none "),
         Reply::Stale => out.push_str("stale "),
-        Reply::Conflict(held) => tell_number(out, "conflict", held.dirty),
+        Reply::Conflict(held) => tell_number(out, "conflict", held.dirty.value()),
         Reply::Last(renewals) => tell_number(out, "last", *renewals),
         Reply::Expected(clients) => tell_number(out, "expected", *clients),
         Reply::Evicted(victims) => tell_ids(out, victims),
@@ -253,7 +240,8 @@ fn tell_found(out: &mut String, found: Option<(&Instance, Times)>) -> Result<(),
     let Some((instance, times)) = found else {
         return out.push_str("hidden ");
     };
-    let numbers = [instance.dirty, u64::from(instance.secs), times.updated];
+    let (dirty, secs) = (instance.dirty.value(), instance.secs.secs());
+    let numbers = [dirty, u64::from(secs), times.updated];
     tell_lease(out, instance.status, numbers.as_slice())
 }
 
@@ -265,7 +253,7 @@ fn look(
     id: &str,
     now: Moment,
 ) -> Result<(), Fault> {
-    let key = key(alloc, "A", id)?;
+    let key = key(alloc, id)?;
     let told = tell_found(out, registry.look(&key, now));
     drop(key);
     Ok(told?)
@@ -341,7 +329,7 @@ fn told<C: Chooser>(
 ) -> Result<String, Fault> {
     let mut out = String::new(alloc);
     for (ms, line) in lines {
-        go(alloc, &mut out, registry, *line, at(*ms)?, chooser)?;
+        go(alloc, &mut out, registry, *line, moment(*ms)?, chooser)?;
     }
     Ok(out)
 }
@@ -595,7 +583,7 @@ fn is_joined(
 
 /// A registry with 65,536 leases, i0 to i65535.
 fn full(alloc: Global) -> Result<Registry, Fault> {
-    let now = at(0)?;
+    let now = moment(0)?;
     let mut registry = opened(alloc, (true, 85, 1))?;
     for number in 0..65_536 {
         if !is_joined(alloc, &mut registry, number, now)? {

@@ -2,11 +2,12 @@
 ghost use Rattle.std.specs.Prelude.{◌≡◌, false, IfOk};
 ghost use Rattle.eu_model.specs.Server.{is_for_peers};
 
-use crate::tests::registry::{at, instance, key, tell};
+use crate::tests::registry::{instance, tell};
 use crate::tests::texts::push_numbers;
 use eu_base::{BoxedInstance, Config, Fault, Id, Instance, Moment, Stamp, Status};
 use eu_clock::{Chooser, FirstChooser, ListChooser};
 use eu_core::{Answered, Registry, Stepped};
+use eu_fixtures::{key, moment};
 use eu_model::{Command, Reply, State};
 use std::alloc::{AllocError, Global};
 
@@ -55,7 +56,7 @@ fn renewal(alloc: Global, stamp: Option<u64>) -> Result<Command, Fault>
     ensures { IfOk result (λ c. is_for_peers c ≡ false) }
 {
     Ok(Command::Renew {
-        key: key(alloc, "A", "i1")?,
+        key: key(alloc, "i1")?,
         dirty: stamp.and_then(Stamp::new),
         overridden: None,
         replicated: true,
@@ -66,7 +67,7 @@ fn cancel(alloc: Global) -> Result<Command, Fault>
     ensures { IfOk result (λ c. is_for_peers c ≡ false) }
 {
     Ok(Command::Cancel {
-        key: key(alloc, "A", "i1")?,
+        key: key(alloc, "i1")?,
         replicated: false,
     })
 }
@@ -76,7 +77,7 @@ fn down(alloc: Global, id: &str, stamp: Option<u64>) -> Result<Command, Fault>
     ensures { IfOk result (λ c. is_for_peers c ≡ false) }
 {
     Ok(Command::SetStatus {
-        key: key(alloc, "A", id)?,
+        key: key(alloc, id)?,
         status: Status::Down,
         dirty: stamp.and_then(Stamp::new),
         replicated: false,
@@ -88,7 +89,7 @@ fn up(alloc: Global) -> Result<Command, Fault>
     ensures { IfOk result (λ c. is_for_peers c ≡ false) }
 {
     Ok(Command::UnsetStatus {
-        key: key(alloc, "A", "i1")?,
+        key: key(alloc, "i1")?,
         status: Some(Status::Up),
         dirty: None,
         replicated: false,
@@ -116,7 +117,8 @@ pub fn command(alloc: Global, step: Step) -> Result<Command, Fault>
 
 fn tell_copy(out: &mut String, held: &Instance) -> Result<(), AllocError> {
     out.push_str(held.status.name())?;
-    push_numbers(out, [held.dirty, u64::from(held.secs)].as_slice())
+    let (dirty, secs) = (held.dirty.value(), held.secs.secs());
+    push_numbers(out, [dirty, u64::from(secs)].as_slice())
 }
 
 /// Writes the reply as a journal keeps it, as who asked is told it, and as their log keeps it, where they have one.
@@ -184,7 +186,7 @@ fn go<C: Chooser>(
 
 /// What comes of each step at moment 0, as words.
 fn told(alloc: Global, registry: &mut Registry, steps: &[Step]) -> Result<String, Fault> {
-    let now = at(0)?;
+    let now = moment(0)?;
     let mut out = String::new(alloc);
     for step in steps {
         go(alloc, &mut out, registry, now, *step, &mut FirstChooser)?;
@@ -258,7 +260,7 @@ fn join_three<C: Chooser>(
     registry: &mut Registry,
     chooser: &mut C,
 ) -> Result<(), Fault> {
-    let start = at(0)?;
+    let start = moment(0)?;
     let mut out = String::new(alloc);
     for id in ["i3", "i1", "i2"] {
         let step = Step::Join(id, Status::Up, 0, 90);
@@ -273,7 +275,7 @@ fn pass<C: Chooser>(
     registry: &mut Registry,
     chooser: &mut C,
 ) -> Result<String, Fault> {
-    let end = at(200_000)?;
+    let end = moment(200_000)?;
     let mut out = String::new(alloc);
     go(alloc, &mut out, registry, end, Step::Evict, chooser)?;
     Ok(out)

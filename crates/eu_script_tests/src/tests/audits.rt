@@ -1,9 +1,9 @@
 //! The audit of a script with more entries than the others leave.
-use crate::tests::memory::settings;
 use crate::tests::scripts::joined;
 use eu_base::Fault;
 use eu_clock::FirstChooser;
-use eu_server::run_audit;
+use eu_fixtures::settings;
+use eu_script::run_audit;
 use std::alloc::Global;
 
 /// Whether the audit of a script, in which a client registers and renews its lease so many times, finds a run and writes this.

@@ -1,8 +1,8 @@
 //! The journals that scripts leave, line by line. The digest was computed by another program.
-use eu_base::Config;
 use eu_clock::FirstChooser;
+use eu_fixtures::settings;
 use eu_lines::ScriptFault;
-use eu_server::run_script_with_journal;
+use eu_script::run_script_with_journal;
 use std::alloc::{AllocError, Global};
 use std::io::{self, Error, ErrorKind, Write};
 
@@ -49,7 +49,7 @@ impl Left {
 
 /// Runs a script whose journal has so much room.
 fn run(alloc: Global, script: &[u8], room: usize, is_flushed: bool) -> Option<Left> {
-    let config = Config::new(true, 85, 30, 60_000).ok()?;
+    let config = settings().ok()?;
     let mut reader = script;
     let mut printed = Vec::new(alloc);
     let mut journal = Paper {

@@ -1,8 +1,9 @@
 //! Want of memory. In a usual run no allocation is refused; `tools/sweep_memory.sh` refuses one after another. Each run has a reader and writers of its own.
-use eu_base::{Config, Fault};
+use eu_base::Fault;
 use eu_clock::FirstChooser;
+use eu_fixtures::{are_so, settings};
 use eu_lines::ScriptFault;
-use eu_server::{run_audit, run_script, run_script_with_journal};
+use eu_script::{run_audit, run_script, run_script_with_journal};
 use std::alloc::{AllocError, Global};
 
 /// A script, with what each line prints: one peer is told of a client, and loses what it is told then; an instance is adopted; the settings are changed,
@@ -68,20 +69,6 @@ fn lines(text: &str) -> Option<usize> {
 /// How many lines printed what a writer holds.
 fn printed(out: &[u8]) -> Option<usize> {
     lines(str::from_utf8(out).unwrap_or("?"))
-}
-
-pub fn settings() -> Result<Config, Fault> {
-    Config::new(true, 85, 30, 60_000)
-}
-
-/// Whether that is so, or there was no memory to begin.
-fn is_so(answer: Result<bool, Fault>) -> bool {
-    answer == Ok(true) || answer == Err(Fault::OutOfMemory)
-}
-
-/// Whether that is so of two runs, of which one may have found no memory to begin.
-fn are_so(first: Result<bool, Fault>, second: Result<bool, Fault>) -> bool {
-    is_so(first) && is_so(second) && (first == Ok(true) || second == Ok(true))
 }
 
 /// Whether a script prints all its lines, or ends by want of memory behind whole lines. Its output has room before.

@@ -4,8 +4,9 @@ ghost use Rattle.std.specs.Prelude.{None};
 use crate::tests::examples::prints as prints_lines;
 use eu_base::Config;
 use eu_clock::FirstChooser;
+use eu_fixtures::settings;
 use eu_lines::ScriptFault;
-use eu_server::run_script;
+use eu_script::run_script;
 use std::alloc::{AllocError, Global};
 use std::io;
 use std::io::Read;
@@ -30,7 +31,7 @@ pub fn ends<R: Read>(
     wanted: Result<(), ScriptFault>,
     printed: &[u8],
 ) -> bool {
-    match Config::new(true, 85, 30, 60_000) {
+    match settings() {
         Ok(config) => ends_by(alloc, config, reader, wanted, printed),
         Err(_) => false,
     }

@@ -19,19 +19,19 @@ fn tell_instance(
     instance: &Instance,
 ) -> Result<(), AllocError> {
     tell_key(text, verb, moment, &instance.key)?;
-    let (secs, dirty) = (instance.secs, instance.dirty);
+    let (secs, dirty) = (instance.secs.secs(), instance.dirty.value());
     let (status, overridden) = (instance.status, instance.overridden);
     write!(text, " {secs} {status:?} {overridden:?} {dirty}")
 }
 
 fn number(stamp: &Option<Stamp>) -> Option<u64> {
-    stamp.map(|stamp| stamp.value)
+    stamp.map(|stamp| stamp.value())
 }
 
 /// Writes a moment and settings.
 fn tell_settings(text: &mut String, moment: &Moment, config: &Config) -> Result<(), AllocError> {
-    let (preservation, percent) = (config.preservation, config.percent);
-    let (interval, evict_ms) = (config.interval, config.evict_ms);
+    let (preservation, percent) = (config.preservation, config.percent.value());
+    let (interval, evict_ms) = (config.interval.secs(), config.evict_ms);
     write!(
         text,
         "config {} {preservation} {percent} {interval} {evict_ms}",
@@ -115,7 +115,9 @@ fn tell_command(text: &mut String, moment: &Moment, command: &Command) -> Result
 /// Writes what a line says, field by field.
 fn tell(text: &mut String, line: &Line) -> Result<(), AllocError> {
     match line {
-        Line::Open(opening) => write!(text, "open {} {}", opening.expected, opening.peers),
+        Line::Open(opening) => {
+            write!(text, "open {} {}", opening.expected, opening.peers.count())
+        }
         Line::Apply { moment, command } => tell_command(text, moment, command),
         Line::Look { moment, key } => tell_key(text, "look", moment, key),
         Line::Counts { moment } => write!(text, "counts {}", moment.ms()),

@@ -1,10 +1,10 @@
 //! Batches of peers, as sessions with a book answer them.
 use crate::tests::served::{answers, looked, opened, opened_with, registered};
-use crate::tests::sessions::{RENEWAL, RENEWED};
-use crate::tests::texts::{joined, push_number};
+use crate::tests::sessions::RENEWED;
 use eu_base::{Fault, Moment};
 use eu_book::{Book, Receipt};
 use eu_clock::FirstChooser;
+use eu_fixtures::{ITEM_DONE, ITEM_MISSING, RENEWAL, joined, push_number};
 use eu_model::{Command, Reply};
 use std::alloc::{AllocError, Global};
 
@@ -62,14 +62,10 @@ fn is_unchanged(alloc: Global, book: &mut Book) -> Result<bool, Fault> {
 const RENEWS_NOBODY: &str =
     r#"{"replicationList":[{"action":"Heartbeat","appName":"A","id":"zz"}]}"#;
 
-/// What it is answered.
-const NOBODY: &str =
-    "HTTP/1.1 200 OK\r\nContent-Type: application/json\r\nContent-Length: 37\r\n\r\n{\"responseList\":[{\"statusCode\":404}]}";
-
 /// Whether a book that is just opened answers that so, in one step.
 fn renews_nobody(alloc: Global) -> Result<bool, Fault> {
     let mut book = opened(alloc)?;
-    let replies = replies_by(alloc, &mut book, RENEWS_NOBODY, NOBODY, 1);
+    let replies = replies_by(alloc, &mut book, RENEWS_NOBODY, ITEM_MISSING, 1);
     drop(book);
     replies
 }
@@ -216,13 +212,10 @@ fn drained(alloc: Global, book: &mut Book, now: Moment) -> (usize, u8) {
 const COMES: &str =
     r#"{"replicationList":[{"action":"Register","appName":"A","id":"i1","instanceInfo":{"instanceId":"i1","hostName":"h","app":"a","ipAddr":"10.0.0.1","dataCenterInfo":{"name":"MyOwn"}}}]}"#;
 
-const DONE: &str =
-    "HTTP/1.1 200 OK\r\nContent-Type: application/json\r\nContent-Length: 37\r\n\r\n{\"responseList\":[{\"statusCode\":200}]}";
-
 /// Whether no task goes to the peer after that batch, and one after a renewal.
 fn queues(alloc: Global, book: &mut Book) -> Result<bool, Fault> {
     let now = Moment::new(3000).ok_or(Fault::BadValue)?;
-    let comes = replies(alloc, book, COMES, DONE)?;
+    let comes = replies(alloc, book, COMES, ITEM_DONE)?;
     let none = drained(alloc, book, now);
     let renewed = answers(alloc, book, RENEWAL, RENEWED)?;
     let one = drained(alloc, book, now);

@@ -1,18 +1,17 @@
 //! Want of memory. In a usual run no allocation is refused; `tools/sweep_memory.sh` refuses one after another.
 use crate::tests::batches::posted;
-use crate::tests::served::{MISSING, opened};
-use crate::tests::sessions::{LISTED, REGISTRATION, RENEWAL, RENEWED, clock};
-use crate::tests::texts::joined;
+use crate::tests::served::opened;
+use crate::tests::sessions::RENEWED;
 use eu_base::Fault;
 use eu_book::Book;
 use eu_clock::ListClock;
+use eu_fixtures::{
+    LISTED, MISSING, REGISTERED, REGISTRATION, RENEWAL, clock, joined, pause_or_go_on,
+};
 use eu_routes::Routes;
 use eu_session::{SessionFault, serve_session};
 use eu_stream::Writing;
 use std::alloc::{AllocError, Global};
-
-/// The response to a registration that was done.
-const DONE: &str = "HTTP/1.1 204 No Content\r\n\r\n";
 
 /// The response where a desk finds no memory.
 const UNAVAILABLE: &str =
@@ -102,7 +101,7 @@ fn responses(text: &str, wanted: &[&str]) -> Option<u32> {
 /// How many whole responses a session wrote.
 fn written(play: &Play) -> Option<u32> {
     let text = str::from_utf8(&play.out).unwrap_or("?");
-    responses(text, &[DONE, play.shown.as_str(), RENEWED])
+    responses(text, &[REGISTERED, play.shown.as_str(), RENEWED])
 }
 
 /// Whether a session of three requests answers them all, or ends by want of memory behind whole responses, and asked for no more than
@@ -168,12 +167,6 @@ impl Said {
 }
 
 const ITEM_UNAVAILABLE: &str = r#"{"responseList":[{"statusCode":503}]}"#;
-
-/// Has `tools/sweep_memory.sh`, which looks for an allocation of this size, refuse none of those that follow, or go on refusing.
-fn pause_or_go_on(alloc: Global) {
-    let room: Result<Vec<u8>, AllocError> = Vec::with_capacity(alloc, 1_234_567);
-    drop(room);
-}
 
 /// A session of one request, with a reader, a writer and a clock of its own, whose own memory alone is refused, or none.
 fn say(

@@ -1,11 +1,9 @@
 //! Sessions with a registry, as clients hold them.
-use crate::tests::sessions::{
-    LISTED, LONG, LONG_REFUSED, Parts, REGISTRATION, RENEWAL, RENEWED, clock,
-};
-use crate::tests::texts::joined;
-use eu_base::{Config, Fault, Moment};
+use crate::tests::sessions::{LONG, LONG_REFUSED, Parts, RENEWED};
+use eu_base::{Fault, Moment};
 use eu_book::{Book, MOST_ENTRIES};
 use eu_clock::{FirstChooser, ListClock};
+use eu_fixtures::{FORBIDDEN, LISTED, MISSING, REGISTRATION, RENEWAL, clock, joined, settings};
 use eu_model::Command;
 use eu_routes::Routes;
 use eu_session::{serve_session, sessions_are_runs};
@@ -17,7 +15,7 @@ pub fn opened_with(alloc: Global, peers: u32) -> Result<Book, Fault> {
     if peers > 8 {
         return Err(Fault::BadValue);
     }
-    let config = Config::new(true, 85, 30, 60_000)?;
+    let config = settings()?;
     Ok(Book::open(alloc, config, 0, peers)?)
 }
 
@@ -272,10 +270,6 @@ fn lists(alloc: Global) -> Result<bool, Fault> {
 fn what_is_held_is_listed(rt: HostRuntime) {
     assert!(rt; lists(rt.alloc()) == Ok(true));
 }
-
-pub const MISSING: &str = "HTTP/1.1 404 Not Found\r\nContent-Length: 0\r\n\r\n";
-
-const FORBIDDEN: &str = "HTTP/1.1 403 Forbidden\r\nContent-Length: 0\r\n\r\n";
 
 pub const BAD_VALUE: &str =
     "HTTP/1.1 400 Bad Request\r\nContent-Type: application/json\r\nContent-Length: 12\r\n\r\n{\"fault\":38}";

@@ -1,29 +1,20 @@
 //! Sessions as clients hold them, byte for byte.
 ghost use Rattle.std.specs.Prelude.{None};
 
-use crate::tests::texts::{joined, push_number, repeated};
+use crate::tests::texts::repeated;
 use eu_base::{App, Fault, Moment};
 use eu_clock::{Clock, ListClock};
-use eu_http::{Answer, Ask};
+use eu_desk::{Answer, Ask, Desk};
+use eu_fixtures::{LISTED, REGISTRATION, RENEWAL, clock, joined, push_number};
 use eu_json::read_instance;
 use eu_model::{Command, Listed, Query, Reply, Times, View};
 use eu_routes::Routes;
-use eu_session::{Desk, MAX_REQUESTS, SessionFault, serve_session};
+use eu_session::{MAX_REQUESTS, SessionFault, serve_session};
 use eu_stream::{ReadFault, Sink, Source, WriteFault};
 use std::alloc::{AllocError, Global};
 use std::cell::RefCell;
 
-/// What a client sends at least, with a status and a stamp.
-pub const REGISTRATION: &str =
-    r#"{"instance":{"instanceId":"i1","hostName":"h","app":"a","ipAddr":"10.0.0.1","status":"UP","lastDirtyTimestamp":"5","dataCenterInfo":{"name":"MyOwn"}}}"#;
-
-/// The same, as it is listed, where it was registered at 1000.
-pub const LISTED: &str =
-    r#"{"instance":{"app":"A","dataCenterInfo":{"name":"MyOwn"},"hostName":"h","instanceId":"i1","ipAddr":"10.0.0.1","lastDirtyTimestamp":"5","leaseInfo":{"durationInSecs":90,"evictionTimestamp":0,"lastRenewalTimestamp":1000,"registrationTimestamp":1000,"renewalIntervalInSecs":30,"serviceUpTimestamp":1000},"overriddenStatus":"UNKNOWN","status":"UP"}}"#;
-
-/// A renewal, and what it is answered.
-pub const RENEWAL: &str = "PUT /eureka/apps/A/i1 HTTP/1.1\r\nHost: x\r\n\r\n";
-
+/// What a renewal is answered.
 pub const RENEWED: &str = "HTTP/1.1 200 OK\r\nContent-Length: 0\r\n\r\n";
 
 /// A body that is longer than its limit, and what that is answered.
@@ -199,7 +190,7 @@ fn note_ask(out: &mut String, ask: &Ask, moment: Moment) -> Result<(), AllocErro
                 instance,
                 replicated: false,
             },
-        ) => note_number(out, "register", instance.dirty, moment),
+        ) => note_number(out, "register", instance.dirty.value(), moment),
         Ask::See(Query::One(key)) => note(out, key.app.as_str(), key.id.as_str(), moment),
         _ => note(out, "other", "", moment),
     }
@@ -228,14 +219,6 @@ fn note_moment(out: &mut String, moment: Moment) -> Result<(), AllocError> {
     out.push_str(" at ")?;
     push_number(out, moment.ms())?;
     out.push_str(";")
-}
-
-pub fn clock(alloc: Global, times: &[u64]) -> Result<ListClock, Fault> {
-    let mut moments = Vec::new(alloc);
-    for ms in times {
-        moments.push(Moment::new(*ms).ok_or(Fault::BadValue)?)?;
-    }
-    Ok(ListClock::new(moments))
 }
 
 fn listed(alloc: Global) -> Result<Listed, Fault> {

@@ -1,8 +1,9 @@
 //! Sessions that change the settings of a registry while it runs.
-use crate::tests::served::{BAD_VALUE, MISSING, targeted_each};
+use crate::tests::served::{BAD_VALUE, targeted_each};
 use crate::tests::sessions::RENEWED;
 use eu_base::{Config, Fault};
 use eu_book::Book;
+use eu_fixtures::MISSING;
 use std::alloc::Global;
 
 /// Ten clients are expected, at 50 percent.

@@ -1,7 +1,9 @@
 //! Values from Eureka's own names and from the limits of each type.
 use eu_base::{
-    Action, App, Codes, Config, Fault, Id, Instance, Key, Moment, Rest, Stamp, Status, Task,
+    Action, App, Codes, Config, Fault, Id, Instance, Key, LeaseSecs, Moment, RenewalSecs, Rest,
+    Stamp, Status, Task,
 };
+use eu_fixtures::key_of;
 use serde_json::{Map, Value};
 use std::alloc::{AllocError, Global};
 use std::cmp::Ordering;
@@ -76,15 +78,9 @@ fn ids_are_read_as_given(rt: HostRuntime) {
     assert!(rt; id_length(rt.alloc(), 256) == Err(Fault::TooLong));
 }
 
-fn key(alloc: Global, app: &str, id: &str) -> Result<Key, Fault> {
-    let app = App::read(alloc, app)?;
-    let id = Id::read(alloc, id)?;
-    Ok(Key { app, id })
-}
-
 /// Whether a key is less than that one, and isn't equal to it.
 fn is_before(alloc: Global, first: &Key, app: &str, id: &str) -> Result<bool, Fault> {
-    let second = key(alloc, app, id)?;
+    let second = key_of(alloc, app, id)?;
     let before = *first < second && *first != second;
     drop(second);
     Ok(before)
@@ -92,7 +88,7 @@ fn is_before(alloc: Global, first: &Key, app: &str, id: &str) -> Result<bool, Fa
 
 /// Whether two keys, each an application and an id, are in order.
 fn are_in_order(alloc: Global, first: (&str, &str), second: (&str, &str)) -> Result<bool, Fault> {
-    let key = key(alloc, first.0, first.1)?;
+    let key = key_of(alloc, first.0, first.1)?;
     let before = is_before(alloc, &key, second.0, second.1);
     drop(key);
     before
@@ -106,7 +102,7 @@ fn is_copied(alloc: Global, key: &Key) -> Result<bool, Fault> {
 
 /// Whether that key is equal to its copy.
 fn is_key_copied(alloc: Global, app: &str, id: &str) -> Result<bool, Fault> {
-    let key = key(alloc, app, id)?;
+    let key = key_of(alloc, app, id)?;
     let copied = is_copied(alloc, &key);
     drop(key);
     copied
@@ -173,7 +169,7 @@ fn moments_and_stamps_have_limits(rt: HostRuntime) {
     );
     assert!(rt; Moment::new(4_611_686_018_427_387_905).is_none());
     assert_eq!(rt;
-        Stamp::new(9_223_372_036_854_775_807).map(|stamp| stamp.value),
+        Stamp::new(9_223_372_036_854_775_807).map(|stamp| stamp.value()),
         Some(9_223_372_036_854_775_807)
     );
     assert!(rt; Stamp::new(9_223_372_036_854_775_808).is_none());
@@ -184,8 +180,8 @@ fn are_held(preservation: bool, percent: u32, interval: u32, evict_ms: u32) -> R
     let config = Config::new(preservation, percent, interval, evict_ms)?;
     Ok(
         config.preservation == preservation
-            && config.percent == percent
-            && config.interval == interval
+            && config.percent.value() == percent
+            && config.interval.secs() == interval
             && config.evict_ms == evict_ms,
     )
 }
@@ -201,15 +197,16 @@ fn settings_have_limits(rt: HostRuntime) {
 }
 
 fn instance(alloc: Global, overridden: Status) -> Result<Instance, Fault> {
-    let key = key(alloc, "a", "i1")?;
+    let dirty = Stamp::new(7).ok_or(Fault::BadStamp)?;
+    let key = key_of(alloc, "a", "i1")?;
     let rest = Rest::of_host(alloc, "i1")?;
     Ok(Instance {
         key,
         status: Status::Starting,
         overridden,
-        dirty: 7,
-        secs: 90,
-        interval: 30,
+        dirty,
+        secs: LeaseSecs::DEFAULT,
+        interval: RenewalSecs::DEFAULT,
         rest,
     })
 }
@@ -236,9 +233,9 @@ fn have_same_members(alloc: Global, rest: &Rest, other: &Rest) -> Result<bool, A
 fn is_out_of_service(instance: &Instance) -> bool {
     instance.status == Status::Starting
         && instance.overridden == Status::OutOfService
-        && instance.dirty == 7
-        && instance.secs == 90
-        && instance.interval == 30
+        && instance.dirty.value() == 7
+        && instance.secs.secs() == 90
+        && instance.interval.secs() == 30
 }
 
 /// Whether the copy of an instance is that one.
@@ -285,7 +282,7 @@ fn instances_are_compared(rt: HostRuntime) {
 
 fn task(alloc: Global, queued: u64) -> Result<Task, Fault> {
     let queued = Moment::new(queued).ok_or(Fault::Exhausted)?;
-    let key = key(alloc, "a", "i1")?;
+    let key = key_of(alloc, "a", "i1")?;
     let instance = instance(alloc, Status::Up)?;
     Ok(Task {
         action: Action::StatusUpdate,

@@ -1,7 +1,8 @@
 ghost use Rattle.std.specs.Prelude.{◌<◌};
 
-use eu_base::{Fault, Moment};
-use eu_clock::{Chooser, Clock, FirstChooser, ListChooser, ListClock, RngChooser, SystemClock};
+use eu_base::Fault;
+use eu_clock::{Chooser, Clock, FirstChooser, ListChooser, RngChooser, SystemClock};
+use eu_fixtures::clock;
 use std::alloc::Global;
 use std::cell::Cell;
 use std::io::{self, Error, ErrorKind};
@@ -42,15 +43,6 @@ fn a_seed_answers_the_words_of_pcg(rt: HostRuntime) {
     assert_eq!(rt; chooser.below(1), 0);
 }
 
-/// The list clock of these milliseconds.
-fn clock_of(alloc: Global, times: &[u64]) -> Result<ListClock, Fault> {
-    let mut moments = Vec::new(alloc);
-    for ms in times {
-        moments.push(Moment::new(*ms).ok_or(Fault::BadValue)?)?;
-    }
-    Ok(ListClock::new(moments))
-}
-
 fn second_moment<C: Clock>(clock: &mut C) -> u64 {
     let _first = clock.now();
     clock.now().ms()
@@ -58,7 +50,7 @@ fn second_moment<C: Clock>(clock: &mut C) -> u64 {
 
 /// The first, the third and the fifth moment that the list clock tells.
 fn moments_of(alloc: Global, times: &[u64]) -> Result<(u64, u64, u64), Fault> {
-    let mut clock = clock_of(alloc, times)?;
+    let mut clock = clock(alloc, times)?;
     let first = clock.now().ms();
     let third = second_moment(&mut clock);
     let fifth = second_moment(&mut clock);

@@ -1,5 +1,6 @@
 //! Want of memory. In a usual run no allocation is refused; `tools/sweep_memory.sh` refuses one after another.
-use eu_base::{Action, App, Fault, Id, Key, Moment, Status, Task};
+use eu_base::{Action, Fault, Status, Task};
+use eu_fixtures::{key, moment};
 use eu_model::{Queue, Tasks};
 use eu_outbox::Outbox;
 use std::alloc::{AllocError, Global};
@@ -24,29 +25,22 @@ struct Twins {
     other: Outbox,
 }
 
-fn at(ms: u64) -> Result<Moment, Fault> {
-    Moment::new(ms).ok_or(Fault::BadValue)
-}
-
 /// A registration without its instance.
 fn task(alloc: Global, number: u32) -> Result<Task, Fault> {
     let id = format!(in alloc; "i{number}")?;
-    let key = Key {
-        app: App::read(alloc, "A")?,
-        id: Id::read(alloc, id.as_str())?,
-    };
+    let key = key(alloc, id.as_str())?;
     Ok(Task {
         action: Action::Register,
         key,
         status: Some(Status::Up),
         instance: None,
-        queued: at(0)?,
+        queued: moment(0)?,
     })
 }
 
 fn put(alloc: Global, outbox: &mut Outbox, number: u32) -> Result<usize, Fault> {
     let task = task(alloc, number)?;
-    outbox.put(task, at(0)?)?;
+    outbox.put(task, moment(0)?)?;
     Ok(0)
 }
 
@@ -64,7 +58,7 @@ fn drained(batches: &[Tasks]) -> usize {
 }
 
 fn drain(alloc: Global, outbox: &mut Outbox) -> Result<usize, Fault> {
-    let batches = outbox.drain(alloc, at(0)?, 1)?;
+    let batches = outbox.drain(alloc, moment(0)?, 1)?;
     let count = drained(batches.as_slice());
     drop(batches);
     Ok(count)
@@ -73,12 +67,12 @@ fn drain(alloc: Global, outbox: &mut Outbox) -> Result<usize, Fault> {
 fn land(outbox: &mut Outbox, count: usize) -> Result<usize, Fault> {
     let codes = [200u16; 250];
     let some = codes.get(..count).unwrap_or(&[]);
-    outbox.landed(some, at(0)?)?;
+    outbox.landed(some, moment(0)?)?;
     Ok(0)
 }
 
 fn lose(outbox: &mut Outbox) -> Result<usize, Fault> {
-    outbox.lost(at(0)?)?;
+    outbox.lost(moment(0)?)?;
     Ok(0)
 }
 

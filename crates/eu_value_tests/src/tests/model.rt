@@ -1,30 +1,8 @@
 //! Lists of keys and of leases.
-use eu_base::{
-    Action, App, BoxedInstance, Config, Fault, Id, Instance, Key, Moment, Rest, Stamp, Status, Task,
-};
+use eu_base::{Action, App, BoxedInstance, Config, Fault, Id, Key, Moment, Stamp, Status, Task};
+use eu_fixtures::{instance, key, settings};
 use eu_model::{Command, Keys, Listed, Listing, Reply, Rows, Tally, Tasks, Times};
 use std::alloc::Global;
-
-/// The key of that id, of application A.
-fn key(alloc: Global, id: &str) -> Result<Key, Fault> {
-    let app = App::read(alloc, "a")?;
-    let id = Id::read(alloc, id)?;
-    Ok(Key { app, id })
-}
-
-fn instance(alloc: Global) -> Result<Instance, Fault> {
-    let key = key(alloc, "i1")?;
-    let rest = Rest::of_host(alloc, "h")?;
-    Ok(Instance {
-        key,
-        status: Status::Up,
-        overridden: Status::Unknown,
-        dirty: 7,
-        secs: 90,
-        interval: 30,
-        rest,
-    })
-}
 
 /// The list of that key.
 fn keys(alloc: Global, id: &str) -> Result<Keys, Fault> {
@@ -49,7 +27,7 @@ fn keys_are_shown(rt: HostRuntime) {
 }
 
 fn listing(alloc: Global) -> Result<Listing, Fault> {
-    let instance = instance(alloc)?;
+    let instance = instance(alloc, "i1", 7, 90)?;
     let mut leases = Vec::new(alloc);
     leases.push(Listed {
         instance,
@@ -133,7 +111,7 @@ fn keys_are_copied(rt: HostRuntime) {
 /// A reply as a word and a number: of a conflict the stamp of its instance.
 fn in_short(reply: &Reply) -> (&'static str, u64) {
     match reply {
-        Reply::Conflict(held) => ("conflict", held.dirty),
+        Reply::Conflict(held) => ("conflict", held.dirty.value()),
         Reply::Registered { fresh: true } => ("fresh", 0),
         Reply::Last(renewals) => ("last", *renewals),
         _ => ("other", 0),
@@ -150,7 +128,7 @@ fn is_reply_copied(alloc: Global, reply: &Reply, short: (&str, u64)) -> Result<b
 
 /// Whether a conflict is copied, with an instance of that stamp.
 fn is_conflict_copied(alloc: Global, dirty: u64) -> Result<bool, Fault> {
-    let conflict = Reply::Conflict(BoxedInstance::new(alloc, instance(alloc)?)?);
+    let conflict = Reply::Conflict(BoxedInstance::new(alloc, instance(alloc, "i1", 7, 90)?)?);
     let copied = is_reply_copied(alloc, &conflict, ("conflict", dirty));
     drop(conflict);
     copied
@@ -210,7 +188,7 @@ fn renewed_stamp(command: &Command) -> u64 {
             dirty: Some(stamp),
             overridden: Some(Status::Down),
             replicated: true,
-        } => stamp.value,
+        } => stamp.value(),
         _ => 0,
     }
 }
@@ -238,7 +216,7 @@ fn renewals_are_copied(rt: HostRuntime) {
 
 /// A registration by a client.
 fn registration(alloc: Global) -> Result<Command, Fault> {
-    let instance = instance(alloc)?;
+    let instance = instance(alloc, "i1", 7, 90)?;
     Ok(Command::Register {
         instance: BoxedInstance::new(alloc, instance)?,
         replicated: false,
@@ -251,7 +229,7 @@ fn registered_secs(command: &Command) -> u32 {
         Command::Register {
             instance,
             replicated: false,
-        } => instance.secs,
+        } => instance.secs.secs(),
         _ => 0,
     }
 }
@@ -279,12 +257,12 @@ fn registrations_are_copied(rt: HostRuntime) {
 
 /// The durations of an instance that is taken from the heap, and of its copy.
 fn boxed_secs(alloc: Global) -> Result<(u32, u32), Fault> {
-    let boxed = BoxedInstance::new(alloc, instance(alloc)?)?;
+    let boxed = BoxedInstance::new(alloc, instance(alloc, "i1", 7, 90)?)?;
     let copy = boxed.copy_boxed(alloc)?;
-    let copied = copy.secs;
+    let copied = copy.secs.secs();
     drop(copy);
     let instance = boxed.into_inner();
-    let secs = instance.secs;
+    let secs = instance.secs.secs();
     drop(instance);
     Ok((secs, copied))
 }
@@ -437,11 +415,6 @@ fn commands_are_compared(rt: HostRuntime) {
     assert!(rt; is_same_renewal(rt.alloc(), true) == Ok(true));
     assert!(rt; is_same_renewal(rt.alloc(), false) == Ok(false));
     assert!(rt; !is_drain_a_loss(1));
-}
-
-/// Self-preservation is on, at 85%, with a renewal each 30 s and a pass each minute.
-fn settings() -> Result<Config, Fault> {
-    Config::new(true, 85, 30, 60_000)
 }
 
 /// Whether a change to those settings is that to these.

@@ -1,5 +1,6 @@
 //! Values from the rules of Eureka's batches, worked out by hand.
-use eu_base::{Action, App, Fault, Id, Key, Moment, Status, Task};
+use eu_base::{Action, Fault, Moment, Status, Task};
+use eu_fixtures::{key, moment};
 use eu_model::Tasks;
 use eu_outbox::Outbox;
 use std::alloc::{AllocError, Global};
@@ -21,10 +22,7 @@ const BEAT_C: Call = Call::Put(Action::Heartbeat, "c");
 
 /// A task with the status UP. Each application is A.
 fn task(alloc: Global, action: Action, id: &str, queued: Moment) -> Result<Task, Fault> {
-    let key = Key {
-        app: App::read(alloc, "A")?,
-        id: Id::read(alloc, id)?,
-    };
+    let key = key(alloc, id)?;
     Ok(Task {
         action,
         key,
@@ -34,10 +32,6 @@ fn task(alloc: Global, action: Action, id: &str, queued: Moment) -> Result<Task,
     })
 }
 
-fn at(ms: u64) -> Result<Moment, Fault> {
-    Moment::new(ms).ok_or(Fault::BadValue)
-}
-
 fn put(
     alloc: Global,
     outbox: &mut Outbox,
@@ -45,7 +39,7 @@ fn put(
     id: &str,
     now: Moment,
 ) -> Result<(), Fault> {
-    let task = task(alloc, action, id, at(0)?)?;
+    let task = task(alloc, action, id, moment(0)?)?;
     outbox.put(task, now)?;
     Ok(())
 }
@@ -142,7 +136,7 @@ fn step(
 fn play(alloc: Global, outbox: &mut Outbox, calls: &[(u64, Call)]) -> Result<String, Fault> {
     let mut out = String::new(alloc);
     for (ms, call) in calls {
-        step(alloc, outbox, &mut out, *call, at(*ms)?)?;
+        step(alloc, outbox, &mut out, *call, moment(*ms)?)?;
     }
     Ok(out)
 }
@@ -165,42 +159,42 @@ fn is_next(
     count: usize,
     ends: (&str, &str),
 ) -> Result<bool, Fault> {
-    let batches = outbox.drain(alloc, at(ms)?, 1)?;
+    let batches = outbox.drain(alloc, moment(ms)?, 1)?;
     Ok(are_between(first_of(batches.as_slice()), count, ends.0, ends.1))
 }
 
 /// Puts one more heartbeat than may wait. Whether the first is dropped.
 fn put_too_many(alloc: Global, outbox: &mut Outbox) -> Result<bool, Fault> {
-    fill(alloc, outbox, 0, 10_001, at(0)?)?;
+    fill(alloc, outbox, 0, 10_001, moment(0)?)?;
     is_next(alloc, outbox, 1, 250, ("1", "250"))
 }
 
 /// Loses the batch in flight, where so many wait as may. Whether it is dropped.
 fn lose_too_many(alloc: Global, outbox: &mut Outbox) -> Result<bool, Fault> {
-    fill(alloc, outbox, 20_000, 20_250, at(0)?)?;
-    outbox.lost(at(1)?)?;
+    fill(alloc, outbox, 20_000, 20_250, moment(0)?)?;
+    outbox.lost(moment(1)?)?;
     is_next(alloc, outbox, 1, 250, ("251", "500"))
 }
 
 /// Puts more than one batch. Whether the first batch has the first of them.
 fn put_many(alloc: Global, outbox: &mut Outbox) -> Result<bool, Fault> {
-    fill(alloc, outbox, 0, 300, at(0)?)?;
+    fill(alloc, outbox, 0, 300, moment(0)?)?;
     is_next(alloc, outbox, 1, 250, ("0", "249"))
 }
 
 /// Puts some that wait, and one that is in flight. Whether they come in that order.
 fn put_some_again(alloc: Global, outbox: &mut Outbox) -> Result<bool, Fault> {
-    fill(alloc, outbox, 250, 252, at(2)?)?;
-    fill(alloc, outbox, 0, 1, at(2)?)?;
-    outbox.landed([200; 250].as_slice(), at(3)?)?;
+    fill(alloc, outbox, 250, 252, moment(2)?)?;
+    fill(alloc, outbox, 0, 1, moment(2)?)?;
+    outbox.landed([200; 250].as_slice(), moment(3)?)?;
     is_next(alloc, outbox, 30_001, 3, ("250", "0"))
 }
 
 /// How many batches there are of one task, where so many are asked for.
 fn batches(alloc: Global, outbox: &mut Outbox, copies: u32) -> Result<usize, Fault> {
     outbox.reserve()?;
-    fill(alloc, outbox, 0, 1, at(0)?)?;
-    let batches = outbox.drain(alloc, at(0)?, copies)?;
+    fill(alloc, outbox, 0, 1, moment(0)?)?;
+    let batches = outbox.drain(alloc, moment(0)?, copies)?;
     Ok(batches.len())
 }
 
@@ -269,7 +263,7 @@ fn all_refusals(
     alloc: Global,
     outbox: &mut Outbox,
 ) -> Result<(Refusals, Refusals, Refusals), Fault> {
-    let now = at(0)?;
+    let now = moment(0)?;
     let none = refusals(outbox, now);
     put(alloc, outbox, Action::Heartbeat, "a", now)?;
     let waits = refusals(outbox, now);

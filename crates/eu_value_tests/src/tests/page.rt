@@ -1,29 +1,22 @@
 //! Hash codes and status pages, with what they say worked out by hand.
-use eu_base::{App, Fault, Id, Instance, Key, Rest, Status};
+use eu_base::{Fault, Instance, Status};
+use eu_fixtures::instance;
 use eu_model::{Counts, Listed, Times};
 use eu_page::{hash_code, page_of, status_page};
 use std::alloc::Global;
 
-fn instance(alloc: Global, status: Status) -> Result<Instance, Fault> {
-    let app = App::read(alloc, "a")?;
-    let id = Id::read(alloc, "i1")?;
-    let rest = Rest::of_host(alloc, "h")?;
-    Ok(Instance {
-        key: Key { app, id },
-        status,
-        overridden: Status::Unknown,
-        dirty: 0,
-        secs: 90,
-        interval: 30,
-        rest,
-    })
+/// An instance with that status.
+fn instance_of(alloc: Global, status: Status) -> Result<Instance, Fault> {
+    let mut instance = instance(alloc, "i1", 0, 90)?;
+    instance.status = status;
+    Ok(instance)
 }
 
 /// Leases with these statuses.
 fn listed(alloc: Global, statuses: &[Status]) -> Result<Vec<Listed>, Fault> {
     let mut held = Vec::new(alloc);
     for status in statuses {
-        let instance = instance(alloc, *status)?;
+        let instance = instance_of(alloc, *status)?;
         held.push(Listed {
             instance,
             times: Times {

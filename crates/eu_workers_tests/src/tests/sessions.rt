@@ -1,8 +1,9 @@
 //! Two session workers at once, beside the timers.
 ghost use Rattle.std.specs.Prelude.{◌≡◌};
 
-use eu_base::{Config, Fault, Task};
+use eu_base::{Fault, Task};
 use eu_clock::{FirstChooser, ListClock};
+use eu_fixtures::{REGISTERED, settings};
 use eu_peer::{ItemAnswer, Lost, Peer};
 use eu_routes::Routes;
 use eu_settle::{Closed, settle};
@@ -24,8 +25,6 @@ const HEAD: &str =
 
 const REST: &str =
     "\"app\":\"a\",\"ipAddr\":\"10.0.0.1\",\"status\":\"UP\",\"lastDirtyTimestamp\":\"5\",\"dataCenterInfo\":{\"name\":\"MyOwn\"}}}";
-
-const REGISTERED: &str = "HTTP/1.1 204 No Content\r\n\r\n";
 
 /// A listing of all, before anybody has registered.
 const LISTING: &str = "GET /eureka/apps/ HTTP/1.1\r\nHost: x\r\n\r\n";
@@ -395,7 +394,7 @@ fn run<K: Label + Send + Sync, R: Threads + Wait + Clock + Sync>(
     requires names { (blanks.steps.name ≡ K.steps) × (blanks.counted.name ≡ K.counted) × (blanks.added.name ≡ K.added) × (blanks.removed.name ≡ K.removed) }
     requires parts { (blanks.steps.parts ≡ K.parts) × (blanks.counted.parts ≡ K.parts) × (blanks.added.parts ≡ K.parts) × (blanks.removed.parts ≡ K.parts) × (K.parts ≡ 1025) }
 {
-    let shared: Shared<K> = Shared::open(alloc, Config::new(true, 85, 30, 60_000)?, 0, 0, blanks)?;
+    let shared: Shared<K> = Shared::open(alloc, settings()?, 0, 0, blanks)?;
     run_on(rt, alloc, shared)
 }
 

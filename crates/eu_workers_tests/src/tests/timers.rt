@@ -1,8 +1,9 @@
 //! Turns of the timers.
 ghost use Rattle.std.specs.Prelude.{◌≡◌};
 
-use eu_base::{Config, Fault, Moment};
+use eu_base::{Fault, Moment};
 use eu_clock::{FirstChooser, ListClock};
+use eu_fixtures::settings;
 use eu_model::Command;
 use eu_routes::Routes;
 use eu_shared::{Blanks, Label, Pass, Shared, close};
@@ -175,7 +176,7 @@ fn work<K: Label, R: Wait>(
     requires names { (blanks.steps.name ≡ K.steps) × (blanks.counted.name ≡ K.counted) × (blanks.added.name ≡ K.added) × (blanks.removed.name ≡ K.removed) }
     requires parts { (blanks.steps.parts ≡ K.parts) × (blanks.counted.parts ≡ K.parts) × (blanks.added.parts ≡ K.parts) × (blanks.removed.parts ≡ K.parts) × (K.parts ≡ 1025) }
 {
-    let shared: Shared<K> = Shared::open(alloc, Config::new(true, 85, 30, 60_000)?, 0, 0, blanks)?;
+    let shared: Shared<K> = Shared::open(alloc, settings()?, 0, 0, blanks)?;
     let timers = work_on(rt, alloc, &shared, go, limits);
     drop(shared);
     timers
@@ -371,7 +372,7 @@ fn leave<K: Label, R: Wait>(
     requires names { (blanks.steps.name ≡ K.steps) × (blanks.counted.name ≡ K.counted) × (blanks.added.name ≡ K.added) × (blanks.removed.name ≡ K.removed) }
     requires parts { (blanks.steps.parts ≡ K.parts) × (blanks.counted.parts ≡ K.parts) × (blanks.added.parts ≡ K.parts) × (blanks.removed.parts ≡ K.parts) × (K.parts ≡ 1025) }
 {
-    let shared: Shared<K> = Shared::open(alloc, Config::new(true, 85, 30, 60_000)?, 0, 0, blanks)?;
+    let shared: Shared<K> = Shared::open(alloc, settings()?, 0, 0, blanks)?;
     leave_of(rt, alloc, turns, shared)
 }
 

@@ -1,9 +1,8 @@
-use Rattle.std.proofs.Common.{◌≡◌, sym, subst}
+use Rattle.std.proofs.Common.{◌≡◌, ℕ, sym, subst}
 use Rattle.std.specs.Prelude.{IfOk, Option}
 use Rattle.std.specs.Option.{option_copied}
 use Rattle.eu_base.specs.declared.statuses.Status.{Status}
 use Rattle.eu_base.specs.declared.tasks.Task.{Task}
-use Rattle.eu_base.specs.declared.times.Stamp.{Stamp}
 use Rattle.eu_model.specs.declared.commands.Command.{Command}
 use Rattle.eu_model.specs.declared.commands.Command.TheVariants.{Renew, SetStatus, UnsetStatus}
 use Rattle.eu_model.specs.Server.{task_for}
@@ -31,4 +30,4 @@ returns-in-UnsetStatus c =
     let is : Command → Option Task → Type 0 = λ command t. t ≡ task_for command c.args.moment c.args.reply.now (option_copied c.args.held) in
     subst (λ command. IfOk c.task_of_unset.result (is command)) (sym c.in-UnsetStatus.is)
     (of_any (λ dirty. is (UnsetStatus k c.in-UnsetStatus.status dirty c.in-UnsetStatus.replicated)) c.in-UnsetStatus.dirty c.task_of_unset.result
-    (of_any (λ suggested t. (dirty : Option Stamp) → is (UnsetStatus k suggested dirty c.in-UnsetStatus.replicated) t) c.in-UnsetStatus.status c.task_of_unset.result c.task_of_unset.ensures))
+    (of_any (λ suggested t. (dirty : Option ℕ) → is (UnsetStatus k suggested dirty c.in-UnsetStatus.replicated) t) c.in-UnsetStatus.status c.task_of_unset.result c.task_of_unset.ensures))

@@ -1,11 +1,9 @@
 use Rattle.std.proofs.Common.{refl, ap, ◌∙◌}
 use Rattle.std.specs.Prelude.{Some}
 use Rattle.eu_base.specs.declared.instances.Instance.{Instance}
-use Rattle.eu_base.proofs.InstanceLemmas.{data_of}
-use Rattle.eu_model.specs.declared.views.Listed.{Listed}
 use Rattle.eu_model.specs.Override.{rule}
 use Rattle.eu_model.specs.Change.{row_after, up_after}
-use Rattle.eu_lease.specs.Term.{Term, times_of, anew}
+use Rattle.eu_lease.specs.Term.{Term, anew, listed_with}
 use Rattle.eu_core.proofs.JoinLemmas.{joins_from, chosen_over}
 use Rattle.eu_core.proofs.joins.join_over.Goals as goal
 
@@ -15,12 +13,11 @@ returns-clause-joins c =
     let n = c.args.instance.now in
     let row = c.args.known.row in
     let s = c.settle-settled.ensures in
+    let term = c.begun-lease.ensures ∙ ap (λ (a : Term). let b : Term = record a { up = up_after a.up c.settle-settled.result.status c.args.moment } in b)
+    (c.anew-anew.ensures ∙ ap (λ a. anew a c.args.moment n.secs) c.lease.ensures) in
     joins_from _ _ n n c.args.replicated c.args.moment (Some l) c.new-held.result row _ _
     refl refl refl refl
     (chosen_over l n c.requires)
     s.row s.overridden
     (s.status ∙ ap (λ (i : Instance). rule n.status (row_after row n.overridden) (Some i.status) c.args.replicated) c.instance.ensures)
-    (ap (λ (y : Listed). data_of y.instance) c.new-held.ensures ∙ ap data_of c.in_ok-instance.ensures)
-    (ap (λ (y : Listed). y.times) c.new-held.ensures
-    ∙ ap times_of (c.begun-lease.ensures ∙ ap (λ (a : Term). let b : Term = record a { up = up_after a.up c.settle-settled.result.status c.args.moment } in b)
-    (c.anew-anew.ensures ∙ ap (λ a. anew a c.args.moment n.secs) c.lease.ensures)))
+    (c.new-held.ensures ∙ (λ i. listed_with (c.in_ok-instance.ensures i) (term i)))

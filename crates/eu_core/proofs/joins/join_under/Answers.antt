@@ -3,7 +3,7 @@ use Rattle.std.specs.Prelude.{Some, unwrap_or}
 use Rattle.eu_base.specs.declared.instances.Instance.{Instance}
 use Rattle.eu_model.specs.Override.{rule}
 use Rattle.eu_model.specs.Change.{row_after, up_after}
-use Rattle.eu_lease.specs.Term.{Term, times_of, anew}
+use Rattle.eu_lease.specs.Term.{Term, anew}
 use Rattle.eu_store.specs.Stored.{rejoined}
 use Rattle.eu_core.proofs.JoinLemmas.{joins_from, chosen_under}
 use Rattle.eu_core.proofs.joins.join_under.Goals as goal
@@ -12,16 +12,17 @@ pub returns-clause-joins : goal.returns-clause-joins
 returns-clause-joins c =
     let l = c.args.held.now in
     let n = c.args.newcomer.now in
-    let j : Instance = record l.instance { secs = n.secs; secs_bound = n.secs_bound } in
+    let j : Instance = record l.instance { secs = n.secs } in
     let row = c.args.known.row in
+    let x = c.settle-settled.result in
     let s = c.settle-settled.ensures in
     let own = c.instance-own.ensures in
-    joins_from _ _ n j c.args.replicated c.args.moment (Some l) (rejoined n c.settle-settled.result.status c.settle-settled.result.overridden c.begun-lease.result l) row _ _
-    (ap (λ (i : Instance). Some (rejoined i c.settle-settled.result.status c.settle-settled.result.overridden c.begun-lease.result l)) (c.in_ok-newcomer.ensures.ok ∙ c.in_ok-copy.ensures)) refl refl refl
+    let term = c.begun-lease.ensures ∙ ap (λ (a : Term). let b : Term = record a { up = up_after a.up x.status c.args.moment } in b)
+    (c.anew-anew.ensures ∙ ap (λ a. anew a c.args.moment n.secs) c.lease.ensures) in
+    joins_from _ _ n j c.args.replicated c.args.moment (Some l) (rejoined x.status x.overridden c.begun-lease.result l) row _ _
+    refl refl refl refl
     (chosen_under l n c.requires)
     (s.row ∙ ap (λ (i : Instance). row_after row i.overridden) own)
     (s.overridden ∙ ap (λ (i : Instance). unwrap_or (row_after row i.overridden) i.overridden) own)
     (s.status ∙ ap (λ (i : Instance). rule i.status (row_after row i.overridden) (Some i.status) c.args.replicated) own)
-    refl
-    (ap times_of (c.begun-lease.ensures ∙ ap (λ (a : Term). let b : Term = record a { up = up_after a.up c.settle-settled.result.status c.args.moment } in b)
-    (c.anew-anew.ensures ∙ ap (λ a. anew a c.args.moment n.secs) c.lease.ensures)))
+    (λ i. rejoined x.status x.overridden (term i) l)

@@ -1,9 +1,7 @@
-use Rattle.std.proofs.Common.{◌≡◌, [], ◌∷◌, ◌++◌, map, sym, ap, ◌∙◌}
-use Rattle.std.proofs.lemmas.List.{map-append}
+use Rattle.std.proofs.Common.{map, sym, ap, ◌∙◌}
 use Rattle.std.specs.Vec.Iter.{into_iter_items}
 use Rattle.serde_json.specs.View.{items_of, view}
 use Rattle.eu_json.specs.Batch.{of_items}
-use Rattle.eu_json.specs.Said.{said_by}
 use Rattle.eu_json.proofs.ItemLemmas.{item_read, onto}
 use Rattle.eu_json.proofs.batch.of_items.Goals as goal
 
@@ -13,13 +11,12 @@ loop-item-preserved c =
     let before = c.loop-item.commands.items in
     let command = c.in_ok-of_item.field-0 in
     let left = into_iter_items c.next.new.self in
-    let done : map said_by c.push.new.self.items ≡ map said_by before ++ said_by command ∷ [] = ap (map said_by) c.in_ok-push.ensures.items ∙ map-append said_by before (command ∷ []) in
     record {
       next = tt;
       finite = tt;
       read =
-          ap (λ l. onto l (of_items moment (items_of (map view left)))) done
-          ∙ sym (item_read moment (map said_by before) (said_by command) (view c.in-Some.item) (items_of (map view left)) c.in_ok-of_item.ensures)
-          ∙ ap (λ vs. onto (map said_by before) (of_items moment (items_of (map view vs)))) (sym c.in-Some.ensures.steps.0)
+          ap (λ l. onto l (of_items moment (items_of (map view left)))) c.in_ok-push.ensures.items
+          ∙ sym (item_read moment before command (view c.in-Some.item) (items_of (map view left)) c.in_ok-of_item.ensures)
+          ∙ ap (λ vs. onto before (of_items moment (items_of (map view vs)))) (sym c.in-Some.ensures.steps.0)
           ∙ c.loop-item.invariant.read;
     }

@@ -12,7 +12,9 @@ use Rattle.eu_json.proofs.batch_write.batch_text.Goals as goal
 comes_back : {E : Type 0} (r : Result (String Global) E) (d : Data) (ts : List Task) → IfOk r (λ s. depth d ≤ max_depth → read (string_bytes s) ≡ Some d) → d ≡ batch_tree ts
     → IfOk r (λ s. IsBatch ts → depth (batch_tree ts) ≤ max_depth → SaysTasks (string_bytes s) ts)
 comes_back (Ok s) d ts back is =
-    λ sound deep. batches_come_back ts (string_bytes s) sound (back (subst (λ (t : Data). depth t ≤ max_depth) (sym is) deep) ∙ ap Some is)
+    λ sound deep.
+    let asked = batches_come_back ts sound in
+    (asked.0, asked.1, asked.2 (string_bytes s) (back (subst (λ (t : Data). depth t ≤ max_depth) (sym is) deep) ∙ ap Some is))
 comes_back (Err e) d ts back is = tt
 
 pub returns-clause-comes_back : goal.returns-clause-comes_back

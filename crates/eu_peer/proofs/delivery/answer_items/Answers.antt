@@ -1,7 +1,7 @@
 use Rattle.std.proofs.Common.{◌++◌, ◌∷◌, [], List, Option, arith, ap, sym, ◌∙◌, append_assoc, length}
 use Rattle.std.proofs.lemmas.Grind.{common_steps}
 use Rattle.eu_model.specs.declared.commands.Command.{Command}
-use Rattle.eu_session.proofs.ChainLemmas.{pairs_push}
+use Rattle.eu_desk.proofs.ChainLemmas.{pairs_push}
 use Rattle.eu_peer.proofs.delivery.answer_items.Goals as goal
 
 pub loop-command-preserved : goal.loop-command-preserved

@@ -16,4 +16,4 @@ returns c =
     let text = c.args.text.now in
     let plus = starts_char 43 text c.starts_with.result c.starts_with.ensures.cases (omega arith) (omega arith) in
     let h = parse_plain digits 64 text c.parse.result c.parse.ensures.value.0 (λ e. let yes = plus.1 e in cc) in
-    parsed text c.parse.result c.in_ok-ok.field-0 c.new.result h (sym c.ok.ensures.value ∙ c.in_ok-ok.was) (omega arith) c.new.ensures.some c.new.ensures.none
+    parsed text c.parse.result c.in_ok-ok.field-0 c.new.result h (sym c.ok.ensures.value ∙ c.in_ok-ok.was) (omega arith) c.new.ensures

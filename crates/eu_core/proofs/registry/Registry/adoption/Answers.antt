@@ -45,7 +45,6 @@ returns-clause-decides c =
           (adopt_answers n t p (ok.ok n.key c.requires.held));
       memory = adopt_refused n t p OutOfMemory (subst (λ o. IsRefusal o OutOfMemory) (sym (ok.ok n.key c.requires.held)) refl);
       ready = record {
-        of = c.in_ok-decide_join.ensures.of;
         new = c.in_ok-decide_join.ensures.new p.leases c.requires.held ok.few;
         bound = subst (λ e. e ≤ 2 ^ 40) (sym joins.expected_is) ok.bound;
         countable = uncounted_ready _ p.since joins.counted_is;

@@ -42,7 +42,6 @@ returns-clause-decides c =
           (register_answers n a.replicated t p (ok.ok n.key c.requires.held));
       memory = register_refused n a.replicated t p OutOfMemory (subst (λ o. IsRefusal o OutOfMemory) (sym (ok.ok n.key c.requires.held)) refl);
       ready = record {
-        of = c.in_ok-decide_join.ensures.of;
         new = c.in_ok-decide_join.ensures.new p.leases c.requires.held ok.few;
         bound = subst (λ e. e ≤ 2 ^ 40) (sym joins.expected_is) ok.bound;
         countable = uncounted_ready _ p.since joins.counted_is;

@@ -1,5 +1,0 @@
-//! Tests of accepted connections and of the timers' pace.
-#![tactic(auto)]
-
-#[cfg(test)]
-mod tests;

@@ -1,5 +1,0 @@
-//! Tests of peers.
-#![tactic(auto)]
-
-#[cfg(test)]
-mod tests;

@@ -1,4 +1,0 @@
-//! The tests, by what they are of.
-mod framing;
-mod memory;
-mod routes;

@@ -1,0 +1,5 @@
+pub mod Desks
+pub mod Alike
+pub mod Scripts
+pub mod Audits
+pub mod Texts

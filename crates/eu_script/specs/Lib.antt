@@ -1,0 +1,5 @@
+pub mod Texts
+pub mod Script
+pub mod Audit
+pub mod Desk
+pub mod Journal

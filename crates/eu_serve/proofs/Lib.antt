@@ -1,3 +1,0 @@
-pub mod Journals
-pub mod Adding
-pub mod Ending

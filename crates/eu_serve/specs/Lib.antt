@@ -1,4 +1,0 @@
-pub mod Ends
-pub mod Served
-pub mod Staff
-pub mod Journal

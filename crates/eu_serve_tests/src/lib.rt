@@ -1,5 +1,0 @@
-//! Tests of whole servers.
-#![tactic(auto)]
-
-#[cfg(test)]
-mod tests;

@@ -1,0 +1,480 @@
+//! A server.
+ghost use Rattle.std.specs.Prelude.{◌≡◌, ◌≤◌, ◌⊎◌, ◌+◌, ℕ, [], ◌∷◌, ◌++◌, true, false, if◌then◌else◌, max, min, take, vec_len, Ok, Err, IfOk, IfErr, OnOk};
+ghost use Rattle.std.specs.Vec.{vec_capacity};
+ghost use Rattle.std.specs.Io.KnownBytes.{Appends, Keeps};
+ghost use Rattle.eu_book.specs.Account.{IsLawful};
+ghost use Rattle.eu_book.specs.Peers.{state_of};
+ghost use Rattle.eu_server.specs.Ends.{IsClose, IsEnd, IsStart};
+ghost use Rattle.eu_server.specs.Journal.{IsUntold, closed_text};
+ghost use Rattle.eu_server.specs.Served.{served_text};
+ghost use Rattle.eu_server.specs.Staff.{AreSessions, AreTimers, IsReadyFor, IsStaff};
+ghost use Rattle.eu_settle.specs.Settled.{IsMismatch, IsSettled};
+ghost use Rattle.eu_settle.specs.declared.settling.Mismatch.{Mismatch};
+ghost use Rattle.eu_shared.specs.Closing.{account_of};
+
+use crate::no_peer::NoPeer;
+use eu_accept::{Acceptor, Connections, Timeouts};
+use eu_base::{Config, Fault};
+use eu_clock::{Chooser, SystemClock};
+use eu_gate::{Admission, MOST_WORKERS, Periods};
+use eu_journal_text::{WriteError, write_journal};
+use eu_routes::Routes;
+use eu_settle::{Closed, settle};
+use eu_shared::{Blanks, Label, Pass, Shared, Unclosed, close};
+use eu_stream::Sink;
+use eu_workers::{Job, Site, Work, Worker, run_all};
+use std::alloc::Global;
+use std::io::Write;
+use std::marker::Brand;
+use std::net::TcpListener;
+use std::sync::Wait;
+use std::thread::Threads;
+use std::time::Clock;
+
+/// The workers that are timers.
+const TIMERS: usize = 3;
+
+/// What a server is to do. `Plan::of_server` is that of an ordinary one.
+#[derive(Clone, Copy)]
+pub struct Plan {
+    /// The settings of its registry.
+    pub config: Config,
+    /// How many clients it expects at first.
+    pub expected: u32,
+    /// How many connections it serves at once, 1 to 16; 0 counts as 1, and more than 16 as 16.
+    pub workers: u32,
+    /// After how many connections it ends.
+    pub sessions: u32,
+    /// The milliseconds between two turns of each timer; 0 counts as 1.
+    pub periods: Periods,
+    /// For how many milliseconds it waits for a connection, and how much of one it drops at its end.
+    pub timeouts: Timeouts,
+}
+
+impl Plan {
+    /// That of an ordinary server with these settings, which expects so many clients, and serves so many connections by so many workers:
+    /// its evictor takes a turn each `evict_ms` of the settings, the bucket ends a minute each `BUCKET_MS`, the threshold is updated each
+    /// `THRESHOLD_MS`, and its timeouts are `READ_TIMEOUT_MS`, `WRITE_TIMEOUT_MS`, `LINGER_MS` and `LINGER_BYTES`.
+    pub fn of_server(config: Config, expected: u32, workers: u32, sessions: u32) -> Plan
+        ensures settings { (result.config ≡ config) × (result.expected ≡ expected) × (result.workers ≡ workers) × (result.sessions ≡ sessions) }
+        ensures periods { result.periods ≡ record { evictor = config.evict_ms; bucket = 60000; threshold = 900000 } }
+        ensures timeouts { result.timeouts ≡ record { read = 10000; write = 10000; linger = 1000; linger_bytes = 65536 } }
+    {
+        Plan {
+            config,
+            expected,
+            workers,
+            sessions,
+            periods: Periods::of_server(config.evict_ms),
+            timeouts: Timeouts::of_server(),
+        }
+    }
+}
+
+/// How many workers of sessions a server has by a plan of so many: 1 to 16.
+fn workers_of(wanted: u32) -> u32
+    ensures value { result ≡ max 1 (min wanted 16) }
+    ensures few { result ≤ 16 }
+{
+    wanted.clamp(1, MOST_WORKERS)
+}
+
+/// How many connections a server by this plan accepts, and how many workers look for them: as many as it has.
+fn admission_of(plan: &Plan) -> Admission
+    ensures { result ≡ record { left = plan.now.sessions; workers = max 1 (min plan.now.workers 16); failed = false } }
+{
+    let workers = workers_of(plan.workers);
+    Admission::new(plan.sessions, workers)
+}
+
+/// A worker of a server, over a book that `K` names.
+type ServerWorker<'a, K, R, H> = Worker<K, Connections<'a, R>, SystemClock<'a, R>, H, NoPeer>;
+
+/// A worker that is ready for this work, in as many turns as can be counted.
+fn job<'a, K: Label, R: Wait + Clock, H: Chooser>(
+    rt: &'a R,
+    pass: Pass<K>,
+    work: Work<Connections<'a, R>, H, NoPeer>,
+) -> ServerWorker<'a, K, R, H>
+    ensures { IsReadyFor work.entry result }
+{
+    Worker::Ready(Job {
+        pass,
+        clock: SystemClock::new(rt),
+        limit: u64::MAX,
+        work,
+    })
+}
+
+/// Adds a worker that is ready for this work, with a pass of its own. `OutOfMemory`, and the fault of `Shared::pass`.
+fn add<'a, K: Label, R: Wait + Clock, H: Chooser + Drop>(
+    workers: &mut Vec<ServerWorker<'a, K, R, H>>,
+    rt: &'a R,
+    alloc: Global,
+    shared: &Shared<K>,
+    work: Work<Connections<'a, R>, H, NoPeer>,
+) -> Result<(), Fault>
+    ensures made { OnOk result ((worker : _) × IsReadyFor work.entry worker × (workers.new.items ≡ workers.old.items ++ worker ∷ [])) }
+    ensures fault { IfErr result IsStart }
+{
+    let pass = shared.pass(rt, alloc)?;
+    workers.push(job(rt, pass, work))?;
+    Ok(())
+}
+
+/// Adds so many workers of sessions. The faults are those of `add`.
+fn add_sessions<'a, K: Label, R: Wait + Clock, H: Chooser + Drop>(
+    workers: &mut Vec<ServerWorker<'a, K, R, H>>,
+    rt: &'a R,
+    alloc: Global,
+    shared: &Shared<K>,
+    acceptor: &'a Acceptor<'a, R>,
+    count: u32,
+) -> Result<(), Fault>
+    ensures made { OnOk result ((sessions : _) × AreSessions count sessions × (workers.new.items ≡ workers.old.items ++ sessions)) }
+    ensures fault { IfErr result IsStart }
+{
+    for _ in 0..count {
+        let source = Connections { acceptor };
+        add(workers, rt, alloc, shared, Work::Sessions { source })?;
+    }
+    Ok(())
+}
+
+/// Adds the evictor, the bucket's and the threshold's worker. The faults are those of `add`.
+fn add_timers<'a, K: Label, R: Wait + Clock, H: Chooser + Drop>(
+    workers: &mut Vec<ServerWorker<'a, K, R, H>>,
+    rt: &'a R,
+    alloc: Global,
+    shared: &Shared<K>,
+    chooser: H,
+) -> Result<(), Fault>
+    ensures made { OnOk result ((timers : _) × AreTimers chooser timers × (workers.new.items ≡ workers.old.items ++ timers)) }
+    ensures fault { IfErr result IsStart }
+{
+    add(workers, rt, alloc, shared, Work::Evictor { chooser })?;
+    add(workers, rt, alloc, shared, Work::Bucket)?;
+    add(workers, rt, alloc, shared, Work::Threshold)
+}
+
+/// The workers of a server by this plan: those of sessions, and then those of the timers. `OutOfMemory`, and the fault of `Shared::pass`.
+fn make_workers<'a, K: Label, R: Wait + Clock, H: Chooser + Drop>(
+    rt: &'a R,
+    alloc: Global,
+    shared: &Shared<K>,
+    acceptor: &'a Acceptor<'a, R>,
+    plan: &Plan,
+    chooser: H,
+) -> Result<Vec<ServerWorker<'a, K, R, H>>, Fault>
+    ensures staff { IfOk result (λ staff. IsStaff (max 1 (min plan.now.workers 16)) chooser staff.items) }
+    ensures fault { IfErr result IsStart }
+{
+    let count = workers_of(plan.workers);
+    let mut workers = Vec::with_capacity(alloc, count as usize + TIMERS)?;
+    add_sessions(&mut workers, rt, alloc, shared, acceptor, count)?;
+    add_timers(&mut workers, rt, alloc, shared, chooser)?;
+    Ok(workers)
+}
+
+/// Takes the passes back, into room that is there, and tells how many connections the workers of sessions served in all. Takes no memory.
+fn gather<K: Label, R: Wait + Clock, H: Chooser + Drop>(
+    workers: Vec<ServerWorker<'_, K, R, H>>,
+    passes: &mut Vec<Pass<K>>,
+) -> u64
+    requires room { vec_len passes.old + vec_len workers ≤ vec_capacity passes.old }
+{
+    let mut served = 0u64;
+    for worker in workers {
+        let Worker::Done(pass, ended, work) = worker else {
+            continue;
+        };
+        if matches!(work, Work::Sessions { .. }) {
+            served = served.saturating_add(ended.turns);
+        }
+        drop(work);
+        passes.push_reserved(pass);
+    }
+    served
+}
+
+/// Has all workers of a server by this plan work until the sessions have ended. Gives their passes, room for which is made before any
+/// works, and tells how many connections were served. `OutOfMemory`, and the faults of `make_workers`: all before any works.
+fn run_workers<
+    'a,
+    K: Label + Send + Sync,
+    R: Threads + Wait + Clock + Sync,
+    H: Chooser + Send + Drop,
+>(
+    rt: &'a R,
+    alloc: Global,
+    shared: &'a Shared<K>,
+    acceptor: &'a Acceptor<'a, R>,
+    plan: &Plan,
+    chooser: H,
+) -> Result<(Vec<Pass<K>>, u64), Fault>
+    ensures { IfErr result IsStart }
+{
+    let routes = Routes::new(alloc)?;
+    let mut workers = make_workers(rt, alloc, shared, acceptor, plan, chooser)?;
+    let mut passes = Vec::with_capacity(alloc, workers.len())?;
+    let site = Site {
+        rt,
+        alloc,
+        shared,
+        routes: &routes,
+        gate: &acceptor.pace,
+    };
+    run_all(&site, workers.as_mut_slice());
+    let served = gather(workers, &mut passes);
+    Ok((passes, served))
+}
+
+/// Gives a book back that was closed and is settled: the fault of the close where it wasn't closed, `Mismatch` where a worker didn't
+/// log its part of it.
+fn judge<K: Label>(closed: Result<Closed, Unclosed<K>>) -> Result<Closed, Fault>
+    ensures unclosed { IfErr closed (λ u. result ≡ Err u.fault) }
+    ensures settled { IfOk result (λ c. (closed ≡ Ok c) × IsSettled c.first c.logs.items c.entries.items) }
+    ensures mismatch { IfOk closed (λ c. IfErr result (λ f. (f ≡ Fault.Mismatch) × ((m : Mismatch) × IsMismatch c.first c.logs.items c.entries.items m.pass m.place))) }
+{
+    let closed = match closed {
+        Ok(closed) => closed,
+        Err(unclosed) => return Err(unclosed.fault),
+    };
+    match settle(&closed) {
+        Ok(()) => Ok(closed),
+        Err(_) => Err(Fault::Mismatch),
+    }
+}
+
+/// Closes a book, for which nobody waits any more (`eu_shared::close`), and settles it. The faults are those of `judge`.
+fn close_book<K: Label>(
+    shared: Shared<K>,
+    alloc: Global,
+    passes: Vec<Pass<K>>,
+) -> Result<Closed, Fault>
+    ensures lawful { IfOk result (λ c. IsLawful (account_of c)) }
+    ensures plain { IfOk result (λ c. (c.base ≡ state_of (account_of c).base) × (c.end ≡ state_of (account_of c).state)) }
+    ensures settled { IfOk result (λ c. IsSettled c.first c.logs.items c.entries.items) }
+    ensures fault { IfErr result IsClose }
+{
+    judge(close(shared, alloc, passes))
+}
+
+/// What a server did that came to a good end.
+#[derive(Drop)]
+pub struct Outcome {
+    /// How many connections were served.
+    pub served: u64,
+    /// The book, closed and settled.
+    pub closed: Closed,
+}
+
+/// Has all workers of a server by this plan work until the sessions have ended, and then closes and settles the book, whether accepting
+/// a connection has failed or not. The faults are those of `run_workers` and `close_book`, never that of an accept.
+fn serve_and_close<
+    K: Label + Send + Sync,
+    R: Threads + Wait + Clock + Sync,
+    H: Chooser + Send + Drop,
+>(
+    rt: &R,
+    alloc: Global,
+    shared: Shared<K>,
+    acceptor: &Acceptor<'_, R>,
+    plan: &Plan,
+    chooser: H,
+) -> Result<Outcome, Fault>
+    ensures lawful { IfOk result (λ o. IsLawful (account_of o.closed)) }
+    ensures plain { IfOk result (λ o. (o.closed.base ≡ state_of (account_of o.closed).base) × (o.closed.end ≡ state_of (account_of o.closed).state)) }
+    ensures settled { IfOk result (λ o. IsSettled o.closed.first o.closed.logs.items o.closed.entries.items) }
+    ensures fault { IfErr result (λ f. IsStart f ⊎ IsClose f) }
+{
+    let (passes, served) = run_workers(rt, alloc, &shared, acceptor, plan, chooser)?;
+    let closed = close_book(shared, alloc, passes)?;
+    Ok(Outcome { served, closed })
+}
+
+/// What a server ends by, of which is known whether accepting a connection has failed: by its other fault, if it has one; else by `Read`,
+/// if that has failed.
+fn judge_accepts(has_failed: bool, outcome: Result<Outcome, Fault>) -> Result<Outcome, Fault>
+    ensures other { IfErr outcome (λ f. result ≡ Err f) }
+    ensures failed { IfOk outcome (λ o. result ≡ (if has_failed then Err Fault.Read else Ok o)) }
+{
+    let outcome = match outcome {
+        Ok(outcome) => outcome,
+        Err(fault) => return Err(fault),
+    };
+    if has_failed {
+        return Err(Fault::Read);
+    }
+    Ok(outcome)
+}
+
+/// Serves by a plan, and gives the book, closed and settled, rather than writing a line: its entries lead from the base to the end, and the
+/// log of each worker, from the first entry's number on, is its part of them.
+///
+/// The blanks are four new ledgers of 1,025 parts each, as `Shared::open` takes them. The faults are those of `serve_by`, and come when they
+/// do there, but for `Write`: nothing is written.
+pub fn serve_book<
+    K: Label + Send + Sync,
+    R: Threads + Wait + Clock + Sync,
+    H: Chooser + Send + Drop,
+>(
+    rt: &R,
+    alloc: Global,
+    listener: &TcpListener,
+    plan: &Plan,
+    chooser: H,
+    blanks: Blanks,
+) -> Result<Outcome, Fault>
+    requires names { (blanks.steps.name ≡ K.steps) × (blanks.counted.name ≡ K.counted) × (blanks.added.name ≡ K.added) × (blanks.removed.name ≡ K.removed) }
+    requires parts { (blanks.steps.parts ≡ K.parts) × (blanks.counted.parts ≡ K.parts) × (blanks.added.parts ≡ K.parts) × (blanks.removed.parts ≡ K.parts) × (K.parts ≡ 1025) }
+    ensures lawful { IfOk result (λ o. IsLawful (account_of o.closed)) }
+    ensures plain { IfOk result (λ o. (o.closed.base ≡ state_of (account_of o.closed).base) × (o.closed.end ≡ state_of (account_of o.closed).state)) }
+    ensures settled { IfOk result (λ o. IsSettled o.closed.first o.closed.logs.items o.closed.entries.items) }
+    ensures fault { IfErr result IsEnd }
+{
+    let shared: Shared<K> = Shared::open(alloc, plan.config, plan.expected, 0, blanks)?;
+    let admission = admission_of(plan);
+    let Ok(acceptor) = Acceptor::new(rt, listener, admission, plan.periods, plan.timeouts) else {
+        return Err(Fault::Read);
+    };
+    let outcome = serve_and_close(rt, alloc, shared, &acceptor, plan, chooser);
+    judge_accepts(acceptor.has_failed(), outcome)
+}
+
+/// Writes how many connections were served. `Write` where that fails.
+fn tell<W: Write>(writer: &mut W, served: u64) -> Result<(), Fault>
+    ensures told { OnOk result (Appends (W.contents writer.old) (W.contents writer.new) (served_text served)) }
+    ensures err { IfErr result (λ f. f ≡ Fault.Write) }
+{
+    if writeln!(writer, "served {served}").is_err() || writer.flush().is_err() {
+        return Err(Fault::Write);
+    }
+    Ok(())
+}
+
+/// Serves by a plan as `serve_book` does, over a book of its own.
+fn serve_new<R: Threads + Wait + Clock + Sync, H: Chooser + Send + Drop>(
+    rt: &R,
+    alloc: Global,
+    listener: &TcpListener,
+    plan: &Plan,
+    chooser: H,
+) -> Result<Outcome, Fault>
+    ensures lawful { IfOk result (λ o. IsLawful (account_of o.closed)) }
+    ensures plain { IfOk result (λ o. (o.closed.base ≡ state_of (account_of o.closed).base) × (o.closed.end ≡ state_of (account_of o.closed).state)) }
+    ensures settled { IfOk result (λ o. IsSettled o.closed.first o.closed.logs.items o.closed.entries.items) }
+    ensures fault { IfErr result IsEnd }
+{
+    serve_book::<Brand, R, H>(rt, alloc, listener, plan, chooser, Blanks::new())
+}
+
+/// Serves so many connections of a listener as the plan says, by its workers, and then writes `served N`, N being how many there were.
+///
+/// A book is opened with the settings and the number expected, without peers. Each accepted connection is one session of
+/// HTTP/1.1 (`eu_session::serve_session`), at the machine's time, of a worker that is free; while none is, connections wait in the
+/// system's queue. Beside the workers of sessions the evictor takes its turns, by the chooser's words, the bucket ends minutes, and the
+/// threshold is updated, each a period apart. Once the sessions have ended, so have these. Then the book is closed, and settled with
+/// what each worker logged.
+///
+/// A read of a connection ends its session after `read` milliseconds of the plan's timeouts, a write after `write`. After its last
+/// response what still comes is dropped, up to `linger_bytes` and for at most `linger` milliseconds, and the connection is closed
+/// (RFC 9112, section 9.6).
+///
+/// # Errors
+///
+/// - `Read` where a connection can't be accepted, for another reason than that it was aborted before, its network failed or a
+///   signal came. No further session begins then; those that began are finished, and the book is closed and settled, before it is
+///   told. Also where the machine's clock can't be read at the start.
+/// - `OutOfMemory` where there is no memory to open the book or for the workers, before a connection is accepted, or to close the book.
+/// - `PassMissing` and `Mismatch` where the book can't be closed or settled.
+/// - `TooManyPasses` by the contract, but nineteen passes are made at most.
+/// - `Write` where `served N` can't be written or flushed.
+///
+/// In all cases but the last nothing is written.
+pub fn serve_by<R: Threads + Wait + Clock + Sync, H: Chooser + Send + Drop, W: Write>(
+    rt: &R,
+    alloc: Global,
+    listener: &TcpListener,
+    plan: &Plan,
+    chooser: H,
+    writer: &mut W,
+) -> Result<(), Fault>
+    ensures told { OnOk result ((n : ℕ) × Appends (W.contents writer.old) (W.contents writer.new) (served_text n)) }
+    ensures untold { IfErr result (λ f. (f ≡ Fault.Write) ⊎ (IsEnd f × (writer.new ≡ writer.old))) }
+{
+    let served = serve_new(rt, alloc, listener, plan, chooser)?.served;
+    tell(writer, served)
+}
+
+/// Writes the text of a closed book's journal, and flushes it. `OutOfMemory` where there is no memory for the text: nothing was written
+/// then. `Write` where a write or the flush failed, now or before: a front of the text was written then.
+fn write_closed<J: Sink>(alloc: Global, journal: &mut J, closed: &Closed) -> Result<(), Fault>
+    ensures written { OnOk result (Appends (J.contents journal.old) (J.contents journal.new) (closed_text closed.now)) }
+    ensures sound { OnOk result (J.failed journal.new ≡ J.failed journal.old) }
+    ensures fault { IfErr result (λ f. (f ≡ Fault.OutOfMemory) ⊎ (f ≡ Fault.Write)) }
+    ensures memory { result ≡ Err Fault.OutOfMemory → Keeps (J.contents journal.old) (J.contents journal.new) }
+    ensures front { result ≡ Err Fault.Write → (k : ℕ) × Appends (J.contents journal.old) (J.contents journal.new) (take k (closed_text closed.now)) }
+    ensures failed { result ≡ Err Fault.Write → J.failed journal.new ≡ true }
+    ensures same_stream { J.stream journal.new ≡ J.stream journal.old }
+{
+    let entries = closed.entries.as_slice();
+    match write_journal(alloc, journal, &closed.base, entries, &closed.end) {
+        Ok(()) => flush(journal),
+        Err(WriteError::Write) => Err(Fault::Write),
+        Err(WriteError::OutOfMemory) => Err(Fault::OutOfMemory),
+    }
+}
+
+/// Flushes a writer. `Write` where that fails.
+fn flush<J: Sink>(journal: &mut J) -> Result<(), Fault>
+    ensures kept { Keeps (J.contents journal.old) (J.contents journal.new) }
+    ensures sound { OnOk result (J.failed journal.new ≡ J.failed journal.old) }
+    ensures fault { IfErr result (λ f. (f ≡ Fault.Write) × (J.failed journal.new ≡ true)) }
+    ensures same_stream { J.stream journal.new ≡ J.stream journal.old }
+{
+    match journal.flush() {
+        Ok(()) => Ok(()),
+        Err(_) => Err(Fault::Write),
+    }
+}
+
+/// Serves by a plan as `serve_by` does, but before `served N` is written, what is left of the journal of the book is written to another
+/// writer, and flushed. It gives what was served, and the book, closed and settled, as `serve_book` does.
+///
+/// What is written there is the text of a journal (`eu_journal_text::journal_text`): the state with which the closed book's journal begins,
+/// its entries, and the state with which it ends. The whole text is in memory before it is written.
+///
+/// # Errors
+///
+/// Those of `serve_by`, each when it comes there, and `OutOfMemory` also where there is no memory for the text: nothing is written then,
+/// neither there nor of `served N`. `Write` comes also where a write or a flush of the journal failed, now or before: then a front of the
+/// text was written there, and nothing of `served N`. Where `Write` comes of `served N`, the text was written whole.
+pub fn serve_with_journal<
+    R: Threads + Wait + Clock + Sync,
+    H: Chooser + Send + Drop,
+    J: Sink,
+    W: Write,
+>(
+    rt: &R,
+    alloc: Global,
+    listener: &TcpListener,
+    plan: &Plan,
+    chooser: H,
+    journal: &mut J,
+    writer: &mut W,
+) -> Result<Outcome, Fault>
+    ensures lawful { IfOk result (λ o. IsLawful (account_of o.closed)) }
+    ensures plain { IfOk result (λ o. (o.closed.base ≡ state_of (account_of o.closed).base) × (o.closed.end ≡ state_of (account_of o.closed).state)) }
+    ensures settled { IfOk result (λ o. IsSettled o.closed.first o.closed.logs.items o.closed.entries.items) }
+    ensures written { IfOk result (λ o. Appends (J.contents journal.old) (J.contents journal.new) (closed_text o.closed)) }
+    ensures told { IfOk result (λ o. Appends (W.contents writer.old) (W.contents writer.new) (served_text o.served)) }
+    ensures untold { IfErr result (λ f. IsUntold (writer.new ≡ writer.old) (J.failed journal.new) (J.contents journal.old) (J.contents journal.new) f) }
+    ensures sound { OnOk result (J.failed journal.new ≡ J.failed journal.old) }
+    ensures same_journal { J.stream journal.new ≡ J.stream journal.old }
+{
+    let outcome = serve_new(rt, alloc, listener, plan, chooser)?;
+    write_closed(alloc, journal, &outcome.closed)?;
+    tell(writer, outcome.served)?;
+    Ok(outcome)
+}

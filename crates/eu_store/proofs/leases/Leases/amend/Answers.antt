@@ -1,0 +1,36 @@
+use Rattle.std.proofs.Common.{◌-◌, ◌≤◌, refl, is_some, length, min, set, sym, ap, ◌∙◌, arith}
+use Rattle.indexmap.specs.IndexMap.{spare, set_value_at}
+use Rattle.eu_store.specs.Stored.{amended}
+use Rattle.eu_store.proofs.MapLemmas.{none_from_is_some}
+use Rattle.eu_store.proofs.TableLemmas.{by_key, get_in, changed_in, unchanged_in}
+use Rattle.eu_store.proofs.IndexLemmas.{deadlines-set, length-set_value_at, written_at}
+use Rattle.eu_store.proofs.leases.Leases.amend.Goals as goal
+
+pub returns-in_default-clause-found : goal.returns-in_default-clause-found
+returns-in_default-clause-found c = c.in_default.ensures.found ∙ sym (ap is_some (get_in by_key c.self.inside.table.entries c.args.self.now.held c.args.key.now _ (ap (λ s. s.held) c.self.view_is) refl))
+
+pub returns-in_default-clause-held : goal.returns-in_default-clause-held
+returns-in_default-clause-held c =
+    let es = c.self.inside.table.entries in
+    let view = ap (λ s. s.held) c.self.view_is in
+    sym view ∙ unchanged_in by_key (amended c.args.amendment) es es c.args.self.now.held c.args.key.now view (sym (none_from_is_some _ (sym c.in_default.ensures.found))) refl
+
+pub invariant_of-self : goal.invariant_of-self
+invariant_of-self c =
+    let es = c.self.inside.table.entries in
+    let short : length (set_value_at es c.in-Some.place c.amend.new.self) ≤ 65536 = omega (arith, c.self.invariant.0, length-set_value_at es c.in-Some.place c.amend.new.self) in
+    (short, c.set.ensures.list ∙ (λ i. set (c.self.invariant.1 i) c.in-Some.place (c.deadline.ensures i)) ∙ sym (deadlines-set es c.in-Some.place c.amend.new.self))
+
+pub returns-clause-found : goal.returns-clause-found
+returns-clause-found c = c.in-Some.ensures.found ∙ sym (ap is_some (get_in by_key c.self.inside.table.entries c.args.self.now.held c.args.key.now _ (ap (λ s. s.held) c.self.view_is) refl))
+
+pub returns-clause-held : goal.returns-clause-held
+returns-clause-held c =
+    let m = c.self.inside.table in
+    let there = c.index_mut-held.ensures.value in
+    changed_in by_key (amended c.args.amendment) m.entries (set_value_at m.entries c.in-Some.place c.amend.new.self) c.args.self.now.held c.args.key.now c.index_mut-held.result.now c.amend.new.self (ap (λ s. s.held) c.self.view_is) (sym there ∙ c.in-Some.ensures.value)
+    (written_at m c.args.key.now c.in-Some.place c.index_mut-held.result.now c.amend.new.self c.in-Some.ensures.unique (sym c.in-Some.ensures.index) there) c.amend.ensures
+
+pub returns-clause-room : goal.returns-clause-room
+returns-clause-room c =
+    (λ i. min (min (spare c.self.inside.table) (c.set.ensures.room i)) (65536 - length-set_value_at c.self.inside.table.entries c.in-Some.place c.amend.new.self i)) ∙ ap (λ s. s.room) c.self.view_is

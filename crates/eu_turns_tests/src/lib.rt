@@ -1,5 +1,0 @@
-//! Tests of the turns of workers.
-#![tactic(auto)]
-
-#[cfg(test)]
-mod tests;

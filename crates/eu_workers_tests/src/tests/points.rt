@@ -1,0 +1,647 @@
+//! The points of the gate that workers pass, with their numbers, and what it does to say `Stop` there.
+ghost use Rattle.std.specs.Prelude.{◌≡◌};
+
+use crate::tests::replicas::registers;
+use eu_base::{Fault, Task};
+use eu_clock::{FirstChooser, ListClock};
+use eu_fixtures::settings;
+use eu_model::Command;
+use eu_peer::{ItemAnswer, Lost, Peer};
+use eu_routes::Routes;
+use eu_shared::{Blanks, Label, Pass, Shared};
+use eu_workers::{Ended, Gate, Go, Job, Point, Site, Source, Work, Worker, run_all};
+use std::alloc::Global;
+use std::io::{self, ErrorKind, Write};
+use std::marker::Brand;
+use std::sync::Wait;
+use std::sync::atomic::{AtomicU64, Ordering};
+use std::test::Fail;
+use std::thread::Threads;
+
+const LISTING: &[u8] = b"GET /eureka/apps/ HTTP/1.1\r\nHost: x\r\n\r\n";
+
+/// A gate that says `Stop` at one point, and counts who passes each, and the flushes that came before it was passed for them.
+#[derive(Drop)]
+struct Counting<'a> {
+    stops: Option<Point>,
+    turns: AtomicU64,
+    reads: AtomicU64,
+    replies: AtomicU64,
+    flushes: &'a AtomicU64,
+    early: AtomicU64,
+}
+
+/// A digit for each worker that is expected, so that a sum of them tells who passed and how often.
+fn digit(who: u32) -> u64 {
+    match who {
+        1 => 1,
+        17 => 10,
+        18 => 100,
+        19 => 1_000,
+        20 => 10_000,
+        27 => 100_000,
+        _ => 1_000_000,
+    }
+}
+
+impl Counting<'_> {
+    fn count(&self, point: Point) -> &AtomicU64 {
+        match point {
+            Point::Turn => &self.turns,
+            Point::Read => &self.reads,
+            Point::Replied => &self.replies,
+        }
+    }
+}
+
+impl Gate for Counting<'_> {
+    fn pass(&self, who: u32, point: Point) -> Go {
+        self.count(point).fetch_add(digit(who), Ordering::SeqCst);
+        if point == Point::Replied {
+            let flushes = self.flushes.load(Ordering::SeqCst);
+            self.early.fetch_add(flushes, Ordering::SeqCst);
+        }
+        if self.stops == Some(point) {
+            Go::Stop
+        } else {
+            Go::On
+        }
+    }
+}
+
+/// A writer that keeps what it is given until it is flushed, or that is broken.
+#[derive(Drop)]
+struct Keeping<'a> {
+    kept: Vec<u8>,
+    is_flushed: bool,
+    is_broken: bool,
+    flushes: &'a AtomicU64,
+}
+
+impl Write for Keeping<'_> {
+    fn write(&mut self, bytes: &[u8]) -> io::Result<usize> {
+        if self.is_broken {
+            return Err(io::Error::from(ErrorKind::BrokenPipe));
+        }
+        self.kept.extend_from_slice(bytes)?;
+        self.is_flushed = false;
+        Ok(bytes.len())
+    }
+
+    fn flush(&mut self) -> io::Result<()> {
+        self.flushes.fetch_add(1, Ordering::SeqCst);
+        self.is_flushed = true;
+        Ok(())
+    }
+}
+
+/// One connection, on which a listing is asked for; counts of those that were taken, of those that ended, and of those that were answered.
+#[derive(Drop)]
+struct Once<'a> {
+    connection: Option<(&'static [u8], Keeping<'a>)>,
+    taken: &'a AtomicU64,
+    ended: &'a AtomicU64,
+    answered: &'a AtomicU64,
+}
+
+impl<'a> Source for Once<'a> {
+    type Reader = &'static [u8];
+
+    type Writer = Keeping<'a>;
+
+    fn next(&mut self) -> Option<(&'static [u8], Keeping<'a>)> {
+        self.taken.fetch_add(1, Ordering::SeqCst);
+        self.connection.take()
+    }
+
+    fn end(&mut self, _reader: &'static [u8], writer: Keeping<'a>) {
+        self.ended.fetch_add(1, Ordering::SeqCst);
+        if writer.is_flushed && writer.kept.starts_with(b"HTTP/1.1 200 OK") {
+            self.answered.fetch_add(1, Ordering::SeqCst);
+        }
+    }
+}
+
+/// A peer that loses all that it is sent, and counts it.
+#[derive(Drop)]
+struct Losing<'a> {
+    sent: &'a AtomicU64,
+}
+
+impl Peer for Losing<'_> {
+    ghost use Rattle.std.specs.Prelude.{◌≡◌, None};
+
+    ghost told = { λ before batch answers after. answers ≡ None };
+
+    fn submit(&mut self, _alloc: Global, batch: &[Task]) -> Result<Vec<ItemAnswer>, Lost> {
+        self.sent.fetch_add(batch.len() as u64, Ordering::SeqCst);
+        Err(Lost)
+    }
+}
+
+/// What was counted beside the gate.
+#[derive(Drop)]
+struct Counts {
+    taken: AtomicU64,
+    ended: AtomicU64,
+    answered: AtomicU64,
+    flushes: AtomicU64,
+    sent: AtomicU64,
+}
+
+/// What stops or fails: all workers at one point of the gate, or what the session writes to.
+#[derive(Clone, Copy)]
+struct Trouble {
+    stops: Option<Point>,
+    is_broken: bool,
+}
+
+/// Nothing does.
+const NONE: Trouble = Trouble {
+    stops: None,
+    is_broken: false,
+};
+
+/// The gate does, at that point.
+fn stops(point: Point) -> Trouble {
+    Trouble {
+        stops: Some(point),
+        is_broken: false,
+    }
+}
+
+type Hand<'a, K> = Worker<K, Once<'a>, ListClock, FirstChooser, Losing<'a>>;
+
+/// What all workers did.
+#[derive(Clone, Copy, PartialEq, Eq)]
+struct Told {
+    turns: u64,
+    reads: u64,
+    replies: u64,
+    taken: u64,
+    ended: u64,
+    answered: u64,
+    early: u64,
+    sent: u64,
+    /// The peers whose tasks were drained, in the order of the workers: a digit for each, which is its number and one.
+    drained: u64,
+    all: Ended,
+}
+
+/// A worker for one turn, with this pass.
+fn ready<'a, K: Label>(
+    alloc: Global,
+    pass: Pass<K>,
+    work: Work<Once<'a>, FirstChooser, Losing<'a>>,
+) -> Hand<'a, K> {
+    Worker::Ready(Job {
+        pass,
+        clock: ListClock::new(Vec::new(alloc)),
+        limit: 1,
+        work,
+    })
+}
+
+/// Adds a worker for one turn, with a pass of its own.
+fn push<'a, K: Label, R: Wait>(
+    rt: &R,
+    alloc: Global,
+    shared: &Shared<K>,
+    hands: &mut Vec<Hand<'a, K>>,
+    work: Work<Once<'a>, FirstChooser, Losing<'a>>,
+) -> Result<(), Fault> {
+    match shared.pass(rt, alloc) {
+        Ok(pass) => Ok(hands.push(ready(alloc, pass, work))?),
+        Err(fault) => {
+            drop(work);
+            Err(fault)
+        }
+    }
+}
+
+/// Adds each timer's worker.
+fn push_timers<'a, K: Label, R: Wait>(
+    rt: &R,
+    alloc: Global,
+    shared: &Shared<K>,
+    hands: &mut Vec<Hand<'a, K>>,
+) -> Result<(), Fault> {
+    let chooser = FirstChooser;
+    push(rt, alloc, shared, hands, Work::Evictor { chooser })?;
+    push(rt, alloc, shared, hands, Work::Bucket)?;
+    push(rt, alloc, shared, hands, Work::Threshold)
+}
+
+/// Adds the replicators of peers 7 and 0.
+fn push_replicators<'a, K: Label, R: Wait>(
+    rt: &R,
+    alloc: Global,
+    shared: &Shared<K>,
+    hands: &mut Vec<Hand<'a, K>>,
+    sent: &'a AtomicU64,
+) -> Result<(), Fault> {
+    for number in [7, 0] {
+        let peer = Losing { sent };
+        push(rt, alloc, shared, hands, Work::Replicator { number, peer })?;
+    }
+    Ok(())
+}
+
+/// One connection, whose writer may be broken.
+fn connection(alloc: Global, counts: &Counts, is_broken: bool) -> Once<'_> {
+    let writer = Keeping {
+        kept: Vec::new(alloc),
+        is_flushed: false,
+        is_broken,
+        flushes: &counts.flushes,
+    };
+    Once {
+        connection: Some((LISTING, writer)),
+        taken: &counts.taken,
+        ended: &counts.ended,
+        answered: &counts.answered,
+    }
+}
+
+/// Adds each timer's worker, behind them a session worker, which is numbered 1 all the same, and the replicators of peers 7 and 0.
+fn push_all<'a, K: Label, R: Wait>(
+    rt: &R,
+    alloc: Global,
+    shared: &Shared<K>,
+    hands: &mut Vec<Hand<'a, K>>,
+    counts: &'a Counts,
+    is_broken: bool,
+) -> Result<(), Fault> {
+    push_timers(rt, alloc, shared, hands)?;
+    let source = connection(alloc, counts, is_broken);
+    push(rt, alloc, shared, hands, Work::Sessions { source })?;
+    push_replicators(rt, alloc, shared, hands, &counts.sent)
+}
+
+/// The number and one of the peer whose tasks a pass drained first.
+fn drained<K: Label>(pass: &Pass<K>) -> Option<u64> {
+    match pass.log() {
+        [first, ..] => match first.command {
+            Command::Drain { peer } => Some(u64::from(peer) + 1),
+            _ => None,
+        },
+        [] => None,
+    }
+}
+
+/// With a digit more, if there is one.
+fn with_digit(digits: u64, digit: Option<u64>) -> u64 {
+    match digit {
+        Some(digit) => digits.saturating_mul(10).saturating_add(digit),
+        None => digits,
+    }
+}
+
+/// Adds what a worker did.
+fn tell<K: Label>(told: &mut Told, hand: Hand<'_, K>) {
+    match hand {
+        Worker::Done(pass, ended, work) => {
+            drop(work);
+            told.all.turns = told.all.turns.saturating_add(ended.turns);
+            told.all.refused = told.all.refused.saturating_add(ended.refused);
+            told.drained = with_digit(told.drained, drained(&pass));
+            drop(pass);
+        }
+        other => drop(other),
+    }
+}
+
+/// Has them work at a book that is shared.
+fn run_at<K: Label + Send + Sync, R: Threads + Wait + Sync>(
+    rt: &R,
+    alloc: Global,
+    shared: &Shared<K>,
+    gate: &Counting<'_>,
+    workers: &mut [Hand<'_, K>],
+) -> Result<(), Fault> {
+    let routes = Routes::new(alloc)?;
+    let site = Site {
+        rt,
+        alloc,
+        shared,
+        routes: &routes,
+        gate,
+    };
+    run_all(&site, workers);
+    drop(routes);
+    Ok(())
+}
+
+/// Adds all to a list without workers, and has each work in one turn.
+fn run_hands<'a, K: Label + Send + Sync, R: Threads + Wait + Sync>(
+    rt: &R,
+    alloc: Global,
+    shared: &Shared<K>,
+    hands: &mut Vec<Hand<'a, K>>,
+    gate: &Counting<'_>,
+    counts: &'a Counts,
+    is_broken: bool,
+) -> Result<(), Fault> {
+    push_all(rt, alloc, shared, hands, counts, is_broken)?;
+    run_at(rt, alloc, shared, gate, hands.as_mut_slice())
+}
+
+/// What was counted, before what any worker did.
+fn counted(gate: &Counting<'_>, counts: &Counts) -> Told {
+    Told {
+        turns: gate.turns.load(Ordering::SeqCst),
+        reads: gate.reads.load(Ordering::SeqCst),
+        replies: gate.replies.load(Ordering::SeqCst),
+        taken: counts.taken.load(Ordering::SeqCst),
+        ended: counts.ended.load(Ordering::SeqCst),
+        early: gate.early.load(Ordering::SeqCst),
+        answered: counts.answered.load(Ordering::SeqCst),
+        sent: counts.sent.load(Ordering::SeqCst),
+        drained: 0,
+        all: Ended::default(),
+    }
+}
+
+/// What the workers of a book that is shared did, each in one turn.
+fn work<K: Label + Send + Sync, R: Threads + Wait + Sync>(
+    rt: &R,
+    alloc: Global,
+    shared: &Shared<K>,
+    gate: &Counting<'_>,
+    counts: &Counts,
+    is_broken: bool,
+) -> Result<Told, Fault> {
+    let mut workers = Vec::new(alloc);
+    let ran = run_hands(rt, alloc, shared, &mut workers, gate, counts, is_broken);
+    let mut told = counted(gate, counts);
+    for worker in workers {
+        tell(&mut told, worker);
+    }
+    ran?;
+    Ok(told)
+}
+
+/// Has a client register, by a new pass.
+fn register_client<K: Label, R: Wait>(
+    rt: &R,
+    alloc: Global,
+    shared: &Shared<K>,
+) -> Result<(), Fault> {
+    let mut pass = shared.pass(rt, alloc)?;
+    let is_registered = registers(rt, shared, alloc, &mut pass);
+    drop(pass);
+    if is_registered {
+        Ok(())
+    } else {
+        Err(Fault::OutOfMemory)
+    }
+}
+
+/// The same, once a client has registered, of which eight peers are to be told.
+fn work_after<K: Label + Send + Sync, R: Threads + Wait + Sync>(
+    rt: &R,
+    alloc: Global,
+    shared: &Shared<K>,
+    trouble: Trouble,
+) -> Result<Told, Fault> {
+    register_client(rt, alloc, shared)?;
+    let counts = Counts {
+        taken: AtomicU64::new(0),
+        ended: AtomicU64::new(0),
+        answered: AtomicU64::new(0),
+        flushes: AtomicU64::new(0),
+        sent: AtomicU64::new(0),
+    };
+    let gate = Counting {
+        stops: trouble.stops,
+        turns: AtomicU64::new(0),
+        reads: AtomicU64::new(0),
+        replies: AtomicU64::new(0),
+        flushes: &counts.flushes,
+        early: AtomicU64::new(0),
+    };
+    work(rt, alloc, shared, &gate, &counts, trouble.is_broken)
+}
+
+/// The same of a server with as many peers as there may be.
+fn run<K: Label + Send + Sync, R: Threads + Wait + Sync>(
+    rt: &R,
+    alloc: Global,
+    blanks: Blanks,
+    trouble: Trouble,
+) -> Result<Told, Fault>
+    requires names { (blanks.steps.name ≡ K.steps) × (blanks.counted.name ≡ K.counted) × (blanks.added.name ≡ K.added) × (blanks.removed.name ≡ K.removed) }
+    requires parts { (blanks.steps.parts ≡ K.parts) × (blanks.counted.parts ≡ K.parts) × (blanks.added.parts ≡ K.parts) × (blanks.removed.parts ≡ K.parts) × (K.parts ≡ 1025) }
+{
+    let shared: Shared<K> = Shared::open(alloc, settings()?, 0, 8, blanks)?;
+    let told = work_after(rt, alloc, &shared, trouble);
+    drop(shared);
+    told
+}
+
+fn ran<R: Threads + Wait + Sync>(rt: &R, alloc: Global, trouble: Trouble) -> Result<Told, Fault> {
+    run::<Brand, R>(rt, alloc, Blanks::new(), trouble)
+}
+
+/// What they do where nothing stops them: each passes the gate before its turn, the session before each of its two reads, of which the
+/// second finds the end, and once before its response is flushed, before which no flush came.
+const ALL: Told = Told {
+    turns: 111_111,
+    reads: 2,
+    replies: 1,
+    taken: 1,
+    ended: 1,
+    answered: 1,
+    early: 0,
+    sent: 2,
+    drained: 81,
+    all: Ended {
+        turns: 6,
+        refused: 0,
+    },
+};
+
+#[test]
+fn each_passes_the_gate_by_its_number(rt: HostRuntime) -> Result<(), Fail> {
+    let told = ran(&rt, rt.alloc(), NONE)?;
+    assert!(rt; told == ALL);
+    Ok(())
+}
+
+#[test]
+fn who_is_stopped_before_a_turn_has_none(rt: HostRuntime) -> Result<(), Fail> {
+    let told = ran(&rt, rt.alloc(), stops(Point::Turn))?;
+    let nothing = Told {
+        turns: 111_111,
+        reads: 0,
+        replies: 0,
+        taken: 0,
+        ended: 0,
+        answered: 0,
+        early: 0,
+        sent: 0,
+        drained: 0,
+        all: Ended {
+            turns: 0,
+            refused: 0,
+        },
+    };
+    assert!(rt; told == nothing);
+    Ok(())
+}
+
+#[test]
+fn a_read_that_is_stopped_ends_the_session(rt: HostRuntime) -> Result<(), Fail> {
+    let told = ran(&rt, rt.alloc(), stops(Point::Read))?;
+    let failed = Told {
+        reads: 1,
+        replies: 0,
+        answered: 0,
+        all: Ended {
+            turns: 6,
+            refused: 1,
+        },
+        ..ALL
+    };
+    assert!(rt; told == failed);
+    Ok(())
+}
+
+#[test]
+fn a_flush_is_not_stopped(rt: HostRuntime) -> Result<(), Fail> {
+    let told = ran(&rt, rt.alloc(), stops(Point::Replied))?;
+    assert!(rt; told == ALL);
+    Ok(())
+}
+
+/// A session whose response can't be written has ended by a fault.
+#[test]
+fn a_write_that_fails_is_refused(rt: HostRuntime) -> Result<(), Fail> {
+    let broken = Trouble {
+        stops: None,
+        is_broken: true,
+    };
+    let told = ran(&rt, rt.alloc(), broken)?;
+    let failed = Told {
+        reads: 1,
+        replies: 0,
+        answered: 0,
+        all: Ended {
+            turns: 6,
+            refused: 1,
+        },
+        ..ALL
+    };
+    assert!(rt; told == failed);
+    Ok(())
+}
+
+/// A gate that lets nobody through, and keeps who came, a bit for each number.
+#[derive(Drop)]
+struct Register {
+    came: AtomicU64,
+}
+
+impl Gate for Register {
+    fn pass(&self, who: u32, _point: Point) -> Go {
+        let bit = 1u64.checked_shl(who).unwrap_or(0);
+        self.came.fetch_add(bit, Ordering::SeqCst);
+        Go::Stop
+    }
+}
+
+/// Adds as many session workers as a server may have, to which no connection comes.
+fn push_sixteen<'a, K: Label, R: Wait>(
+    rt: &R,
+    alloc: Global,
+    shared: &Shared<K>,
+    hands: &mut Vec<Hand<'a, K>>,
+    answered: &'a AtomicU64,
+) -> Result<(), Fault> {
+    for _worker in 0..16 {
+        let source = Once {
+            connection: None,
+            taken: answered,
+            ended: answered,
+            answered,
+        };
+        push(rt, alloc, shared, hands, Work::Sessions { source })?;
+    }
+    Ok(())
+}
+
+/// Has workers come to the gate.
+fn come_by<K: Label + Send + Sync, R: Threads + Wait + Sync>(
+    rt: &R,
+    alloc: Global,
+    shared: &Shared<K>,
+    gate: &Register,
+    workers: &mut [Hand<'_, K>],
+) -> Result<(), Fault> {
+    let routes = Routes::new(alloc)?;
+    let site = Site {
+        rt,
+        alloc,
+        shared,
+        routes: &routes,
+        gate,
+    };
+    run_all(&site, workers);
+    drop(routes);
+    Ok(())
+}
+
+/// Adds the sixteen to a list without workers, and has them come to the gate.
+fn come_all<'a, K: Label + Send + Sync, R: Threads + Wait + Sync>(
+    rt: &R,
+    alloc: Global,
+    shared: &Shared<K>,
+    gate: &Register,
+    workers: &mut Vec<Hand<'a, K>>,
+    answered: &'a AtomicU64,
+) -> Result<(), Fault> {
+    push_sixteen(rt, alloc, shared, workers, answered)?;
+    come_by(rt, alloc, shared, gate, workers.as_mut_slice())
+}
+
+/// By which numbers they come to the gate, a bit for each.
+fn come<K: Label + Send + Sync, R: Threads + Wait + Sync>(
+    rt: &R,
+    alloc: Global,
+    shared: &Shared<K>,
+) -> Result<u64, Fault> {
+    let gate = Register {
+        came: AtomicU64::new(0),
+    };
+    let answered = AtomicU64::new(0);
+    let mut workers = Vec::new(alloc);
+    let came = come_all(rt, alloc, shared, &gate, &mut workers, &answered);
+    drop(workers);
+    came?;
+    Ok(gate.came.load(Ordering::SeqCst))
+}
+
+/// The same of a server that was just opened.
+fn come_to<K: Label + Send + Sync, R: Threads + Wait + Sync>(
+    rt: &R,
+    alloc: Global,
+    blanks: Blanks,
+) -> Result<u64, Fault>
+    requires names { (blanks.steps.name ≡ K.steps) × (blanks.counted.name ≡ K.counted) × (blanks.added.name ≡ K.added) × (blanks.removed.name ≡ K.removed) }
+    requires parts { (blanks.steps.parts ≡ K.parts) × (blanks.counted.parts ≡ K.parts) × (blanks.added.parts ≡ K.parts) × (blanks.removed.parts ≡ K.parts) × (K.parts ≡ 1025) }
+{
+    let shared: Shared<K> = Shared::open(alloc, settings()?, 0, 0, blanks)?;
+    let came = come(rt, alloc, &shared);
+    drop(shared);
+    came
+}
+
+fn came<R: Threads + Wait + Sync>(rt: &R, alloc: Global) -> Result<u64, Fault> {
+    come_to::<Brand, R>(rt, alloc, Blanks::new())
+}
+
+#[test]
+fn session_workers_are_numbered_from_1_to_16(rt: HostRuntime) -> Result<(), Fail> {
+    assert!(rt; came(&rt, rt.alloc())? == 0b1_1111_1111_1111_1110);
+    Ok(())
+}

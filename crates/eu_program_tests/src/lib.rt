@@ -1,4 +1,4 @@
-//! Tests of whole servers and whole runs of the program, of its command line, of accepted connections and of the timers' pace.
+//! Tests of whole runs of the program, and of its command line.
 #![tactic(auto)]
 
 #[cfg(test)]

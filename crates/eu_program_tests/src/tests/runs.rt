@@ -1,6 +1,5 @@
 //! Whole runs of the program, on a machine whose words and input are given and whose output is kept.
 use crate::tests::files::{Kept, Place, holds_all, open_kept};
-use crate::tests::servers::{LOOK, RENEWAL};
 use eu_program::start;
 use std::alloc::{Alloc, Allocator, Global};
 use std::env::FillError;
@@ -14,6 +13,12 @@ use std::test::Fail;
 use std::thread::Threads;
 use std::time::{Clock, Duration, Instant};
 use std::{io, str, thread};
+
+/// A look at the status page.
+const LOOK: &str = "GET /eureka/status HTTP/1.1\r\nHost: x\r\nConnection: close\r\n\r\n";
+
+/// A renewal of a lease that isn't there.
+const RENEWAL: &str = "PUT /eureka/apps/A/zz HTTP/1.1\r\nHost: x\r\nConnection: close\r\n\r\n";
 
 /// What doesn't work at a machine.
 #[derive(Clone, Copy, PartialEq, Eq)]

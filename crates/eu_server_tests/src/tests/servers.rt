@@ -23,7 +23,7 @@ pub const REGISTRATION: &str =
 pub const REGISTERED: &str = "HTTP/1.1 204 No Content\r\nConnection: close\r\n\r\n";
 
 /// A renewal of a lease that isn't there.
-pub const RENEWAL: &str = "PUT /eureka/apps/A/zz HTTP/1.1\r\nHost: x\r\nConnection: close\r\n\r\n";
+const RENEWAL: &str = "PUT /eureka/apps/A/zz HTTP/1.1\r\nHost: x\r\nConnection: close\r\n\r\n";
 
 /// A server of two workers, which gives up a silent client after so many milliseconds, and whose timers are never idle.
 pub fn plan(sessions: u32, read: u64) -> Result<Plan, Fault> {
@@ -385,7 +385,7 @@ fn a_book_is_handed_back_as_it_was_served(rt: HostRuntime) -> Result<(), Fail> {
 
 /// A request for the status page, and the page of a server at which nothing is held that expects 70,007 clients (more than it may
 /// hold), each to renew every 20 s, of which half may go.
-pub const LOOK: &str = "GET /eureka/status HTTP/1.1\r\nHost: x\r\nConnection: close\r\n\r\n";
+const LOOK: &str = "GET /eureka/status HTTP/1.1\r\nHost: x\r\nConnection: close\r\n\r\n";
 
 const PAGE: &str =
     "HTTP/1.1 200 OK\r\nContent-Type: text/plain; charset=utf-8\r\nContent-Length: 87\r\nConnection: close\r\n\r\nheld 0\nexpected 70007\nthreshold 105010\nlast 0\npreservation off\npermitted yes\nstatuses \n";

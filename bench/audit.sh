@@ -12,7 +12,7 @@ work=$(mktemp -d)
 trap 'rm -rf "$work"' EXIT
 
 # So many leases, and lines of that kind up to 131,072 commands: where the journal is full, the next command begins it anew, so that it has
-# the last 65,536 of them. The leases last for 24 days, but where passes are forbidden: then for a second each, and end one after the other.
+# the last 65,536 of them. The leases last for 24 days, but where evictions are forbidden: then for a second each, and end one after the other.
 script() {
     awk -v leases="$1" -v kind="$2" 'BEGIN {
         print "open 1"
@@ -50,11 +50,11 @@ for leases in 1000 65000; do
         found=$(rate)
         echo "$kind over $leases leases: $found"
     done
-    # passes that find nobody, and those of which each takes the lease that came before it
+    # evictions that find nobody, and those of which each takes the lease that came before it
     for kind in idle taking; do
         script "$leases" "$kind" > "$work/script"
         found=$(rate --preservation off --percent 0)
-        echo "$kind passes over $leases leases: $found"
+        echo "$kind evictions over $leases leases: $found"
     done
 done
 

@@ -1,10 +1,10 @@
 #!/usr/bin/env bash
-# Times the leases by themselves: renewals of drawn leases, and passes that look for the expired ones, each less the time in which the leases
+# Times the leases by themselves: renewals of drawn leases, and looks for the expired ones, each less the time in which the leases
 # are put. Prints nanoseconds of processor time for each. BEFORE may name another build of the program, which is timed in turn with it.
 set -euo pipefail
 top=$(cd "$(dirname "${BASH_SOURCE[0]}")/.." && pwd)
 cd "$top/crates/eu_store_bench"
-rt run -- pass 1 0 1 > /dev/null
+rt run -- expired 1 0 1 > /dev/null
 
 # processor time of a run, in seconds
 timed() {
@@ -35,5 +35,5 @@ for count in 50 1000 10000 60000; do
 done
 for task in "1000 0" "60000 0" "60000 10" "60000 100" "60000 1000" "60000 10000" "60000 60000"; do
     read -r count expired <<< "$task"
-    echo "pass over $count, of which $expired have expired:$(each pass "$count" "$expired")"
+    echo "look over $count, of which $expired have expired:$(each expired "$count" "$expired")"
 done

@@ -3,7 +3,7 @@
 that EUREKA names.
 
 A hundred clients register and send a heartbeat each 30 s. Forty fall silent at minute 15; thirty of these come back at minute 35. Five others fall silent at
-minute 48. Passes come each 60 s. What is drawn is read off the journal, once `audit` has said yes to it; the script that it comes from says nothing of who goes."""
+minute 48. Evictions come each 60 s. What is drawn is read off the journal, once `audit` has said yes to it; the script that it comes from says nothing of who goes."""
 import json
 import os
 import subprocess
@@ -59,7 +59,7 @@ class Reader:
 
     def __init__(self, head):
         self.config, self.expected, self.last = head["config"], head["expected"], head["last"]
-        self.deadlines, self.passes = {}, []
+        self.deadlines, self.evictions = {}, []
 
     def threshold(self):
         return self.expected * 60 * self.config["percent"] // (self.config["interval"] * 100)
@@ -87,20 +87,20 @@ class Reader:
             self.evict(moment, victims)
 
     def evict(self, moment, victims):
-        """A pass, which has to take as many of the leases that are due as it may."""
+        """An eviction, which has to take as many of the leases that are due as it may."""
         due = {key for key, (deadline, _) in self.deadlines.items() if deadline < moment}
         held = len(self.deadlines)
         share = held - held * self.config["percent"] // 100
         taken = {(key["app"], key["id"]) for key in victims}
         assert taken <= due and len(taken) == len(victims) == (min(len(due), share) if self.is_permitted() else 0)
-        self.passes.append((moment // MINUTE, self.last, self.threshold(), self.is_permitted(), held, len(due), len(victims)))
+        self.evictions.append((moment // MINUTE, self.last, self.threshold(), self.is_permitted(), held, len(due), len(victims)))
         for key in taken:
             del self.deadlines[key]
         self.expected = max(0, self.expected - len(taken))
 
 
-def passes_of(journal):
-    """The passes of a journal: the minute, the last minute's heartbeats, the threshold, whether it may evict, and how many leases are held, are due, and go."""
+def evictions_of(journal):
+    """The evictions of a journal: the minute, the last minute's heartbeats, the threshold, whether it may evict, and how many leases are held, are due, and go."""
     heads = [line for line in journal if line["line"] == "head"]
     reader, asked, reply, victims = Reader(heads[0]), None, None, []
     for line in journal:
@@ -114,15 +114,15 @@ def passes_of(journal):
             victims.append(line["key"])
     left = sum(1 for line in journal[journal.index(heads[1]):] if line["line"] == "lease")
     assert (reader.expected, reader.last, len(reader.deadlines)) == (heads[1]["expected"], heads[1]["last"], left)
-    return reader.passes
+    return reader.evictions
 
 
-def picture(passes):
-    """The passes of an hour: above the heartbeats of each minute and the threshold, below the leases."""
+def picture(evictions):
+    """The evictions of an hour: above the heartbeats of each minute and the threshold, below the leases."""
     left, minute, parts = 70, 12.5, []
     beats, leases = (lambda n: 210 - n * 0.8), (lambda n: 400 - n * 1.3)
     at = lambda n: left + n * minute
-    for n, last, threshold, permitted, held, due, gone in passes:
+    for n, last, threshold, permitted, held, due, gone in evictions:
         kind = "proved" if permitted else "tested"
         x, wide = at(n - 1) + 1, minute - 2
         parts.append(f'<rect x="{x:g}" y="{beats(last):g}" width="{wide:g}" height="{210 - beats(last):g}" class="{kind}"/>')
@@ -131,7 +131,7 @@ def picture(passes):
             parts.append(f'<rect x="{x:g}" y="{leases(held):g}" width="{wide:g}" height="{leases(held - due) - leases(held):g}" class="{kind}"/>')
         if gone:
             parts.append(text(f"{x:g}", f"{leases(held) - 6:g}", f"−{gone}", "small plain", "start"))
-    steps = "".join(f"{'L' if n > 1 else 'M'}{at(n - 1):g} {beats(threshold):g} L{at(n):g} {beats(threshold):g} " for n, _, threshold, *_ in passes)
+    steps = "".join(f"{'L' if n > 1 else 'M'}{at(n - 1):g} {beats(threshold):g} L{at(n):g} {beats(threshold):g} " for n, _, threshold, *_ in evictions)
     parts.append(f'<path d="{steps.strip()}" class="level"/>')
     for y, scale, most, words in [(210, beats, 200, "heartbeats of each minute"), (400, leases, 100, "leases held")]:
         parts.append(f'<path d="M{left} {y} L{at(60):g} {y}" class="line"/>')
@@ -140,8 +140,8 @@ def picture(passes):
     for n, words in [(15, "40 fall silent"), (35, "30 come back"), (48, "5 fall silent")]:
         parts += [f'<path d="M{at(n):g} 36 L{at(n):g} 400" class="line dashed"/>', text(f"{at(n) + 5:g}", 44, words, "small plain", "start")]
     parts += [text(f"{at(n):g}", 418, f"{n} min" if n else "0", "small plain") for n in range(0, 61, 15)]
-    parts += ['<rect x="70" y="434" width="16" height="16" rx="3" class="proved"/>', text(92, 447, "a pass may evict", "plain", "start")]
-    parts += ['<rect x="230" y="434" width="16" height="16" rx="3" class="tested"/>', text(252, 447, "no pass may: what expired is kept", "plain", "start")]
+    parts += ['<rect x="70" y="434" width="16" height="16" rx="3" class="proved"/>', text(92, 447, "eviction is permitted", "plain", "start")]
+    parts += ['<rect x="230" y="434" width="16" height="16" rx="3" class="tested"/>', text(252, 447, "not permitted: what expired is kept", "plain", "start")]
     parts += ['<path d="M530 442 L560 442" class="level"/>', text(568, 447, "the threshold", "plain", "start")]
     parts += [text(720, 447, "−n: evicted", "plain", "start")]
     return svg(860, 464, parts)
@@ -151,6 +151,6 @@ if __name__ == "__main__":
     if sys.argv[1:] == ["--script"]:
         print("\n".join(lines_of_hour()))
     else:
-        drawn = picture(passes_of(journal_of_hour()))
+        drawn = picture(evictions_of(journal_of_hour()))
         with open("docs/pictures/hour.svg", "w", encoding="utf-8") as out:
             out.write(drawn)

@@ -96,7 +96,7 @@ def lease():
     parts += [f'<rect x="{scale(0)}" y="104" width="{scale(210) - scale(0)}" height="12" class="proved"/>']
     parts += [f'<rect x="{scale(210)}" y="104" width="{scale(240) - scale(210)}" height="12" class="tested"/>']
     parts += [text(scale(120), 60, "held: 90 s after a registration, twice that after a heartbeat")]
-    parts += [text(830, 176, "expired: a heartbeat revives it, a pass that is permitted may take it", "plain", "end")]
+    parts += [text(830, 176, "expired: a heartbeat revives it, an eviction that is permitted may take it", "plain", "end")]
     parts += [f'<path d="M{scale(225)} 160 L{scale(225)} 120" class="line"/>']
     return svg(860, 200, parts)
 
@@ -128,23 +128,23 @@ def answers_of(name):
         return list(zip([line.split() for line in script if line.strip()], [line.split() for line in out]))
 
 
-def passes_of(name):
-    """The passes of an example: the moment, the last minute's heartbeats, the threshold, and how many were evicted."""
-    passes, seen = [], {}
+def evictions_of(name):
+    """The evictions of an example: the moment, the last minute's heartbeats, the threshold, and how many were evicted."""
+    evictions, seen = [], {}
     for said, printed in answers_of(name):
         if said[0] == "counts":
             seen = dict(zip(printed[::2], printed[1::2]))
         if said[0] == "evict":
-            passes.append((int(said[1]) // 1000, int(seen["last"]), int(seen["threshold"]), seen["permitted"], int(printed[1])))
-    return passes
+            evictions.append((int(said[1]) // 1000, int(seen["last"]), int(seen["threshold"]), seen["permitted"], int(printed[1])))
+    return evictions
 
 
 def preservation():
-    """Self-preservation in two example runs: each pass with the last minute's heartbeats and the threshold."""
+    """Self-preservation in two example runs: each eviction with the last minute's heartbeats and the threshold."""
     parts, ground, scale, x = [], 230, 9, 90
     for name, title in [("preservation", "one of four is silent"), ("shrinking", "ten shops shrink to six")]:
         parts += [text(x + 150, 24, title, "bold plain"), text(x + 150, 42, f"examples/{name}.script", "small plain")]
-        for moment, last, threshold, permitted, evicted in passes_of(name):
+        for moment, last, threshold, permitted, evicted in evictions_of(name):
             top, line = ground - last * scale, ground - threshold * scale
             kind = "proved" if permitted == "yes" else "tested"
             parts += [f'<rect x="{x + 30}" y="{top}" width="70" height="{last * scale}" class="{kind}"/>', text(x + 65, ground - 8, f"{last}", "bold")]
@@ -153,8 +153,8 @@ def preservation():
             x += 170
         x += 60
     parts += [f'<path d="M30 {ground} L830 {ground}" class="line"/>']
-    parts += [f'<rect x="60" y="292" width="16" height="16" rx="3" class="proved"/>', text(82, 305, "more heartbeats than the threshold: a pass may evict", "plain", "start")]
-    parts += [f'<rect x="470" y="292" width="16" height="16" rx="3" class="tested"/>', text(492, 305, "not more: no pass may", "plain", "start")]
+    parts += [f'<rect x="60" y="292" width="16" height="16" rx="3" class="proved"/>', text(82, 305, "more heartbeats than the threshold: eviction is permitted", "plain", "start")]
+    parts += [f'<rect x="470" y="292" width="16" height="16" rx="3" class="tested"/>', text(492, 305, "not more: nobody is evicted", "plain", "start")]
     parts += ['<path d="M690 300 L720 300" class="level dashed"/>', text(728, 305, "the threshold", "plain", "start")]
     return svg(860, 322, parts)
 

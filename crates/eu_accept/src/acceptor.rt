@@ -3,8 +3,9 @@
 ghost use Rattle.std.specs.Prelude.{◌≡◌};
 
 use crate::accepting::accept_both;
+use crate::admission::Admission;
 use crate::pace::Pace;
-use eu_gate::{Admission, Periods, Source};
+use eu_gate::{Incoming, Periods};
 use std::io;
 use std::io::Read;
 use std::net::{Shutdown, TcpListener, TcpStream};
@@ -143,7 +144,7 @@ pub struct Connections<'a, R: Wait + Clock> {
 /// Connections are accepted one at a time, by whichever worker is free, until as many came as are wanted, or accepting one has failed.
 /// A connection ends in stages (RFC 9112, section 9.6): what was written is ended, what still comes is dropped for a while, and then
 /// it is closed. So a client that sends more than is read gets its last response all the same.
-impl<R: Wait + Clock> Source for Connections<'_, R> {
+impl<R: Wait + Clock> Incoming for Connections<'_, R> {
     type Reader = TcpStream;
 
     type Writer = TcpStream;

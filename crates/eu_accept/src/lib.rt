@@ -3,6 +3,7 @@
 
 mod accepting;
 mod acceptor;
+mod admission;
 mod bell;
 mod pace;
 #[cfg(test)]
@@ -11,4 +12,5 @@ mod tests;
 pub use acceptor::{
     Acceptor, Connections, LINGER_BYTES, LINGER_MS, READ_TIMEOUT_MS, Timeouts, WRITE_TIMEOUT_MS,
 };
+pub use admission::Admission;
 pub use pace::Pace;

@@ -6,7 +6,7 @@ use Rattle.eu_model.specs.declared.commands.Reply.{Reply}
 use Rattle.eu_model.specs.declared.views.Listed.{Listed}
 use Rattle.eu_model.specs.Change.{Change}
 use Rattle.eu_model.specs.Plain.{Plain}
-use Rattle.eu_audit.specs.PlainRuns.{Becomes}
+use Rattle.eu_model.specs.PlainSteps.{Becomes}
 use Rattle.eu_audit.specs.Verdict.{Judged}
 
 pub rejudged : {S : Type 0} (a b : S → Type 0) → ((new : S) → a new → b new) → ((new : S) → b new → a new) → (next : Option S) → Judged a next → Judged b next

@@ -3,27 +3,27 @@ use Rattle.std.proofs.Common.{◌≡◌, ◌↔◌, ℕ, List, [], ◌∷◌, ma
 use Rattle.std.specs.Prelude.{Option, Some, slice_set}
 use Rattle.eu_base.specs.declared.faults.Fault.{Fault}
 use Rattle.eu_model.specs.declared.commands.Command.{Command}
-use Rattle.eu_model.specs.declared.commands.Command.TheVariants.{Register, Renew, Cancel, SetStatus, UnsetStatus, Adopt, Roll, Update, Reconfigure, Evict, Drain, Landed, Lost}
+use Rattle.eu_model.specs.declared.commands.Command.TheVariants.{Register, Renew, Cancel, SetStatus, UnsetStatus, Adopt, EndMinute, Update, Reconfigure, Evict, Drain, Landed, Lost}
 use Rattle.eu_model.specs.declared.commands.Entry.{Entry}
 use Rattle.eu_model.specs.declared.commands.Reply.{Reply}
 use Rattle.eu_model.specs.declared.queues.Queue.{Queue}
-use Rattle.eu_model.specs.Kept.{kept_evicted}
+use Rattle.eu_model.specs.PlainSteps.{plain_evicted, PlainStep}
 use Rattle.eu_model.specs.Plain.{Plain, held_under}
 use Rattle.eu_model.specs.Server.{PlainServer, key_of, task_for, with_task}
-use Rattle.eu_model.proofs.PassLemmas.{victims_are}
-use Rattle.eu_audit.specs.PlainRuns.{PlainStep, Turns, Queued, PlainServerStep, PlainRun}
+use Rattle.eu_model.proofs.EvictionLemmas.{victims_are}
+use Rattle.eu_audit.specs.PlainRuns.{Turns, Queued, PlainServerStep, PlainRun}
 
 step_once : (p : Plain) (c : Command) (t : ℕ) (reply : Reply) (a b : Plain) → PlainStep p c t reply a → PlainStep p c t reply b → a ≡ b
 step_once p (Register n replicated) t reply a b x y = x.1.1 ∙ sym y.1.1
 step_once p (Adopt n) t reply a b x y = x.1.1 ∙ sym y.1.1
-step_once p (Renew k dirty overridden replicated) t reply a b x y = x.1.1 ∙ sym y.1.1
+step_once p (Renew k last_dirty overridden replicated) t reply a b x y = x.1.1 ∙ sym y.1.1
 step_once p (Cancel k replicated) t reply a b x y = x.1 ∙ sym y.1
-step_once p (SetStatus k status dirty replicated) t reply a b x y = x.1 ∙ sym y.1
-step_once p (UnsetStatus k suggested dirty replicated) t reply a b x y = x.1 ∙ sym y.1
-step_once p Roll t reply a b x y = x.1 ∙ sym y.1
+step_once p (SetStatus k status last_dirty replicated) t reply a b x y = x.1 ∙ sym y.1
+step_once p (UnsetStatus k suggested last_dirty replicated) t reply a b x y = x.1 ∙ sym y.1
+step_once p EndMinute t reply a b x y = x.1 ∙ sym y.1
 step_once p Update t reply a b x y = x.1 ∙ sym y.1
 step_once p (Reconfigure config) t reply a b x y = x.1 ∙ sym y.1
-step_once p Evict t reply a b x y = x.3 ∙ ap (kept_evicted p t) (victims_are x.0 y.0 (sym x.1 ∙ y.1)) ∙ sym y.3
+step_once p Evict t reply a b x y = x.3 ∙ ap (plain_evicted p t) (victims_are x.0 y.0 (sym x.1 ∙ y.1)) ∙ sym y.3
 step_once p (Drain peer) t reply a b x y = absurd x
 step_once p (Landed peer codes) t reply a b x y = absurd x
 step_once p (Lost peer) t reply a b x y = absurd x

@@ -5,7 +5,7 @@ use Rattle.std.specs.Prelude.{Some, None, unwrap_or, if◌then◌else◌}
 use Rattle.std.proofs.lemmas.Option.{none-some}
 use Rattle.eu_model.specs.declared.queues.Queue.{Queue}
 use Rattle.eu_audit_queue.specs.PlainQueue.{is_plain_queue}
-use Rattle.eu_base.specs.Key.{key_cmp, name_cmp}
+use Rattle.eu_base.specs.Values.{key_cmp, name_cmp}
 use Rattle.eu_base.proofs.KeyLemmas.{keys_total, names_total}
 use Rattle.eu_model.specs.declared.states.State.{State}
 use Rattle.eu_model.specs.declared.views.Listed.{Listed}
@@ -40,15 +40,15 @@ whole s x y = both (has_plain_parts s) (is_in_order s) x y
 
 -- what plain data lists is its plain form, and the data is in order
 pub listed_is : (p : PlainServer) (s : State) → IsListed p.registry s → p.queues ≡ s.queues → (is_in_order s ≡ true) × (p ≡ server_of_state s)
-listed_is p s (leases, rows, (config, expected, last, since, previous)) queues =
+listed_is p s (leases, overrides, (config, expected, last, since, previous)) queues =
     let l = of_entries keys_total p.registry.leases (keyed s.leases) leases in
-    let r = of_entries names_total p.registry.rows s.rows rows in (
-      both (is_sorted key_cmp (keyed s.leases)) (is_sorted name_cmp s.rows) l.0 r.0,
+    let r = of_entries names_total p.registry.overrides s.overrides overrides in (
+      both (is_sorted key_cmp (keyed s.leases)) (is_sorted name_cmp s.overrides) l.0 r.0,
       λ i. record {
         registry = record {
           config = config i;
           leases = l.1 i;
-          rows = r.1 i;
+          overrides = r.1 i;
           expected = expected i;
           last = last i;
           since = since i;
@@ -61,8 +61,8 @@ listed_is p s (leases, rows, (config, expected, last, since, previous)) queues =
 -- and the other way round
 pub is_listed : (p : PlainServer) (s : State) → is_in_order s ≡ true → p ≡ server_of_state s → IsListed p.registry s × (p.queues ≡ s.queues)
 is_listed p s order is =
-    let sorted = each (is_sorted key_cmp (keyed s.leases)) (is_sorted name_cmp s.rows) order in
-    let plain : IsListed (plain_of_state s) s = (to_entries keys_total (keyed s.leases) sorted.0, to_entries names_total s.rows sorted.1, (refl, refl, refl, refl, refl)) in
+    let sorted = each (is_sorted key_cmp (keyed s.leases)) (is_sorted name_cmp s.overrides) order in
+    let plain : IsListed (plain_of_state s) s = (to_entries keys_total (keyed s.leases) sorted.0, to_entries names_total s.overrides sorted.1, (refl, refl, refl, refl, refl)) in
     (subst (λ (q : PlainServer). IsListed q.registry s) (sym is) plain, ap (λ (q : PlainServer). q.queues) is)
 
 -- a queue that is read is plain, and that one

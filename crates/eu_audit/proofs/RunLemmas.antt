@@ -1,4 +1,4 @@
--- The runs of the machine are those of what is kept
+-- The runs of the machine are those of its plain form
 use Rattle.std.proofs.Common.{◌≡◌, ℕ, List, [], ◌∷◌, refl, sym, ap, ◌∙◌, subst}
 use Rattle.std.specs.Prelude.{map, Option, Some, None, slice_get, slice_set}
 use Rattle.eu_base.specs.declared.faults.Fault.{Fault}
@@ -7,11 +7,9 @@ use Rattle.eu_model.specs.declared.commands.Command.TheVariants.{Drain, Landed, 
 use Rattle.eu_model.specs.declared.commands.Entry.{Entry}
 use Rattle.eu_model.specs.declared.commands.Reply.{Reply}
 use Rattle.eu_model.specs.declared.queues.Queue.{Queue}
-use Rattle.eu_model.specs.Faults.{fault}
+use Rattle.eu_model.specs.Step.{fault}
 use Rattle.eu_model.specs.Plain.{held_under}
-use Rattle.eu_model.specs.Queue.{drained, drain_fault, landed, landed_fault, lost, lost_fault}
-use Rattle.eu_model.specs.Server.{Server, PlainServer, plain_server, ServerStep, server_fault, queue_fault, TurnsQueue, Run, key_of, task_for, with_task}
-use Rattle.eu_model.specs.Runs.{Runs}
+use Rattle.eu_model.specs.Server.{drained, drain_fault, landed, landed_fault, lost, lost_fault, Server, PlainServer, plain_server, ServerStep, server_fault, queue_fault, TurnsQueue, Run, key_of, task_for, with_task, Runs}
 use Rattle.eu_model.proofs.AccountLemmas.{raise_server}
 use Rattle.eu_model.proofs.ServerLemmas.{MachineStep, instance-kept}
 use Rattle.eu_audit.specs.PlainRuns.{Turns, Queued, PlainServerStep, PlainRun, RunsArePlain}
@@ -26,7 +24,7 @@ machine_down s c t reply new none step = (
   step.1 ∙ ap (λ held. map (with_task (task_for c t reply held)) s.queues) (instance-kept new.machine (key_of c)),
 )
 
--- what a step of what is kept comes from, with the queues
+-- what a step of a plain form comes from, with the queues
 abbrev RaisedTo : Server → Command → ℕ → Reply → PlainServer → Type 0
 RaisedTo s c t reply q = (server_fault s c t ≡ None) × ((new : Server) × ServerStep s c t reply new × (plain_server new ≡ q))
 

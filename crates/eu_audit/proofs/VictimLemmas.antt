@@ -1,4 +1,4 @@
--- Victims that are taken out one after the other are those of a pass
+-- Victims that are taken out one after the other are those of an eviction
 use Rattle.std.proofs.Common.{◌≡◌, ℕ, Bool, true, false, ◌&&◌, List, [], ◌∷◌, length, refl, sym, ap, ◌∙◌, subst, Contains, true≢false, get_or}
 use Rattle.std.specs.Prelude.{Option, Some, None, cond}
 use Rattle.std.specs.Option.{option_map_or}
@@ -8,25 +8,23 @@ use Rattle.std.specs.Cmp.{eq_by_cmp_equiv}
 use Rattle.std.proofs.lemmas.List.Elements.{All-contains, All-from_recursion, recursion_from_All}
 use Rattle.std.specs.FinMap.{FinMap, get, remove, entries, entries_sorted, get-entries, get-remove}
 use Rattle.eu_base.specs.declared.names.Key.{Key}
-use Rattle.eu_base.specs.Key.{key_cmp, key_eq}
+use Rattle.eu_base.specs.Values.{key_cmp, key_eq}
 use Rattle.eu_base.proofs.KeyLemmas.{keys_total, key_eq-ties}
 use Rattle.eu_model.specs.declared.views.Listed.{Listed}
-use Rattle.eu_model.specs.Kept.{kept_expired}
-use Rattle.eu_model.proofs.PassLemmas.{passing, found, victims_are}
-use Rattle.eu_model.proofs.PassLemmas as pass
+use Rattle.eu_model.specs.PlainSteps.{plain_expired, PlainStep, plain_number_evicted, ArePlainVictims, plain_evicted}
+use Rattle.eu_model.proofs.EvictionLemmas.{passing, found, victims_are}
+use Rattle.eu_model.proofs.EvictionLemmas as pass
 use Rattle.eu_audit.specs.Victims.{takes}
 use Rattle.eu_audit.specs.Verdict.{Judged}
-use Rattle.eu_audit.specs.PlainRuns.{PlainStep}
 use Rattle.eu_audit.proofs.JudgeLemmas.{rejudged}
 use Rattle.eu_model.specs.Plain.{Plain}
-use Rattle.eu_model.specs.Evict.{extra_time}
-use Rattle.eu_model.specs.Kept.{kept_number_evicted, AreKeptVictims, kept_evicted}
+use Rattle.eu_model.specs.Step.{extra_time}
 use Rattle.eu_model.specs.declared.commands.Command.TheVariants.{Evict}
 use Rattle.eu_model.specs.declared.commands.Reply.TheVariants.{Evicted}
 
 module _ (t extra : ℕ) where
   abbrev late : Listed → Bool
-  late l = kept_expired l t extra
+  late l = plain_expired l t extra
 
   abbrev due : FinMap key_cmp Listed → List Key
   due m = passing late (entries m)
@@ -98,29 +96,29 @@ module _ (t extra : ℕ) where
   takes_them m (k ∷ ks) (is, all) (apart, once) =
       ap (λ b. b && takes (remove m k) t extra ks) is ∙ takes_them (remove m k) ks (kept m k ks apart all) once
 
--- ---- a pass is judged
+-- ---- an eviction is judged
 
 module _ (p : Plain) (t : ℕ) where
   abbrev extra : ℕ
   extra = extra_time p.config p.previous t
 
-  are_victims : (vs : List Key) → length vs ≡ kept_number_evicted p t → takes p.leases t extra vs ≡ true → AreKeptVictims p t vs
+  are_victims : (vs : List Key) → length vs ≡ plain_number_evicted p t → takes p.leases t extra vs ≡ true → ArePlainVictims p t vs
   are_victims vs number is =
       let both = taken t extra p.leases vs is in
       let each = All-from_recursion (λ k. is_due t extra p.leases k ≡ true) vs both.0 in
       record { expired = λ i d lt. in_due t extra p.leases (get_or vs i d) (each i d lt); once = both.1; number = number }
 
-  are_taken : (vs : List Key) → AreKeptVictims p t vs → takes p.leases t extra vs ≡ true
+  are_taken : (vs : List Key) → ArePlainVictims p t vs → takes p.leases t extra vs ≡ true
   are_taken vs v =
       takes_them t extra p.leases vs
       (recursion_from_All (λ k. is_due t extra p.leases k ≡ true) vs (λ i d lt. due_in t extra p.leases (get_or vs i d) (v.expired i d lt))) v.once
 
   -- of the reply that tells these victims
   abbrev pub Passes : List Key → Plain → Type 0
-  Passes vs new = (takes p.leases t extra vs ≡ true) × (new ≡ kept_evicted p t vs)
+  Passes vs new = (takes p.leases t extra vs ≡ true) × (new ≡ plain_evicted p t vs)
 
   -- the victims that a reply tells are as many as they should be
-  pub by_victims : (vs : List Key) → length vs ≡ kept_number_evicted p t → (next : Option Plain) → Judged (Passes vs) next → Judged (PlainStep p Evict t (Evicted vs)) next
+  pub by_victims : (vs : List Key) → length vs ≡ plain_number_evicted p t → (next : Option Plain) → Judged (Passes vs) next → Judged (PlainStep p Evict t (Evicted vs)) next
   by_victims vs number next judged = rejudged (Passes vs) (PlainStep p Evict t (Evicted vs)) there back next judged
     where
       there : (new : Plain) → Passes vs new → PlainStep p Evict t (Evicted vs) new
@@ -129,8 +127,8 @@ module _ (p : Plain) (t : ℕ) where
       back : (new : Plain) → PlainStep p Evict t (Evicted vs) new → Passes vs new
       back new (ws, is, v, to) =
           let same = sym (victims_are vs ws is) in
-          (are_taken vs (subst (AreKeptVictims p t) same v), to ∙ ap (kept_evicted p t) same)
+          (are_taken vs (subst (ArePlainVictims p t) same v), to ∙ ap (plain_evicted p t) same)
 
   -- or they aren't
-  pub by_number : (vs : List Key) → (length vs ≡ kept_number_evicted p t → ⊥) → Judged (PlainStep p Evict t (Evicted vs)) None
+  pub by_number : (vs : List Key) → (length vs ≡ plain_number_evicted p t → ⊥) → Judged (PlainStep p Evict t (Evicted vs)) None
   by_number vs not new (ws, is, v, to) = not (ap length (victims_are vs ws is) ∙ v.number)

@@ -3,13 +3,14 @@ use Rattle.std.specs.Prelude.{◌≡◌, ◌+◌, ◌^◌, Bool, true, ◌&&◌,
 use Rattle.std.specs.List.{list_all}
 use Rattle.std.specs.FinMap.{is_sorted}
 use Rattle.eu_base.specs.declared.names.Key.{Key}
-use Rattle.eu_base.specs.Key.{name_cmp, key_cmp}
+use Rattle.eu_base.specs.Values.{name_cmp, key_cmp}
+use Rattle.eu_base.specs.Limits.{last_moment, most_expected, most_leases, most_peers, most_renewals}
 use Rattle.eu_model.specs.declared.commands.Entry.{Entry}
 use Rattle.eu_model.specs.declared.states.State.{State}
 use Rattle.eu_model.specs.declared.views.Listed.{Listed}
-use Rattle.eu_model.specs.Record.{duration}
+use Rattle.eu_model.specs.Machine.{duration}
 use Rattle.eu_model.specs.State.{server_of_state}
-use Rattle.eu_model.specs.Runs.{Runs}
+use Rattle.eu_model.specs.Server.{Runs}
 use Rattle.eu_audit_queue.specs.PlainQueue.{is_plain_queue}
 
 -- each lease under its instance's key
@@ -19,17 +20,17 @@ keyed leases = map (λ l. (l.instance.key, l)) leases
 -- a lease's moments are 2^62 ms at most, and its last update one duration more
 abbrev pub is_plain_lease : Listed → Bool
 is_plain_lease l =
-    nat_le l.times.registered (2 ^ 62) && nat_le l.times.updated (2 ^ 62 + duration l.instance) && nat_le l.times.up (2 ^ 62)
+    nat_le l.times.registered last_moment && nat_le l.times.updated (last_moment + duration l.instance) && nat_le l.times.up last_moment
 
 -- the counts are no more than may be
 abbrev pub are_plain_counts : State → Bool
 are_plain_counts s =
-    nat_le (length s.leases) 65536 && nat_le s.expected (2 ^ 40) && nat_le s.last (2 ^ 62) && nat_le s.since (2 ^ 62)
-    && nat_le (length s.queues) 8
+    nat_le (length s.leases) most_leases && nat_le s.expected most_expected && nat_le s.last most_renewals && nat_le s.since most_renewals
+    && nat_le (length s.queues) most_peers
 
 -- the keys of the leases strictly rise, and so do the ids of the rows
 abbrev pub is_in_order : State → Bool
-is_in_order s = is_sorted key_cmp (keyed s.leases) && is_sorted name_cmp s.rows
+is_in_order s = is_sorted key_cmp (keyed s.leases) && is_sorted name_cmp s.overrides
 
 abbrev pub has_plain_parts : State → Bool
 has_plain_parts s = are_plain_counts s && list_all is_plain_lease s.leases && list_all is_plain_queue s.queues

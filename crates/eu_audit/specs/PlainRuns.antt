@@ -1,53 +1,15 @@
--- Runs of what is kept: each entry in turn, by its command, its moment and its reply
+-- Runs of plain forms: each entry in turn, by its command, its moment and its reply
 use Rattle.std.specs.Prelude.{◌≡◌, ◌↔◌, ℕ, List, [], ◌∷◌, map, Some, None, slice_get, slice_set, Option}
-use Rattle.std.specs.FinMap.{get}
 use Rattle.eu_base.specs.declared.faults.Fault.{Fault}
-use Rattle.eu_base.specs.declared.names.Key.{Key}
 use Rattle.eu_model.specs.declared.commands.Command.{Command}
-use Rattle.eu_model.specs.declared.commands.Command.TheVariants.{Register, Renew, Cancel, SetStatus, UnsetStatus, Adopt, Roll, Update, Reconfigure, Evict, Drain, Landed, Lost}
+use Rattle.eu_model.specs.declared.commands.Command.TheVariants.{Drain, Landed, Lost}
 use Rattle.eu_model.specs.declared.commands.Entry.{Entry}
 use Rattle.eu_model.specs.declared.commands.Reply.{Reply}
-use Rattle.eu_model.specs.declared.commands.Reply.TheVariants.{Done, Last, Expected, Evicted, Batch, Settled}
+use Rattle.eu_model.specs.declared.commands.Reply.TheVariants.{Batch, Settled}
 use Rattle.eu_model.specs.declared.queues.Queue.{Queue}
-use Rattle.eu_model.specs.declared.views.Listed.{Listed}
-use Rattle.eu_model.specs.Change.{Change}
-use Rattle.eu_model.specs.Plain.{Plain, held_under}
-use Rattle.eu_model.specs.Kept.{after, kept_join_fault, kept_renew_fault, kept_register, kept_renew, kept_cancel, kept_set_status, kept_unset_status, kept_adopt, kept_one, kept_rolled, kept_updated, kept_reconfigured, AreKeptVictims, kept_evicted}
-use Rattle.eu_model.specs.Queue.{drained, drain_fault, landed, landed_fault, lost, lost_fault}
-use Rattle.eu_model.specs.Server.{PlainServer, key_of, task_for, with_task}
-use Rattle.eu_model.specs.Runs.{Runs}
-
--- ---- the registry
-
--- the change at this key is answered so, and leaves this
-abbrev pub Becomes : Plain → Key → Change Listed → Reply → Plain → Type 0
-Becomes old k change reply new = (reply ≡ change.reply) × (new ≡ after old k change)
-
--- the registry accepts the command at the moment t, answers it so, and goes on to new
-abbrev pub PlainStep : Plain → Command → ℕ → Reply → Plain → Type 0
-PlainStep old (Register n replicated) t reply new =
-    (kept_join_fault old n.key ≡ None)
-    × Becomes old n.key (kept_register (get old.leases n.key) (get old.rows n.key.id) old.expected n replicated t) reply new
-PlainStep old (Adopt n) t reply new =
-    (kept_join_fault old n.key ≡ None)
-    × Becomes old n.key (kept_adopt (get old.leases n.key) (get old.rows n.key.id) old.expected n t) reply new
-PlainStep old (Renew k dirty overridden replicated) t reply new =
-    let change = kept_renew (get old.leases k) (get old.rows k.id) old.expected dirty overridden replicated t in
-    (kept_renew_fault old change.counted ≡ None) × Becomes old k change reply new
-PlainStep old (Cancel k replicated) t reply new = Becomes old k (kept_cancel (get old.leases k) old.expected) reply new
-PlainStep old (SetStatus k status dirty replicated) t reply new =
-    Becomes old k (kept_set_status (kept_one old k t) (get old.leases k) (get old.rows k.id) old.expected status dirty t) reply new
-PlainStep old (UnsetStatus k suggested dirty replicated) t reply new =
-    Becomes old k (kept_unset_status (kept_one old k t) (get old.leases k) (get old.rows k.id) old.expected suggested dirty t) reply new
-PlainStep old Roll t reply new = (reply ≡ Last old.since) × (new ≡ kept_rolled old)
-PlainStep old Update t reply new = (reply ≡ Expected (kept_updated old)) × (new ≡ record old { expected = kept_updated old })
-PlainStep old (Reconfigure config) t reply new = (reply ≡ Done) × (new ≡ kept_reconfigured old config)
-PlainStep old Evict t reply new =
-    (victims : List Key) × (reply ≡ Evicted victims) × AreKeptVictims old t victims × (new ≡ kept_evicted old t victims)
--- what goes to peers is no step of the registry alone
-PlainStep old (Drain peer) t reply new = ⊥
-PlainStep old (Landed peer codes) t reply new = ⊥
-PlainStep old (Lost peer) t reply new = ⊥
+use Rattle.eu_model.specs.Plain.{held_under}
+use Rattle.eu_model.specs.PlainSteps.{PlainStep}
+use Rattle.eu_model.specs.Server.{drained, drain_fault, landed, landed_fault, lost, lost_fault, PlainServer, key_of, task_for, with_task, Runs}
 
 -- ---- the registry with the queues of its peers
 

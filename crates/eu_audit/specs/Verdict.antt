@@ -4,23 +4,24 @@ use Rattle.std.specs.FinMap.{len, entries}
 use Rattle.eu_model.specs.declared.states.State.{State}
 use Rattle.eu_model.specs.Plain.{Plain}
 use Rattle.eu_audit.specs.PlainForm.{keyed}
+use Rattle.eu_base.specs.Limits.{most_expected, most_leases, most_renewals}
 
 -- some: the step leads there; none: it leads nowhere
 abbrev pub Judged : {S : Type 0} → (S → Type 0) → Option S → Type 0
 Judged leads (Some new) = leads new
 Judged {S} leads None = (new : S) → leads new → ⊥
 
--- what is kept is within the limits of a registry
+-- it is within the limits of a registry
 pub record IsWithinLimits (p : Plain) : Type 0 where
-  pub leases : len p.leases ≤ 65536
-  pub expected : p.expected ≤ 2 ^ 40
-  pub since : p.since ≤ 2 ^ 62
+  pub leases : len p.leases ≤ most_leases
+  pub expected : p.expected ≤ most_expected
+  pub since : p.since ≤ most_renewals
 
 -- plain data is within those limits
 pub record IsLimited (s : State) : Type 0 where
-  pub leases : length s.leases ≤ 65536
-  pub expected : s.expected ≤ 2 ^ 40
-  pub since : s.since ≤ 2 ^ 62
+  pub leases : length s.leases ≤ most_leases
+  pub expected : s.expected ≤ most_expected
+  pub since : s.since ≤ most_renewals
 
 -- ---- what is kept beside plain data
 
@@ -30,4 +31,4 @@ HasNumbers p s =
 
 -- it lists what is kept, in order
 abbrev pub IsListed : Plain → State → Type 0
-IsListed p s = (entries p.leases ≡ keyed s.leases) × (entries p.rows ≡ s.rows) × HasNumbers p s
+IsListed p s = (entries p.leases ≡ keyed s.leases) × (entries p.overrides ≡ s.overrides) × HasNumbers p s

@@ -13,11 +13,11 @@ use std::alloc::{AllocError, Global};
 ///
 /// It is true exactly where both are plain forms of a server (`is_plain_form`: each thing within its limit, once, and in its place) and
 /// each entry in turn is a command that isn't refused at its moment, with the reply that it is given, the last of them leading to the
-/// end. Of a pass the number of its victims is judged, that each was held and had expired, and that none is told twice; whichever of
-/// those that had expired are told. The number of an entry and of who asked play no part.
+/// end. Of an eviction the number of its victims is judged, that each was held and had expired, and that none is told twice; whichever
+/// of those that had expired are told. The number of an entry and of who asked play no part.
 ///
-/// A step costs a logarithm of what is held, but for a pass, which costs that for each of its victims, and a turn of a peer's queue, which
-/// may cost what waits. `AllocError` where no memory is left.
+/// A step costs a logarithm of what is held, but for an eviction, which costs that for each of its victims, and a turn of a peer's queue,
+/// which may cost what waits. `AllocError` where no memory is left.
 pub fn audit(
     alloc: Global,
     base: &State,

@@ -3,9 +3,9 @@
 #![tactic(auto)]
 
 mod auditor;
+mod evictions;
 mod law;
 mod numbers;
-mod passes;
 mod plain;
 mod registry;
 mod server;

@@ -1,7 +1,7 @@
-//! The numbers of self-preservation and of a pass.
+//! The numbers of self-preservation and of an eviction.
 ghost use Rattle.std.specs.Prelude.{◌≡◌, ℕ, min};
-ghost use Rattle.eu_model.specs.Evict.{extra_time, number_of_victims};
-ghost use Rattle.eu_model.specs.Meter.{threshold, share, is_permitted, expected_after};
+ghost use Rattle.eu_model.specs.Step.{extra_time, number_of_victims};
+ghost use Rattle.eu_model.specs.Machine.{threshold, share, is_permitted, expected_after};
 
 use eu_base::{Config, Moment};
 
@@ -22,7 +22,7 @@ pub(crate) fn is_permitted(config: &Config, expected: u64, last: u64) -> bool
     !config.preservation || (0 < threshold && threshold < last as u128)
 }
 
-/// How many of so many leases one pass may evict.
+/// How many of so many leases one eviction may take.
 fn share(config: &Config, held: u64) -> u128
     ensures { result ≡ share config.now held }
 {
@@ -30,7 +30,7 @@ fn share(config: &Config, held: u64) -> u128
     held.saturating_sub(held * u128::from(config.percent.value()) / 100)
 }
 
-/// How many leases a pass may evict, of so many that are held. It evicts all that are due, where they are no more.
+/// How many leases an eviction may take, of so many that are held. It takes all that are due, where they are no more.
 pub(crate) fn most_victims(config: &Config, permitted: bool, held: u64) -> u128
     ensures { (due : ℕ) → min due result ≡ number_of_victims config.now permitted due held }
 {
@@ -49,7 +49,7 @@ pub(crate) fn expected_after(config: &Config, expected: u64, held: u64) -> u64
     }
 }
 
-/// The extra time that a pass grants each lease, in milliseconds.
+/// The extra time that an eviction grants each lease, in milliseconds.
 pub(crate) fn extra_time(config: &Config, previous: Option<Moment>, moment: Moment) -> u64
     ensures { result ≡ extra_time config.now previous moment }
 {

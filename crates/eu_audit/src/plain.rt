@@ -2,20 +2,17 @@
 ghost use Rattle.std.specs.Prelude.{◌≡◌, ◌↔◌, length, IfOk, IfSome, IsTrue, None, Ok, true, false};
 ghost use Rattle.std.specs.List.{list_all};
 ghost use Rattle.std.specs.FinMap as map;
-ghost use Rattle.eu_base.specs.Key.{name_cmp, key_cmp};
+ghost use Rattle.eu_base.specs.Values.{name_cmp, key_cmp};
 ghost use Rattle.eu_audit.specs.Verdict.{IsLimited};
 ghost use Rattle.eu_audit_queue.specs.PlainQueue.{is_plain_queue};
 ghost use Rattle.eu_audit.specs.PlainForm.{keyed, is_plain_lease, are_plain_counts, has_plain_parts};
 
 use eu_audit_changes::copied;
 use eu_audit_queue::PeerQueue;
-use eu_audit_tables::{Leases, Rows};
-use eu_base::{Id, Status};
+use eu_audit_tables::{Leases, Overrides};
+use eu_base::{Id, LAST_MOMENT, MOST_EXPECTED, MOST_LEASES, MOST_PEERS, MOST_RENEWALS, Status};
 use eu_model::{Listed, Queue, State};
 use std::alloc::{AllocError, Global};
-
-/// The greatest moment, in milliseconds.
-const LAST_MOMENT: u64 = 1 << 62;
 
 /// Whether the moments of a lease are plain.
 fn is_plain_lease(lease: &Listed) -> bool
@@ -44,11 +41,11 @@ fn are_plain_counts(state: &State) -> bool
     ensures counts { result ≡ are_plain_counts state.now }
     ensures limits { IsTrue result → IsLimited state.now }
 {
-    state.leases.as_slice().len() <= 65_536
-        && state.expected <= 1 << 40
-        && state.last <= 1 << 62
-        && state.since <= 1 << 62
-        && state.queues.as_slice().len() <= 8
+    state.leases.as_slice().len() <= MOST_LEASES
+        && state.expected <= MOST_EXPECTED
+        && state.last <= MOST_RENEWALS
+        && state.since <= MOST_RENEWALS
+        && state.queues.as_slice().len() <= MOST_PEERS as usize
 }
 
 /// The leases, each under its instance's key. `AllocError` where no memory is left.
@@ -66,11 +63,11 @@ fn read_leases(alloc: Global, leases: &[Listed]) -> Result<Leases, AllocError>
 }
 
 /// The rows, each under its id. `AllocError` where no memory is left.
-fn read_rows(alloc: Global, rows: &[(Id, Status)]) -> Result<Rows, AllocError>
-    ensures { IfOk result (λ t. t ≡ map.from_entries rows.now) }
+fn read_rows(alloc: Global, overrides: &[(Id, Status)]) -> Result<Overrides, AllocError>
+    ensures { IfOk result (λ t. t ≡ map.from_entries overrides.now) }
 {
-    let mut table = Rows::new(alloc);
-    let mut left = rows;
+    let mut table = Overrides::new(alloc);
+    let mut left = overrides;
     while let Some((row, before)) = left.split_last() {
         table.put(row.0.copy(alloc)?, row.1)?;
         left = before;
@@ -92,13 +89,16 @@ pub(crate) fn ordered_leases(alloc: Global, leases: &[Listed]) -> Result<Option<
 }
 
 /// The rows by their ids, where these strictly rise. `AllocError` where no memory is left.
-pub(crate) fn ordered_rows(alloc: Global, rows: &[(Id, Status)]) -> Result<Option<Rows>, AllocError>
-    ensures some { IfOk result (λ found. IfSome found (λ t. t ≡ map.from_entries rows.now)) }
-    ensures in_order { IfOk result (λ found. IfSome found (λ t. map.is_sorted name_cmp rows.now ≡ true)) }
-    ensures none { result ≡ Ok None → map.is_sorted name_cmp rows.now ≡ false }
+pub(crate) fn ordered_rows(
+    alloc: Global,
+    overrides: &[(Id, Status)],
+) -> Result<Option<Overrides>, AllocError>
+    ensures some { IfOk result (λ found. IfSome found (λ t. t ≡ map.from_entries overrides.now)) }
+    ensures in_order { IfOk result (λ found. IfSome found (λ t. map.is_sorted name_cmp overrides.now ≡ true)) }
+    ensures none { result ≡ Ok None → map.is_sorted name_cmp overrides.now ≡ false }
 {
-    let table = read_rows(alloc, rows)?;
-    if !table.same(rows) {
+    let table = read_rows(alloc, overrides)?;
+    if !table.same(overrides) {
         return Ok(None);
     }
     Ok(Some(table))

@@ -2,41 +2,32 @@
 ghost use Rattle.std.specs.Prelude.{ℕ, Bool, ◌≡◌, ◌↔◌, true, false, IfOk, IfSome, OnOk, IsTrue, None, Ok};
 ghost use Rattle.std.specs.Option.{option_copied};
 ghost use Rattle.std.specs.FinMap as map;
-ghost use Rattle.eu_model.specs.Kept.{after, kept_join_fault, kept_renew_fault, kept_register, kept_adopt, kept_renew, kept_cancel, kept_one, kept_set_status, kept_unset_status};
-ghost use Rattle.eu_model.specs.Meter.{is_permitted};
-ghost use Rattle.eu_model.specs.Maps.{with_value};
+ghost use Rattle.eu_model.specs.PlainSteps.{after, plain_join_fault, plain_renew_fault, plain_register, plain_adopt, plain_renew, plain_cancel, plain_one, plain_set_status, plain_unset_status, PlainStep, Becomes};
+ghost use Rattle.eu_model.specs.Machine.{is_permitted, with_value};
 ghost use Rattle.eu_model.specs.Plain.{held_under};
 ghost use Rattle.eu_model.specs.State.{plain_of_state};
 ghost use Rattle.eu_audit.specs.PlainForm.{is_in_order};
 ghost use Rattle.eu_audit.specs.Verdict.{HasNumbers, IsListed, IsLimited};
 ghost use Rattle.eu_audit_changes.specs.Changed.{change_of};
-ghost use Rattle.eu_audit.specs.PlainRuns.{PlainStep, Becomes};
 ghost use Rattle.eu_audit.specs.Verdict.{Judged, IsWithinLimits};
 
 use crate::numbers::{expected_after, is_permitted};
 use crate::plain::{ordered_leases, ordered_rows};
 use eu_audit_changes::{Changed, adopt, cancel, register, renew, set_status, unset_status};
-use eu_audit_tables::{Leases, Rows};
-use eu_base::{Config, Id, Instance, Key, Moment, Stamp, Status};
+use eu_audit_tables::{Leases, Overrides};
+use eu_base::{
+    Config, Id, Instance, Key, MOST_EXPECTED, MOST_LEASES, MOST_RENEWALS, Moment, Stamp, Status,
+};
 use eu_model::{Command, Entry, Listed, Reply, State};
 use std::alloc::{AllocError, Global};
 use std::marker::Model;
-
-/// The most leases that are held.
-const MOST_LEASES: usize = 65_536;
-
-/// The most clients that are expected.
-const MOST_EXPECTED: u64 = 1 << 40;
-
-/// The most renewals that are counted between two minutes' ends.
-const MOST_RENEWALS: u64 = 1 << 62;
 
 /// A registry that is replayed. Contracts see its plain form.
 #[derive(Debug, Drop)]
 pub(crate) struct Replica {
     pub(crate) config: Config,
     pub(crate) leases: Leases,
-    pub(crate) rows: Rows,
+    pub(crate) overrides: Overrides,
     pub(crate) expected: u64,
     pub(crate) last: u64,
     pub(crate) since: u64,
@@ -52,9 +43,9 @@ impl Model for Replica {
 
     ghost coded = { coded_plain };
 
-    ghost view = { λ r. record { config = r.config; leases = r.leases; rows = r.rows; expected = r.expected; last = r.last; since = r.since; previous = r.previous } };
+    ghost view = { λ r. record { config = r.config; leases = r.leases; overrides = r.overrides; expected = r.expected; last = r.last; since = r.since; previous = r.previous } };
 
-    ghost invariant = { λ r. IsWithinLimits (record { config = r.config; leases = r.leases; rows = r.rows; expected = r.expected; last = r.last; since = r.since; previous = r.previous }) };
+    ghost invariant = { λ r. IsWithinLimits (record { config = r.config; leases = r.leases; overrides = r.overrides; expected = r.expected; last = r.last; since = r.since; previous = r.previous }) };
 }
 
 impl Replica {
@@ -68,13 +59,13 @@ impl Replica {
         let Some(leases) = ordered_leases(alloc, state.leases.as_slice())? else {
             return Ok(None);
         };
-        let Some(rows) = ordered_rows(alloc, state.rows.as_slice())? else {
+        let Some(overrides) = ordered_rows(alloc, state.overrides.as_slice())? else {
             return Ok(None);
         };
         Ok(Some(Replica {
             config: state.config,
             leases,
-            rows,
+            overrides,
             expected: state.expected,
             last: state.last,
             since: state.since,
@@ -98,13 +89,13 @@ impl Replica {
         ensures { IsTrue result ↔ IsListed self.now state.now }
     {
         self.leases.same(state.leases.as_slice())
-            && self.rows.same(state.rows.as_slice())
+            && self.overrides.same(state.overrides.as_slice())
             && self.has_numbers(state)
     }
 
     /// Whether a lease of that key can be held.
     fn can_join(&self, key: &Key) -> bool
-        ensures { IsTrue result ↔ (kept_join_fault self.now key.now ≡ None) }
+        ensures { IsTrue result ↔ (plain_join_fault self.now key.now ≡ None) }
     {
         self.leases.get(key).is_some()
             || (self.leases.len() < MOST_LEASES && self.expected < MOST_EXPECTED)
@@ -112,7 +103,7 @@ impl Replica {
 
     /// Whether a renewal can be counted, if one is to be.
     fn can_count(&self, counted: bool) -> bool
-        ensures { IsTrue result ↔ (kept_renew_fault self.now counted ≡ None) }
+        ensures { IsTrue result ↔ (plain_renew_fault self.now counted ≡ None) }
     {
         !counted || self.since < MOST_RENEWALS
     }
@@ -125,18 +116,18 @@ impl Replica {
         let Replica {
             config,
             mut leases,
-            mut rows,
+            mut overrides,
             expected: _,
             last,
             since,
             previous,
         } = self;
         put_lease(alloc, &mut leases, key, changed.lease)?;
-        put_row(alloc, &mut rows, &key.id, changed.row)?;
+        put_row(alloc, &mut overrides, &key.id, changed.row)?;
         Ok(Replica {
             config,
             leases,
-            rows,
+            overrides,
             expected: changed.expected,
             last,
             since: if changed.counted { since + 1 } else { since },
@@ -169,12 +160,12 @@ impl Replica {
         replicated: bool,
         moment: Moment,
     ) -> Result<Changed, AllocError>
-        ensures changed { IfOk result (λ c. change_of c ≡ kept_register (map.get self.now.leases instance.now.key) (map.get self.now.rows instance.now.key.id) self.now.expected instance.now replicated moment) }
+        ensures changed { IfOk result (λ c. change_of c ≡ plain_register (map.get self.now.leases instance.now.key) (map.get self.now.overrides instance.now.key.id) self.now.expected instance.now replicated moment) }
         ensures limits { IsWithinLimits self.now }
     {
         let key = &instance.key;
         let held = self.leases.get(key);
-        let row = self.rows.get(&key.id);
+        let row = self.overrides.get(&key.id);
         register(
             alloc,
             held,
@@ -193,12 +184,12 @@ impl Replica {
         instance: &Instance,
         moment: Moment,
     ) -> Result<Changed, AllocError>
-        ensures changed { IfOk result (λ c. change_of c ≡ kept_adopt (map.get self.now.leases instance.now.key) (map.get self.now.rows instance.now.key.id) self.now.expected instance.now moment) }
+        ensures changed { IfOk result (λ c. change_of c ≡ plain_adopt (map.get self.now.leases instance.now.key) (map.get self.now.overrides instance.now.key.id) self.now.expected instance.now moment) }
         ensures limits { IsWithinLimits self.now }
     {
         let key = &instance.key;
         let held = self.leases.get(key);
-        let row = self.rows.get(&key.id);
+        let row = self.overrides.get(&key.id);
         adopt(alloc, held, row, self.expected, instance, moment)
     }
 
@@ -207,25 +198,25 @@ impl Replica {
         &self,
         alloc: Global,
         key: &Key,
-        dirty: Option<Stamp>,
+        last_dirty: Option<Stamp>,
         overridden: Option<Status>,
         replicated: bool,
         moment: Moment,
     ) -> Result<Changed, AllocError>
-        ensures changed { IfOk result (λ c. change_of c ≡ kept_renew (map.get self.now.leases key.now) (map.get self.now.rows key.now.id) self.now.expected dirty overridden replicated moment) }
+        ensures changed { IfOk result (λ c. change_of c ≡ plain_renew (map.get self.now.leases key.now) (map.get self.now.overrides key.now.id) self.now.expected last_dirty overridden replicated moment) }
         ensures limits { IsWithinLimits self.now }
     {
         let held = self.leases.get(key);
-        let row = self.rows.get(&key.id);
+        let row = self.overrides.get(&key.id);
         let expected = self.expected;
         renew(
-            alloc, held, row, expected, dirty, overridden, replicated, moment,
+            alloc, held, row, expected, last_dirty, overridden, replicated, moment,
         )
     }
 
     /// What a cancel changes.
     fn cancelled(&self, key: &Key) -> Changed
-        ensures changed { change_of result ≡ kept_cancel (map.get self.now.leases key.now) self.now.expected }
+        ensures changed { change_of result ≡ plain_cancel (map.get self.now.leases key.now) self.now.expected }
         ensures limits { IsWithinLimits self.now }
     {
         cancel(self.leases.get(key), self.expected)
@@ -244,17 +235,19 @@ impl Replica {
         alloc: Global,
         key: &Key,
         status: Status,
-        dirty: Option<Stamp>,
+        last_dirty: Option<Stamp>,
         moment: Moment,
     ) -> Result<Changed, AllocError>
-        ensures changed { IfOk result (λ c. change_of c ≡ kept_set_status (kept_one self.now key.now moment) (map.get self.now.leases key.now) (map.get self.now.rows key.now.id) self.now.expected status dirty moment) }
+        ensures changed { IfOk result (λ c. change_of c ≡ plain_set_status (plain_one self.now key.now moment) (map.get self.now.leases key.now) (map.get self.now.overrides key.now.id) self.now.expected status last_dirty moment) }
         ensures limits { IsWithinLimits self.now }
     {
         let permitted = self.permits();
         let held = self.leases.get(key);
-        let row = self.rows.get(&key.id);
+        let row = self.overrides.get(&key.id);
         let expected = self.expected;
-        set_status(alloc, permitted, held, row, expected, status, dirty, moment)
+        set_status(
+            alloc, permitted, held, row, expected, status, last_dirty, moment,
+        )
     }
 
     /// What a status changes that is unset. `AllocError` where no memory is left.
@@ -263,18 +256,18 @@ impl Replica {
         alloc: Global,
         key: &Key,
         suggested: Option<Status>,
-        dirty: Option<Stamp>,
+        last_dirty: Option<Stamp>,
         moment: Moment,
     ) -> Result<Changed, AllocError>
-        ensures changed { IfOk result (λ c. change_of c ≡ kept_unset_status (kept_one self.now key.now moment) (map.get self.now.leases key.now) (map.get self.now.rows key.now.id) self.now.expected suggested dirty moment) }
+        ensures changed { IfOk result (λ c. change_of c ≡ plain_unset_status (plain_one self.now key.now moment) (map.get self.now.leases key.now) (map.get self.now.overrides key.now.id) self.now.expected suggested last_dirty moment) }
         ensures limits { IsWithinLimits self.now }
     {
         let permitted = self.permits();
         let held = self.leases.get(key);
-        let row = self.rows.get(&key.id);
+        let row = self.overrides.get(&key.id);
         let expected = self.expected;
         unset_status(
-            alloc, permitted, held, row, expected, suggested, dirty, moment,
+            alloc, permitted, held, row, expected, suggested, last_dirty, moment,
         )
     }
 
@@ -320,15 +313,15 @@ impl Replica {
         self,
         alloc: Global,
         key: &Key,
-        dirty: Option<Stamp>,
+        last_dirty: Option<Stamp>,
         overridden: Option<Status>,
         replicated: bool,
         moment: Moment,
         reply: &Reply,
     ) -> Result<Option<Replica>, AllocError>
-        ensures { IfOk result (Judged (PlainStep self (Command.Renew key.now dirty overridden replicated) moment reply.now)) }
+        ensures { IfOk result (Judged (PlainStep self (Command.Renew key.now last_dirty overridden replicated) moment reply.now)) }
     {
-        let changed = self.renewed(alloc, key, dirty, overridden, replicated, moment)?;
+        let changed = self.renewed(alloc, key, last_dirty, overridden, replicated, moment)?;
         if !self.can_count(changed.counted) {
             return Ok(None);
         }
@@ -349,13 +342,13 @@ impl Replica {
         alloc: Global,
         key: &Key,
         status: Status,
-        dirty: Option<Stamp>,
+        last_dirty: Option<Stamp>,
         moment: Moment,
         reply: &Reply,
     ) -> Result<Option<Replica>, AllocError>
-        ensures { IfOk result (λ next. (replicated : Bool) → Judged (PlainStep self (Command.SetStatus key.now status dirty replicated) moment reply.now) next) }
+        ensures { IfOk result (λ next. (replicated : Bool) → Judged (PlainStep self (Command.SetStatus key.now status last_dirty replicated) moment reply.now) next) }
     {
-        let changed = self.status_set(alloc, key, status, dirty, moment)?;
+        let changed = self.status_set(alloc, key, status, last_dirty, moment)?;
         self.judge(alloc, key, changed, reply)
     }
 
@@ -365,19 +358,19 @@ impl Replica {
         alloc: Global,
         key: &Key,
         suggested: Option<Status>,
-        dirty: Option<Stamp>,
+        last_dirty: Option<Stamp>,
         moment: Moment,
         reply: &Reply,
     ) -> Result<Option<Replica>, AllocError>
-        ensures { IfOk result (λ next. (replicated : Bool) → Judged (PlainStep self (Command.UnsetStatus key.now suggested dirty replicated) moment reply.now) next) }
+        ensures { IfOk result (λ next. (replicated : Bool) → Judged (PlainStep self (Command.UnsetStatus key.now suggested last_dirty replicated) moment reply.now) next) }
     {
-        let changed = self.status_unset(alloc, key, suggested, dirty, moment)?;
+        let changed = self.status_unset(alloc, key, suggested, last_dirty, moment)?;
         self.judge(alloc, key, changed, reply)
     }
 
     /// Judges a minute's end by what was answered.
-    fn roll(self, reply: &Reply) -> Option<Replica>
-        ensures { (t : ℕ) → Judged (PlainStep self Command.Roll t reply.now) result }
+    fn end_minute(self, reply: &Reply) -> Option<Replica>
+        ensures { (t : ℕ) → Judged (PlainStep self Command.EndMinute t reply.now) result }
     {
         if !reply.same(&Reply::Last(self.since)) {
             return None;
@@ -437,25 +430,33 @@ impl Replica {
             } => self.register(alloc, instance, *replicated, moment, reply),
             Command::Renew {
                 key,
-                dirty,
+                last_dirty,
                 overridden,
                 replicated,
-            } => self.renew(alloc, key, *dirty, *overridden, *replicated, moment, reply),
+            } => self.renew(
+                alloc,
+                key,
+                *last_dirty,
+                *overridden,
+                *replicated,
+                moment,
+                reply,
+            ),
             Command::Cancel { key, .. } => self.cancel(alloc, key, reply),
             Command::SetStatus {
                 key,
                 status,
-                dirty,
+                last_dirty,
                 ..
-            } => self.set_status(alloc, key, *status, *dirty, moment, reply),
+            } => self.set_status(alloc, key, *status, *last_dirty, moment, reply),
             Command::UnsetStatus {
                 key,
                 status,
-                dirty,
+                last_dirty,
                 ..
-            } => self.unset_status(alloc, key, *status, *dirty, moment, reply),
+            } => self.unset_status(alloc, key, *status, *last_dirty, moment, reply),
             Command::Adopt { instance } => self.adopt(alloc, instance, moment, reply),
-            Command::Roll => Ok(self.roll(reply)),
+            Command::EndMinute => Ok(self.end_minute(reply)),
             Command::Update => Ok(self.update(reply)),
             Command::Reconfigure { config } => Ok(self.reconfigure(*config, reply)),
             Command::Evict => Ok(self.evict(moment, reply)),
@@ -494,13 +495,18 @@ fn put_lease(
 }
 
 /// Has this row, or none, under an id. `AllocError` where no memory is left.
-fn put_row(alloc: Global, rows: &mut Rows, id: &Id, row: Option<Status>) -> Result<(), AllocError>
-    ensures { OnOk result (rows.new ≡ with_value rows.old id.now row) }
+fn put_row(
+    alloc: Global,
+    overrides: &mut Overrides,
+    id: &Id,
+    row: Option<Status>,
+) -> Result<(), AllocError>
+    ensures { OnOk result (overrides.new ≡ with_value overrides.old id.now row) }
 {
     match row {
-        Some(row) => rows.put(id.copy(alloc)?, row),
+        Some(row) => overrides.put(id.copy(alloc)?, row),
         None => {
-            rows.remove(id);
+            overrides.remove(id);
             Ok(())
         }
     }

@@ -16,20 +16,20 @@ use std::alloc::{AllocError, Global};
 use std::marker::Model;
 
 /// The queues with a task put into each. `AllocError` where no memory is left.
-fn told(
+fn queues_with(
     alloc: Global,
     mut queues: Vec<PeerQueue>,
     task: &Task,
 ) -> Result<Vec<PeerQueue>, AllocError>
-    ensures { IfOk result (λ told. told.items ≡ all (with_task (Some task.now)) queues.items) }
+    ensures { IfOk result (λ rest. rest.items ≡ all (with_task (Some task.now)) queues.items) }
 {
     let Some(mut last) = queues.pop() else {
         return Ok(queues);
     };
     last.put(alloc, task)?;
-    let mut told = told(alloc, queues, task)?;
-    told.push(last)?;
-    Ok(told)
+    let mut rest = queues_with(alloc, queues, task)?;
+    rest.push(last)?;
+    Ok(rest)
 }
 
 /// The queues with the task of a step put into each, if there is one. `AllocError` where no memory is left.
@@ -41,7 +41,7 @@ fn queued(
     ensures { IfOk result (λ queued. queued.items ≡ all (with_task task) queues.items) }
 {
     match task {
-        Some(task) => told(alloc, queues, &task),
+        Some(task) => queues_with(alloc, queues, &task),
         None => Ok(queues),
     }
 }

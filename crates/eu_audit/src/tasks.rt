@@ -72,7 +72,7 @@ fn task_of_renewal(
     reply: &Reply,
     held: Option<&Instance>,
 ) -> Result<Option<Task>, AllocError>
-    ensures { IfOk result (λ t. (dirty : Option ℕ) (overridden : Option own.Status) → t ≡ task_for (Command.Renew key.now dirty overridden replicated) moment reply.now (option_copied held.entry)) }
+    ensures { IfOk result (λ t. (last_dirty : Option ℕ) (overridden : Option own.Status) → t ≡ task_for (Command.Renew key.now last_dirty overridden replicated) moment reply.now (option_copied held.entry)) }
 {
     match reply {
         Reply::Done | Reply::Stale if !replicated => task(
@@ -113,7 +113,7 @@ fn task_of_status(
     reply: &Reply,
     held: Option<&Instance>,
 ) -> Result<Option<Task>, AllocError>
-    ensures { IfOk result (λ t. (dirty : Option ℕ) → t ≡ task_for (Command.SetStatus key.now status dirty replicated) moment reply.now (option_copied held.entry)) }
+    ensures { IfOk result (λ t. (last_dirty : Option ℕ) → t ≡ task_for (Command.SetStatus key.now status last_dirty replicated) moment reply.now (option_copied held.entry)) }
 {
     match reply {
         Reply::Done if !replicated => task(
@@ -137,7 +137,7 @@ fn task_of_unset(
     reply: &Reply,
     held: Option<&Instance>,
 ) -> Result<Option<Task>, AllocError>
-    ensures { IfOk result (λ t. (suggested : Option own.Status) (dirty : Option ℕ) → t ≡ task_for (Command.UnsetStatus key.now suggested dirty replicated) moment reply.now (option_copied held.entry)) }
+    ensures { IfOk result (λ t. (suggested : Option own.Status) (last_dirty : Option ℕ) → t ≡ task_for (Command.UnsetStatus key.now suggested last_dirty replicated) moment reply.now (option_copied held.entry)) }
 {
     match reply {
         Reply::Done if !replicated => {

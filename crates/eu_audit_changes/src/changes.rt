@@ -1,12 +1,11 @@
 //! What registrations, adoptions and cancels change.
 ghost use Rattle.std.specs.Prelude.{◌≡◌, ◌≤◌, ◌^◌, not, is_some, IfOk, true};
 ghost use Rattle.std.specs.Option.{option_copied, option_map, option_map_or};
-ghost use Rattle.eu_model.specs.Override.{rule, is_status};
-ghost use Rattle.eu_model.specs.Change.{newer, row_after, told, under_row, joined, up_after, one_more, uncounted};
-ghost use Rattle.eu_model.specs.Kept.{kept_register, kept_adopt, kept_cancel};
+ghost use Rattle.eu_model.specs.Change.{rule, is_status, newer, row_after, row_of, under_row, joined, up_after, one_more, uncounted};
+ghost use Rattle.eu_model.specs.PlainSteps.{plain_register, plain_adopt, plain_cancel};
 ghost use Rattle.eu_audit_changes.specs.Changed.{change_of, under_listed};
 
-use eu_base::{Instance, Moment, Status};
+use eu_base::{Instance, MOST_EXPECTED, Moment, Status};
 use eu_model::{Listed, Reply, Times};
 use std::alloc::{AllocError, Global};
 
@@ -27,7 +26,7 @@ pub struct Changed {
 
 impl Changed {
     /// Nothing changes but, perhaps, the row.
-    pub(crate) fn kept(
+    pub(crate) fn unchanged(
         alloc: Global,
         held: Option<&Listed>,
         row: Option<Status>,
@@ -91,8 +90,8 @@ pub(crate) fn rule(
 }
 
 /// The row that an overridden status tells: none, where it is UNKNOWN.
-fn told(overridden: Status) -> Option<Status>
-    ensures { result ≡ told overridden }
+fn row_of(overridden: Status) -> Option<Status>
+    ensures { result ≡ row_of overridden }
 {
     match overridden {
         Status::Unknown => None,
@@ -106,7 +105,7 @@ fn row_after(row: Option<Status>, overridden: Status) -> Option<Status>
 {
     match row {
         Some(status) => Some(status),
-        None => told(overridden),
+        None => row_of(overridden),
     }
 }
 
@@ -135,7 +134,7 @@ fn newer_overridden(held: Option<&Instance>, instance: &Instance) -> Status
     ensures { result ≡ (newer (option_copied held.entry) instance.now).overridden }
 {
     match held {
-        Some(held) if instance.dirty.value() < held.dirty.value() => held.overridden,
+        Some(held) if instance.last_dirty.value() < held.last_dirty.value() => held.overridden,
         _ => instance.overridden,
     }
 }
@@ -149,7 +148,7 @@ fn newer(
     ensures { IfOk result (λ i. i ≡ newer (option_copied held.entry) instance.now) }
 {
     match held {
-        Some(held) if instance.dirty.value() < held.dirty.value() => {
+        Some(held) if instance.last_dirty.value() < held.last_dirty.value() => {
             let mut chosen = held.copy(alloc)?;
             chosen.secs = instance.secs;
             Ok(chosen)
@@ -210,7 +209,7 @@ fn is_absent(held: Option<&Listed>) -> bool
 
 /// The number expected after a registration.
 fn one_more(comes: bool, expected: u64) -> u64
-    requires { expected ≤ 2 ^ 40 }
+    requires { expected ≤ MOST_EXPECTED }
     ensures { result ≡ one_more comes expected }
 {
     if comes && expected > 0 {
@@ -233,8 +232,8 @@ pub fn register(
     replicated: bool,
     moment: Moment,
 ) -> Result<Changed, AllocError>
-    requires { expected ≤ 2 ^ 40 }
-    ensures { IfOk result (λ c. change_of c ≡ kept_register (option_copied held.entry) row expected instance.now replicated moment) }
+    requires { expected ≤ MOST_EXPECTED }
+    ensures { IfOk result (λ c. change_of c ≡ plain_register (option_copied held.entry) row expected instance.now replicated moment) }
 {
     let before = instance_of(held);
     let fresh = is_absent(held);
@@ -287,15 +286,15 @@ pub fn adopt(
     instance: &Instance,
     moment: Moment,
 ) -> Result<Changed, AllocError>
-    requires { expected ≤ 2 ^ 40 }
-    ensures { IfOk result (λ c. change_of c ≡ kept_adopt (option_copied held.entry) row expected instance.now moment) }
+    requires { expected ≤ MOST_EXPECTED }
+    ensures { IfOk result (λ c. change_of c ≡ plain_adopt (option_copied held.entry) row expected instance.now moment) }
 {
-    let told = told(instance.overridden);
-    let held = overridden_by(alloc, told, held)?;
+    let own = row_of(instance.overridden);
+    let held = overridden_by(alloc, own, held)?;
     register(
         alloc,
         held.as_ref(),
-        told.or(row),
+        own.or(row),
         expected,
         instance,
         true,
@@ -305,7 +304,7 @@ pub fn adopt(
 
 /// What a cancel changes, where `held` is the lease, and so many clients are expected. Takes no memory.
 pub fn cancel(held: Option<&Listed>, expected: u64) -> Changed
-    ensures { change_of result ≡ kept_cancel (option_copied held.entry) expected }
+    ensures { change_of result ≡ plain_cancel (option_copied held.entry) expected }
 {
     match held {
         Some(_) => Changed {

@@ -1,10 +1,10 @@
 //! What renewals change, and statuses that are set or unset.
 ghost use Rattle.std.specs.Prelude.{◌≡◌, ◌+◌, ◌*◌, IfOk, Some};
 ghost use Rattle.std.specs.Option.{option_copied};
-ghost use Rattle.eu_model.specs.Change.{renew_reply, brought, stamped, renew_as, in_status, out_of_override, uncounted};
-ghost use Rattle.eu_model.specs.Kept.{kept, raised, kept_renew, kept_set_status, kept_unset_status, kept_seen, kept_expired};
+ghost use Rattle.eu_model.specs.Change.{renew_reply, row_of_peer, stamped, renew_as, in_status, out_of_override, uncounted};
+ghost use Rattle.eu_model.specs.PlainSteps.{plain_change, raised, plain_renew, plain_set_status, plain_unset_status, plain_seen, plain_expired};
 ghost use Rattle.eu_model.specs.Plain.{listed};
-ghost use Rattle.eu_model.specs.Record.{renewed};
+ghost use Rattle.eu_model.specs.Machine.{renewed};
 ghost use Rattle.eu_audit_changes.specs.Changed.{change_of};
 
 use crate::changes::{Changed, is_status, rule, under_row, up_after};
@@ -14,7 +14,7 @@ use std::alloc::{AllocError, Global};
 
 /// Whether a lease has expired at a moment, if it is granted so many extra milliseconds. Takes no memory.
 pub fn expired(held: &Listed, moment: Moment, extra: u64) -> bool
-    ensures { result ≡ kept_expired held.now moment extra }
+    ensures { result ≡ plain_expired held.now moment extra }
 {
     let secs = u128::from(held.instance.secs.secs());
     let deadline = held.times.updated as u128 + 1000 * secs + extra as u128;
@@ -23,7 +23,7 @@ pub fn expired(held: &Listed, moment: Moment, extra: u64) -> bool
 
 /// The lease, where it is visible.
 fn seen(permitted: bool, moment: Moment, held: Option<&Listed>) -> Option<&Listed>
-    ensures { option_copied result ≡ kept_seen permitted moment (option_copied held.entry) }
+    ensures { option_copied result ≡ plain_seen permitted moment (option_copied held.entry) }
 {
     match held {
         Some(held) if permitted && expired(held, moment, 0) => None,
@@ -43,12 +43,12 @@ fn renewed(times: Times, secs: LeaseSecs, moment: Moment) -> Times
 }
 
 /// The instance, with a greater stamp than the one that it has.
-fn stamped(dirty: Option<Stamp>, mut instance: Instance) -> Instance
-    ensures { result ≡ stamped dirty instance }
+fn stamped(last_dirty: Option<Stamp>, mut instance: Instance) -> Instance
+    ensures { result ≡ stamped last_dirty instance }
 {
-    match dirty {
-        Some(stamp) if instance.dirty.value() < stamp.value() => {
-            instance.dirty = stamp;
+    match last_dirty {
+        Some(stamp) if instance.last_dirty.value() < stamp.value() => {
+            instance.last_dirty = stamp;
             instance
         }
         _ => instance,
@@ -67,15 +67,15 @@ fn in_statuses(mut instance: Instance, status: Status, overridden: Status) -> In
 /// What a renewal is answered that finds this instance. `AllocError` where no memory is left.
 fn renew_reply(
     alloc: Global,
-    dirty: Option<Stamp>,
+    last_dirty: Option<Stamp>,
     instance: &Instance,
     replicated: bool,
 ) -> Result<Reply, AllocError>
-    ensures { IfOk result (λ r. r ≡ renew_reply dirty instance.now replicated) }
+    ensures { IfOk result (λ r. r ≡ renew_reply last_dirty instance.now replicated) }
 {
-    match dirty {
-        Some(stamp) if instance.dirty.value() < stamp.value() => Ok(Reply::Stale),
-        Some(stamp) if stamp.value() < instance.dirty.value() && replicated => {
+    match last_dirty {
+        Some(stamp) if instance.last_dirty.value() < stamp.value() => Ok(Reply::Stale),
+        Some(stamp) if stamp.value() < instance.last_dirty.value() && replicated => {
             let held = instance.copy(alloc)?;
             Ok(Reply::Conflict(BoxedInstance::new(alloc, held)?))
         }
@@ -84,13 +84,13 @@ fn renew_reply(
 }
 
 /// The row that a peer's stale renewal brings.
-fn brought(
+fn row_of_peer(
     reply: &Reply,
     replicated: bool,
     overridden: Option<Status>,
     row: Option<Status>,
 ) -> Option<Status>
-    ensures { result ≡ brought reply.now replicated overridden row }
+    ensures { result ≡ row_of_peer reply.now replicated overridden row }
 {
     let Reply::Stale = reply else {
         return None;
@@ -113,18 +113,18 @@ fn renew_as(
     held: &Listed,
     row: Option<Status>,
     expected: u64,
-    dirty: Option<Stamp>,
+    last_dirty: Option<Stamp>,
     overridden: Option<Status>,
     replicated: bool,
     moment: Moment,
     status: Status,
 ) -> Result<Changed, AllocError>
-    ensures { IfOk result (λ c. change_of c ≡ kept (renew_as (raised held.now) row expected dirty overridden replicated moment status)) }
+    ensures { IfOk result (λ c. change_of c ≡ plain_change (renew_as (raised held.now) row expected last_dirty overridden replicated moment status)) }
 {
     let instance = held.instance.copy(alloc)?;
     let instance = in_statuses(instance, status, held.instance.overridden);
-    let reply = renew_reply(alloc, dirty, &instance, replicated)?;
-    let new_row = brought(&reply, replicated, overridden, row);
+    let reply = renew_reply(alloc, last_dirty, &instance, replicated)?;
+    let new_row = row_of_peer(&reply, replicated, overridden, row);
     Ok(Changed {
         lease: Some(Listed {
             instance: under_row(new_row, instance),
@@ -138,7 +138,7 @@ fn renew_as(
 }
 
 /// What a renewal at the moment changes, where `held` is the lease, `row` the override row of its id, and so many clients are expected.
-/// The sender knows the instance by the stamp `dirty`, if it gives one, and by the overridden status, if it gives one. `replicated` says
+/// The sender knows the instance by the stamp `last_dirty`, if it gives one, and by the overridden status, if it gives one. `replicated` says
 /// that a peer sends it.
 ///
 /// `AllocError` where no memory is left.
@@ -147,23 +147,23 @@ pub fn renew(
     held: Option<&Listed>,
     row: Option<Status>,
     expected: u64,
-    dirty: Option<Stamp>,
+    last_dirty: Option<Stamp>,
     overridden: Option<Status>,
     replicated: bool,
     moment: Moment,
 ) -> Result<Changed, AllocError>
-    ensures { IfOk result (λ c. change_of c ≡ kept_renew (option_copied held.entry) row expected dirty overridden replicated moment) }
+    ensures { IfOk result (λ c. change_of c ≡ plain_renew (option_copied held.entry) row expected last_dirty overridden replicated moment) }
 {
     let Some(lease) = held else {
-        return Changed::kept(alloc, held, row, expected, Reply::NotFound);
+        return Changed::unchanged(alloc, held, row, expected, Reply::NotFound);
     };
     let own = lease.instance.status;
     let status = rule(own, row, Some(own), replicated);
     if is_status(status, Status::Unknown) {
-        return Changed::kept(alloc, held, row, expected, Reply::NotFound);
+        return Changed::unchanged(alloc, held, row, expected, Reply::NotFound);
     }
     renew_as(
-        alloc, lease, row, expected, dirty, overridden, replicated, moment, status,
+        alloc, lease, row, expected, last_dirty, overridden, replicated, moment, status,
     )
 }
 
@@ -183,16 +183,16 @@ fn in_status(
     alloc: Global,
     held: &Listed,
     status: Status,
-    dirty: Option<Stamp>,
+    last_dirty: Option<Stamp>,
     moment: Moment,
 ) -> Result<Listed, AllocError>
-    ensures { IfOk result (λ l. l ≡ listed (in_status (raised held.now) status dirty moment)) }
+    ensures { IfOk result (λ l. l ≡ listed (in_status (raised held.now) status last_dirty moment)) }
 {
     let instance = in_statuses(held.instance.copy(alloc)?, status, status);
     let mut times = renewed(held.times, held.instance.secs, moment);
     times.up = up_after(held.times.up, status, moment);
     Ok(Listed {
-        instance: stamped(dirty, instance),
+        instance: stamped(last_dirty, instance),
         times,
     })
 }
@@ -202,15 +202,15 @@ fn out_of_override(
     alloc: Global,
     held: &Listed,
     suggested: Option<Status>,
-    dirty: Option<Stamp>,
+    last_dirty: Option<Stamp>,
     moment: Moment,
 ) -> Result<Listed, AllocError>
-    ensures { IfOk result (λ l. l ≡ listed (out_of_override (raised held.now) suggested dirty moment)) }
+    ensures { IfOk result (λ l. l ≡ listed (out_of_override (raised held.now) suggested last_dirty moment)) }
 {
     let status = suggested.unwrap_or(Status::Unknown);
     let instance = in_statuses(held.instance.copy(alloc)?, status, Status::Unknown);
     Ok(Listed {
-        instance: stamped(dirty, instance),
+        instance: stamped(last_dirty, instance),
         times: renewed(held.times, held.instance.secs, moment),
     })
 }
@@ -229,7 +229,7 @@ fn done(lease: Listed, row: Option<Status>, expected: u64) -> Changed
 }
 
 /// What a status that is set at the moment changes, where `held` is the lease, `row` the override row of its id, and so many clients are
-/// expected. `permitted` says that eviction is permitted, so that a lease that has expired isn't visible; `dirty` is the stamp of the
+/// expected. `permitted` says that eviction is permitted, so that a lease that has expired isn't visible; `last_dirty` is the stamp of the
 /// change, if one is given.
 ///
 /// `AllocError` where no memory is left.
@@ -240,24 +240,24 @@ pub fn set_status(
     row: Option<Status>,
     expected: u64,
     status: Status,
-    dirty: Option<Stamp>,
+    last_dirty: Option<Stamp>,
     moment: Moment,
 ) -> Result<Changed, AllocError>
-    ensures { IfOk result (λ c. change_of c ≡ kept_set_status (kept_seen permitted moment (option_copied held.entry)) (option_copied held.entry) row expected status dirty moment) }
+    ensures { IfOk result (λ c. change_of c ≡ plain_set_status (plain_seen permitted moment (option_copied held.entry)) (option_copied held.entry) row expected status last_dirty moment) }
 {
     let Some(lease) = seen(permitted, moment, held) else {
-        return Changed::kept(alloc, held, row, expected, Reply::NotFound);
+        return Changed::unchanged(alloc, held, row, expected, Reply::NotFound);
     };
     if is_status(lease.instance.status, status) {
         return Ok(done(renewed_lease(alloc, lease, moment)?, row, expected));
     }
-    let lease = in_status(alloc, lease, status, dirty, moment)?;
+    let lease = in_status(alloc, lease, status, last_dirty, moment)?;
     Ok(done(lease, Some(status), expected))
 }
 
 /// What a status that is unset at the moment changes, where `held` is the lease, `row` the override row of its id, and so many clients are
 /// expected. `permitted` says that eviction is permitted, so that a lease that has expired isn't visible; `suggested` is the status that
-/// the instance may have then, and `dirty` the stamp of the change, if they are given.
+/// the instance may have then, and `last_dirty` the stamp of the change, if they are given.
 ///
 /// `AllocError` where no memory is left.
 pub fn unset_status(
@@ -267,16 +267,16 @@ pub fn unset_status(
     row: Option<Status>,
     expected: u64,
     suggested: Option<Status>,
-    dirty: Option<Stamp>,
+    last_dirty: Option<Stamp>,
     moment: Moment,
 ) -> Result<Changed, AllocError>
-    ensures { IfOk result (λ c. change_of c ≡ kept_unset_status (kept_seen permitted moment (option_copied held.entry)) (option_copied held.entry) row expected suggested dirty moment) }
+    ensures { IfOk result (λ c. change_of c ≡ plain_unset_status (plain_seen permitted moment (option_copied held.entry)) (option_copied held.entry) row expected suggested last_dirty moment) }
 {
     let Some(lease) = seen(permitted, moment, held) else {
-        return Changed::kept(alloc, held, row, expected, Reply::NotFound);
+        return Changed::unchanged(alloc, held, row, expected, Reply::NotFound);
     };
     let lease = match row {
-        Some(_) => out_of_override(alloc, lease, suggested, dirty, moment)?,
+        Some(_) => out_of_override(alloc, lease, suggested, last_dirty, moment)?,
         None => renewed_lease(alloc, lease, moment)?,
     };
     Ok(done(lease, None, expected))

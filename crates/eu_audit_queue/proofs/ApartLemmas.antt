@@ -4,8 +4,8 @@ use Rattle.std.proofs.lemmas.Bool.{and_parts, and_from, or_parts, or_from, not-t
 use Rattle.std.proofs.lemmas.List.{drop-append-le, take_more}
 use Rattle.std.proofs.lemmas.List.Folds.{list_any-append}
 use Rattle.eu_base.specs.declared.tasks.Task.{Task}
-use Rattle.eu_base.specs.Action.{same_name}
-use Rattle.eu_model.specs.Queue.{waits}
+use Rattle.eu_base.specs.Values.{same_name}
+use Rattle.eu_model.specs.Server.{waits}
 use Rattle.eu_audit_queue.specs.PlainQueue.{are_apart}
 use Rattle.eu_audit_queue.specs.Names.{name_of, has_name}
 use Rattle.eu_audit_queue.proofs.NameLemmas.{for_same, has_name-for_same, name-for_same, same_name-flips}

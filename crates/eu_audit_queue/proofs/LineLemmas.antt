@@ -6,7 +6,7 @@ use Rattle.std.proofs.lemmas.Bool.{or_parts}
 use Rattle.std.proofs.lemmas.List.{take_all, map-append, length-map}
 use Rattle.lru.specs.LruCache.{LruCache, demoted, put_entries}
 use Rattle.eu_base.specs.declared.tasks.Task.{Task}
-use Rattle.eu_model.specs.Queue.{is_old, waits}
+use Rattle.eu_model.specs.Server.{is_old, waits}
 use Rattle.eu_audit_queue.specs.declared.name.Name.{Name}
 use Rattle.eu_audit_queue.specs.PlainQueue.{are_apart}
 use Rattle.eu_audit_queue.specs.Names.{entries_of, has_name, name_of, names_eq, without_old}

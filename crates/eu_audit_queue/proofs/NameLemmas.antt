@@ -2,9 +2,9 @@
 use Rattle.std.proofs.Common.{◌≡◌, Bool, true, false, cond, ◌||◌, List, [], ◌∷◌, map, eqb, refl, sym, ap, ◌∙◌}
 use Rattle.std.proofs.lemmas.Bool.{and_parts, and_from, eqb-true, eq-eqb, or_parts}
 use Rattle.eu_base.specs.declared.tasks.Task.{Task}
-use Rattle.eu_base.specs.Action.{same_name}
+use Rattle.eu_base.specs.Values.{same_name}
 use Rattle.eu_base.proofs.KeyLemmas.{key_eq-Decides}
-use Rattle.eu_model.specs.Queue.{waits}
+use Rattle.eu_model.specs.Server.{waits}
 use Rattle.eu_audit_queue.specs.declared.name.Name.{Name}
 use Rattle.eu_audit_queue.specs.Names.{name_of, names_eq, has_name}
 

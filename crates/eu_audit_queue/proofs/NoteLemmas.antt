@@ -4,10 +4,9 @@ use Rattle.std.specs.Ordering.{ordering_then}
 use Rattle.std.specs.BTreeSet.{BTreeSet, Updates, contains}
 use Rattle.std.proofs.lemmas.Bool.{and_left, and_right, or_parts, ne_eqb, eqb-true, ltb-true, lt-ltb, le-ltb, cases_Bool}
 use Rattle.eu_base.specs.declared.tasks.Task.{Task}
-use Rattle.eu_base.specs.Key.{key_cmp}
-use Rattle.eu_base.specs.Action.{same_name}
+use Rattle.eu_base.specs.Values.{key_cmp, same_name}
 use Rattle.eu_base.proofs.KeyLemmas.{key_eq-ties}
-use Rattle.eu_model.specs.Queue.{is_old, live}
+use Rattle.eu_model.specs.Server.{is_old, live}
 use Rattle.eu_audit_queue.specs.declared.name.Name.{Name}
 use Rattle.eu_audit_queue.specs.declared.ages.Note.{Note}
 use Rattle.eu_audit_queue.specs.Names.{AreNoted, HasNoOld, HasOldOnly, has_name, name_of, names_eq, note_at, note_cmp, note_of, without_old}

@@ -5,9 +5,9 @@ use Rattle.std.specs.Ordering.{nat_cmp, ordering_then}
 use Rattle.std.specs.List.{AllByRecursion, list_any}
 use Rattle.std.specs.BTreeSet.{BTreeSet, Updates, contains}
 use Rattle.eu_base.specs.declared.tasks.Task.{Task}
-use Rattle.eu_base.specs.Action.{place_of_action}
-use Rattle.eu_base.specs.Key.{key_cmp, key_eq}
-use Rattle.eu_model.specs.Queue.{is_old, task_age}
+use Rattle.eu_base.specs.Values.{place_of_action, key_cmp, key_eq}
+use Rattle.eu_model.specs.Server.{is_old}
+use Rattle.eu_base.specs.Limits.{task_age}
 use Rattle.eu_audit_queue.specs.declared.name.Name.{Name}
 use Rattle.eu_audit_queue.specs.declared.ages.Note.{Note}
 

@@ -6,9 +6,10 @@ use Rattle.eu_base.specs.declared.statuses.Status.{Status}
 use Rattle.eu_base.specs.declared.tasks.Action.{Action}
 use Rattle.eu_base.specs.declared.tasks.Action.TheVariants.{Register, Heartbeat, Cancel, StatusUpdate, DeleteStatusOverride}
 use Rattle.eu_base.specs.declared.tasks.Task.{Task}
-use Rattle.eu_base.specs.Key.{key_eq}
+use Rattle.eu_base.specs.Values.{key_eq}
 use Rattle.eu_model.specs.declared.queues.Queue.{Queue}
-use Rattle.eu_model.specs.Queue.{most_waiting, most_sent, waits}
+use Rattle.eu_model.specs.Server.{waits}
+use Rattle.eu_base.specs.Limits.{most_sent, most_waiting}
 
 -- what tasks have by their action: a status or none, and an instance or none, of the task's own key
 abbrev pub has_its_parts : Action → Option Status → Option Bool → Bool

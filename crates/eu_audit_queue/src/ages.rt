@@ -1,16 +1,13 @@
 //! When the tasks that wait were queued.
 ghost use Rattle.std.specs.Prelude.{◌≡◌, ◌<◌, ◌+◌, true, false, not, nat_lt, IfSome, IfNone, OnOk, OnErr, length};
 ghost use Rattle.std.specs.BTreeSet.{Updates};
-ghost use Rattle.eu_model.specs.Queue.{is_old};
+ghost use Rattle.eu_model.specs.Server.{is_old};
 ghost use Rattle.eu_audit_queue.specs.Names.{HasOldOnly, HasNoOld, note_of, note_at, note_cmp};
 
 use crate::name::Name;
-use eu_base::{Moment, Task};
+use eu_base::{Moment, TASK_AGE, Task};
 use std::alloc::{AllocError, Global};
 use std::collections::BTreeSet;
-
-/// A task is worth sending for so many milliseconds.
-const TASK_AGE: u64 = 30_000;
 
 /// That a task of a name was queued at a moment. Notes are in order: by their moments, and then by their names.
 #[derive(Debug, Drop, PartialEq, Eq, PartialOrd, Ord)]
@@ -70,7 +67,7 @@ pub(crate) fn is_live(task: &Task, moment: Moment) -> bool
 
 /// Whether a task that was queued at so many milliseconds is still worth sending at the moment.
 fn is_recent(queued: u64, moment: Moment) -> bool
-    ensures { result ≡ not (nat_lt (queued + 30000) moment) }
+    ensures { result ≡ not (nat_lt (queued + TASK_AGE) moment) }
 {
     moment.ms().saturating_sub(queued) <= TASK_AGE
 }

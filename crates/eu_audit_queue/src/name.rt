@@ -1,6 +1,6 @@
 //! The names of tasks.
 ghost use Rattle.std.specs.Prelude.{◌≡◌, IfOk};
-ghost use Rattle.eu_base.specs.Action.{place_of_action};
+ghost use Rattle.eu_base.specs.Values.{place_of_action};
 ghost use Rattle.eu_audit_queue.specs.Names.{name_of};
 
 use eu_base::{Action, Key, Task};

@@ -1,15 +1,14 @@
 //! Tasks in a line, of which each is found by its name.
 ghost use Rattle.std.specs.Prelude.{◌≡◌, ◌==◌, ◌≤◌, ◌<◌, ◌↔◌, ◌∷◌, ◌++◌, [], not, length, map, option_to_list, true, false, if◌then◌else◌, IfSome, IfNone, IfOk, OnOk, OnErr, IsTrue};
 ghost use Rattle.std.specs.Option.{option_map};
-ghost use Rattle.eu_base.specs.Action.{same_name};
-ghost use Rattle.eu_model.specs.Queue.{live, waits};
+ghost use Rattle.eu_base.specs.Values.{same_name};
+ghost use Rattle.eu_model.specs.Server.{live, waits};
 ghost use Rattle.eu_audit_queue.specs.PlainQueue.{are_apart};
 ghost use Rattle.eu_audit_queue.specs.Names.{has_name, name_of, without_old};
 
 use crate::ages::is_live;
 use crate::name::Name;
-use eu_base::{Moment, Task};
-use eu_model::Tasks;
+use eu_base::{MOST_WAITING, Moment, Task, Tasks};
 use lru::LruCache;
 use std::alloc::{AllocError, Global};
 use std::marker::Model;
@@ -32,6 +31,7 @@ impl Model for Order {
     ghost use Rattle.eu_base.specs.contracts.tasks.Task as task;
     ghost use Rattle.eu_audit_queue.specs.PlainQueue.{are_apart};
     ghost use Rattle.eu_audit_queue.specs.Names.{entries_of};
+    ghost use Rattle.eu_base.specs.Limits.{most_waiting};
 
     ghost Value = { List Task };
 
@@ -39,7 +39,7 @@ impl Model for Order {
 
     ghost view = { λ o. values_of o.tasks.entries };
 
-    ghost invariant = { λ o. (o.tasks.entries ≡ entries_of (values_of o.tasks.entries)) × (are_apart (values_of o.tasks.entries) ≡ true) × (length (values_of o.tasks.entries) ≤ 10000) × (o.tasks.cap ≡ 2 ^ 64 - 1) };
+    ghost invariant = { λ o. (o.tasks.entries ≡ entries_of (values_of o.tasks.entries)) × (are_apart (values_of o.tasks.entries) ≡ true) × (length (values_of o.tasks.entries) ≤ most_waiting) × (o.tasks.cap ≡ 2 ^ 64 - 1) };
 }
 
 impl Order {
@@ -54,7 +54,7 @@ impl Order {
     /// How many tasks there are.
     pub(crate) fn len(&self) -> usize
         ensures value { result ≡ length self.now }
-        ensures few { length self.now ≤ 10000 }
+        ensures few { length self.now ≤ MOST_WAITING }
         ensures apart { are_apart self.now ≡ true }
     {
         self.tasks.len()
@@ -71,7 +71,7 @@ impl Order {
     /// Puts a task of a new name first. `AllocError` where no memory is left, and then nothing has changed.
     pub(crate) fn put_first(&mut self, alloc: Global, task: Task) -> Result<(), AllocError>
         requires new { waits task self.old ≡ false }
-        requires few { length self.old < 10000 }
+        requires few { length self.old < MOST_WAITING }
         ensures ok { OnOk result (self.new ≡ task ∷ self.old) }
         ensures err { OnErr result (self.new ≡ self.old) }
     {
@@ -84,7 +84,7 @@ impl Order {
     /// Puts a task of a new name last. `AllocError` where no memory is left, and then nothing has changed.
     pub(crate) fn put_last(&mut self, alloc: Global, task: Task) -> Result<(), AllocError>
         requires new { waits task self.old ≡ false }
-        requires few { length self.old < 10000 }
+        requires few { length self.old < MOST_WAITING }
         ensures ok { OnOk result (self.new ≡ self.old ++ task ∷ []) }
         ensures err { OnErr result (self.new ≡ self.old) }
     {

@@ -1,14 +1,13 @@
 //! The queue of a peer.
 ghost use Rattle.std.specs.Prelude.{◌≡◌, ◌↔◌, if◌then◌else◌, Some, None, Ok, IfOk, OnOk, IsTrue};
-ghost use Rattle.eu_model.specs.Queue.{drained, drain_fault, landed, landed_fault, lost, lost_fault};
-ghost use Rattle.eu_model.specs.Server.{with_task};
+ghost use Rattle.eu_model.specs.Server.{drained, drain_fault, landed, landed_fault, lost, lost_fault, with_task};
 ghost use Rattle.eu_base.specs.declared.faults.Fault.{Fault};
 ghost use Rattle.eu_audit_queue.specs.PlainQueue.{is_plain_queue};
 
 use crate::plain::are_plain;
-use crate::waiting::{MOST_SENT, Waiting};
-use eu_base::{Codes, Fault, Moment, Task};
-use eu_model::{Queue, Tasks};
+use crate::waiting::Waiting;
+use eu_base::{Codes, Fault, MOST_SENT, Moment, Task, Tasks};
+use eu_model::Queue;
 use std::alloc::{AllocError, Global};
 use std::marker::Model;
 

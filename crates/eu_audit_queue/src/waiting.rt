@@ -1,25 +1,18 @@
 //! The tasks that wait.
 ghost use Rattle.std.specs.Prelude.{◌≡◌, ◌==◌, ◌+◌, ◌≤◌, ◌<◌, ◌↔◌, ◌&&◌, ◌∷◌, ◌++◌, [], not, drop, take, filter, length, map, option_to_list, true, false, nat_le, if◌then◌else◌, Some, None, IfNone, IfOk, OnOk, IsTrue};
 ghost use Rattle.std.specs.VecDeque.{deque_len};
-ghost use Rattle.eu_base.specs.Action.{same_name};
-ghost use Rattle.eu_model.specs.Queue.{again, all_answered, answered, bounded, live, put, waits};
+ghost use Rattle.eu_base.specs.Values.{same_name};
+ghost use Rattle.eu_model.specs.Server.{again, all_answered, answered, bounded, live, put, waits};
 ghost use Rattle.eu_audit_queue.specs.PlainQueue.{are_apart};
 ghost use Rattle.eu_audit_queue.specs.Names.{AreNoted, name_of};
 
 use crate::ages::{Ages, forget, is_live, pop_old, remember};
 use crate::name::Name;
 use crate::order::Order;
-use eu_base::{Action, Moment, Task};
-use eu_model::Tasks;
+use eu_base::{Action, MOST_SENT, MOST_WAITING, Moment, Task, Tasks};
 use std::alloc::{AllocError, Global};
 use std::collections::{BTreeSet, VecDeque};
 use std::marker::Model;
-
-/// The most tasks that wait.
-const MOST_WAITING: usize = 10_000;
-
-/// The most tasks of a batch.
-pub(crate) const MOST_SENT: usize = 250;
 
 /// The code of an answer to a heartbeat that found no lease.
 const NOT_FOUND: u16 = 404;
@@ -62,7 +55,7 @@ impl Waiting {
 
     /// Copies of these tasks. None where they are more than 10,000, or two of them have one name. `AllocError` where no memory is left.
     pub(crate) fn read(alloc: Global, tasks: &[Task]) -> Result<Option<Waiting>, AllocError>
-        ensures { IfOk result (λ found. found ≡ (if nat_le (length tasks.now) 10000 && are_apart tasks.now then Some tasks.now else None)) }
+        ensures { IfOk result (λ found. found ≡ (if nat_le (length tasks.now) MOST_WAITING && are_apart tasks.now then Some tasks.now else None)) }
     {
         if tasks.len() > MOST_WAITING {
             return Ok(None);
@@ -110,7 +103,7 @@ impl Waiting {
     /// Puts a task of a name of which none waits last. `AllocError` where no memory is left.
     fn push(&mut self, alloc: Global, task: Task) -> Result<(), AllocError>
         requires new { waits task self.old ≡ false }
-        requires few { length self.old < 10000 }
+        requires few { length self.old < MOST_WAITING }
         ensures { OnOk result (self.new ≡ self.old ++ task ∷ []) }
     {
         remember(&mut self.ages, alloc, &task)?;
@@ -121,7 +114,7 @@ impl Waiting {
     /// Puts a task of a name of which none waits first. `AllocError` where no memory is left.
     fn push_first(&mut self, alloc: Global, task: Task) -> Result<(), AllocError>
         requires new { waits task self.old ≡ false }
-        requires few { length self.old < 10000 }
+        requires few { length self.old < MOST_WAITING }
         ensures { OnOk result (self.new ≡ task ∷ self.old) }
     {
         remember(&mut self.ages, alloc, &task)?;
@@ -132,7 +125,7 @@ impl Waiting {
     /// Puts tasks before the others. `AllocError` where no memory is left.
     fn push_all_first(&mut self, alloc: Global, mut tasks: VecDeque<Task>) -> Result<(), AllocError>
         requires apart { are_apart (tasks.items ++ self.old) ≡ true }
-        requires few { deque_len tasks + length self.old ≤ 10000 }
+        requires few { deque_len tasks + length self.old ≤ MOST_WAITING }
         ensures { OnOk result (self.new ≡ tasks.items ++ self.old) }
     {
         while let Some(task) = tasks.pop_back() {
@@ -164,8 +157,8 @@ impl Waiting {
     /// Takes out the first 250 tasks that are still worth sending at the moment, and drops those that aren't. `AllocError` where no
     /// memory is left.
     pub(crate) fn send(&mut self, alloc: Global, moment: Moment) -> Result<Vec<Task>, AllocError>
-        ensures rest { OnOk result (self.new ≡ drop 250 (live moment self.old)) }
-        ensures batch { IfOk result (λ batch. batch.items ≡ take 250 (live moment self.old)) }
+        ensures rest { OnOk result (self.new ≡ drop MOST_SENT (live moment self.old)) }
+        ensures batch { IfOk result (λ batch. batch.items ≡ take MOST_SENT (live moment self.old)) }
         ensures apart { IfOk result (λ batch. are_apart batch.items ≡ true) }
     {
         drop_old(&mut self.order, &mut self.ages, moment);
@@ -174,8 +167,8 @@ impl Waiting {
 
     /// Takes out the first 250 tasks. `AllocError` where no memory is left.
     fn pop_batch(&mut self, alloc: Global) -> Result<Vec<Task>, AllocError>
-        ensures rest { OnOk result (self.new ≡ drop 250 self.old) }
-        ensures batch { IfOk result (λ batch. batch.items ≡ take 250 self.old) }
+        ensures rest { OnOk result (self.new ≡ drop MOST_SENT self.old) }
+        ensures batch { IfOk result (λ batch. batch.items ≡ take MOST_SENT self.old) }
         ensures apart { IfOk result (λ batch. are_apart batch.items ≡ true) }
     {
         let mut batch = Vec::with_capacity(alloc, MOST_SENT.min(self.order.len()))?;

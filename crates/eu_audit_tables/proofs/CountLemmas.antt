@@ -17,10 +17,10 @@ use Rattle.std.proofs.lemmas.Map.Keys.{sorted_head, sorted_tail, IsDistinct-from
 use Rattle.std.proofs.lemmas.List.Sums.{sum_by-cons, sum_by-le-sum_by, length-filter, count_by-le-length}
 use borrow.Author.Tests.{ltb-true, ltb-false, lt-ltb, le-ltb}
 use Rattle.eu_base.specs.declared.names.Key.{Key}
-use Rattle.eu_base.specs.Key.{key_cmp}
+use Rattle.eu_base.specs.Values.{key_cmp}
 use Rattle.eu_base.proofs.KeyLemmas.{keys_total, keys_exact}
 use Rattle.eu_model.specs.declared.views.Listed.{Listed}
-use Rattle.eu_model.specs.Kept.{kept_expired}
+use Rattle.eu_model.specs.PlainSteps.{plain_expired}
 use Rattle.eu_audit_tables.specs.Counted.{counted, count_at, one_before, held_before, deadline_of}
 
 module _ {K X : Type 0} {R : K → K → Ordering} (same : IsAntisymmetric R) (f : K × X → ℕ) where
@@ -217,6 +217,6 @@ late d extra t = by (ltb d (t - extra)) refl
     by false h = le-ltb (d + extra) t (omega (arith, ltb-false d (t - extra) h))
 
 -- what has expired is held before the moment, less the extra time
-pub expired-held_before : (es : List (Key × Listed)) (t extra : ℕ) → length (filter (λ e. kept_expired e.1 t extra) es) ≡ held_before es (t - extra)
+pub expired-held_before : (es : List (Key × Listed)) (t extra : ℕ) → length (filter (λ e. plain_expired e.1 t extra) es) ≡ held_before es (t - extra)
 expired-held_before es t extra =
-    length-filter (λ e. kept_expired e.1 t extra) es ∙ ap (λ (p : Key × Listed → Bool). count_by p es) (λ i e. late (deadline_of e.1) extra t i)
+    length-filter (λ e. plain_expired e.1 t extra) es ∙ ap (λ (p : Key × Listed → Bool). count_by p es) (λ i e. late (deadline_of e.1) extra t i)

@@ -5,7 +5,7 @@ use Rattle.std.specs.Map.{lookup}
 use Rattle.std.specs.Ordering.{nat_cmp}
 use Rattle.eu_base.specs.declared.names.Key.{Key}
 use Rattle.eu_model.specs.declared.views.Listed.{Listed}
-use Rattle.eu_model.specs.Record.{duration}
+use Rattle.eu_model.specs.Machine.{duration}
 
 -- the last moment at which a listed lease hasn't expired
 abbrev pub deadline_of : Listed → ℕ

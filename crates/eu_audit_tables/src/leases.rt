@@ -3,7 +3,7 @@ ghost use Rattle.std.specs.Prelude.{◌≡◌, ◌↔◌, ◌<◌, ◌^◌, leng
 ghost use Rattle.std.specs.Prelude.{map as all};
 ghost use Rattle.std.specs.Option.{option_copied};
 ghost use Rattle.std.specs.FinMap as map;
-ghost use Rattle.eu_model.specs.Kept.{kept_expired};
+ghost use Rattle.eu_model.specs.PlainSteps.{plain_expired};
 ghost use Rattle.eu_audit_tables.specs.Counted.{deadline_of};
 
 use crate::deadlines::Deadlines;
@@ -26,7 +26,7 @@ impl Model for Leases {
     ghost use Rattle.std.specs.Prelude.{◌≡◌, ℕ};
     ghost use Rattle.std.specs.FinMap as map;
     ghost use Rattle.std.specs.FinMap.{FinMap};
-    ghost use Rattle.eu_base.specs.Key.{key_cmp};
+    ghost use Rattle.eu_base.specs.Values.{key_cmp};
     ghost use Rattle.eu_model.specs.declared.views.Listed.{Listed};
     ghost use Rattle.eu_model.specs.PlainCode.{coded_leases};
     ghost use Rattle.eu_audit_tables.specs.Counted.{counted, held_before};
@@ -99,7 +99,7 @@ impl Leases {
     /// How many leases have expired at a moment, if each is granted so many extra milliseconds, or `most` where they are more. Goes over
     /// the deadlines from the smallest on, up to the first that isn't over, and only until they are that many.
     pub fn expired(&self, moment: Moment, extra: u64, most: u128) -> u128
-        ensures { result ≡ min (length (filter (λ e. kept_expired e.1 moment extra) (map.entries self.now))) most }
+        ensures { result ≡ min (length (filter (λ e. plain_expired e.1 moment extra) (map.entries self.now))) most }
     {
         // fewer than 2^63, and so are those that have expired
         let _held = self.table.len();

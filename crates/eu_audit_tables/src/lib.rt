@@ -3,7 +3,7 @@
 
 mod deadlines;
 mod leases;
-mod rows;
+mod overrides;
 
 pub use leases::Leases;
-pub use rows::Rows;
+pub use overrides::Overrides;

@@ -2,11 +2,11 @@
 mod books;
 mod closed;
 mod drawn;
+mod evictions;
 mod forms;
 mod kept;
 mod memory;
 mod names;
-mod passes;
 mod plain;
 mod queues;
 mod refusals;

@@ -12,7 +12,7 @@ use Rattle.std.proofs.lemmas.Cmp.{on_total, then_total, nat_list_cmp_total}
 use Rattle.std.proofs.lemmas.Slice.Eq.{bytes_eq-Decides}
 use Rattle.std.proofs.lemmas.Map.Lookups.{exact_bytes, exact_pairs}
 use Rattle.eu_base.specs.declared.names.Key.{Key}
-use Rattle.eu_base.specs.Key.{name_cmp, key_cmp, name_eq, key_eq}
+use Rattle.eu_base.specs.Values.{name_cmp, key_cmp, name_eq, key_eq}
 
 pub names_total : IsTotalOrder name_cmp
 names_total = nat_list_cmp_total

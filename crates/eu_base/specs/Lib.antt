@@ -1,9 +1,8 @@
 pub mod Fault
-pub mod Key
-pub mod Status
+pub mod Name
+pub mod Values
 pub mod Tree
 pub mod Rest
-pub mod Action
 pub mod Kept
-pub mod Settings
-pub mod Name
+pub mod Limits
+pub mod Gives

@@ -33,13 +33,6 @@ impl BoxedInstance {
             instance: Box::new(alloc, instance)?,
         })
     }
-
-    /// The instance, where no more is wanted of the box. Takes no memory.
-    pub fn into_inner(self) -> Instance
-        ensures { result ≡ self }
-    {
-        Box::into_inner(self.instance)
-    }
 }
 
 impl Instance {

@@ -17,7 +17,7 @@ pub struct Instance {
     /// The status that an operator, or a peer, put over its own; `Unknown` where none was put, or where that is the one.
     pub overridden: Status,
     /// The stamp of its last change.
-    pub dirty: Stamp,
+    pub last_dirty: Stamp,
     /// The duration of its lease.
     pub secs: LeaseSecs,
     /// How often its client means to renew the lease. The registry keeps it and doesn't use it.
@@ -47,9 +47,9 @@ impl Instance {
     /// Whether both have the same stamp, duration and interval.
     fn has_times_of(&self, other: &Instance) -> bool
         ensures { IsTrue result
-            ↔ ((self.now.dirty ≡ other.now.dirty) × (self.now.secs ≡ other.now.secs) × (self.now.interval ≡ other.now.interval)) }
+            ↔ ((self.now.last_dirty ≡ other.now.last_dirty) × (self.now.secs ≡ other.now.secs) × (self.now.interval ≡ other.now.interval)) }
     {
-        self.dirty.value() == other.dirty.value()
+        self.last_dirty.value() == other.last_dirty.value()
             && self.secs.secs() == other.secs.secs()
             && self.interval.secs() == other.interval.secs()
     }
@@ -64,7 +64,7 @@ impl Instance {
             key,
             status: self.status,
             overridden: self.overridden,
-            dirty: self.dirty,
+            last_dirty: self.last_dirty,
             secs: self.secs,
             interval: self.interval,
             rest,

@@ -4,6 +4,8 @@
 mod boxed;
 mod faults;
 mod instances;
+mod items;
+mod limits;
 mod names;
 mod order;
 mod rest;
@@ -16,10 +18,16 @@ mod trees;
 pub use boxed::BoxedInstance;
 pub use faults::Fault;
 pub use instances::Instance;
-pub use names::{App, Id, Key};
+pub use items::Items;
+pub use limits::{
+    LAST_MOMENT, LONGEST_LEASE, LONGEST_NAME, MOST_ENTRIES, MOST_EXPECTED, MOST_LEASES,
+    MOST_PASSES, MOST_PEERS, MOST_RENEWALS, MOST_SENT, MOST_STEPS, MOST_WAITING, TASK_AGE,
+    limits_are_one,
+};
+pub use names::{App, Id, Key, Keys};
 pub use order::keys_are_ordered;
 pub use rest::{Rest, has_fraction};
 pub use settings::{Config, ExpectedRenewalSecs, Percent};
 pub use statuses::Status;
-pub use tasks::{Action, Codes, Task, TaskName};
+pub use tasks::{Action, Codes, Task, TaskName, Tasks};
 pub use times::{LeaseSecs, Moment, RenewalSecs, Stamp};

@@ -1,5 +1,5 @@
 //! Applications, instance ids, and the keys of leases.
-ghost use Rattle.std.specs.Prelude.{ℕ, List, false, ◌≡◌, ◌<◌, ◌≤◌, ◌↔◌, ◌⊎◌, refl, [], length, string_bytes, nat_eq, IfOk, IfErr};
+ghost use Rattle.std.specs.Prelude.{ℕ, List, false, ◌≡◌, ◌<◌, ◌≤◌, ◌↔◌, ◌⊎◌, refl, [], length, string_bytes, nat_eq, IfOk, IfErr, IsTrue};
 ghost use Rattle.std.specs.Ordering.{nat_cmp, as_partial_cmp};
 ghost use Rattle.std.specs.Hash as fed;
 ghost use Rattle.std.specs.Cmp.Rules.{hashing};
@@ -9,15 +9,14 @@ ghost use Rattle.std.specs.Cmp.{partial_equiv_from_equiv};
 ghost use Rattle.std.specs.Cmp.Lexicographic.{pointwise, slice_cmp, nat_list_eq_equiv, nat_list_cmp_total, texts_ties, texts_po};
 ghost use Rattle.eu_base.specs.Name.{bytes_of};
 
+use crate::LONGEST_NAME;
 use crate::faults::Fault;
+use crate::items::Items;
 use arrayvec::ArrayString;
 use std::alloc::{AllocError, Global};
 use std::cmp::Ordering;
 use std::hash::{Hash, Hasher};
 use std::marker::Model;
-
-/// The most bytes of a name.
-pub const LONGEST_NAME: usize = 255;
 
 /// The most bytes of a name that wants no memory of its own.
 const SHORT_NAME: usize = 40;
@@ -93,19 +92,20 @@ struct Name {
 impl Model for Name {
     ghost use Rattle.std.specs.Prelude.{ℕ, ◌<◌, ◌≤◌, List, length};
     ghost use Rattle.eu_base.specs.Name.{bytes_of};
+    ghost use Rattle.eu_base.specs.Limits.{longest_name};
 
     ghost Value = { List ℕ };
 
     ghost view = { λ n. bytes_of n.text };
 
-    ghost invariant = { λ n. (0 < length (bytes_of n.text)) × (length (bytes_of n.text) ≤ 255) };
+    ghost invariant = { λ n. (0 < length (bytes_of n.text)) × (length (bytes_of n.text) ≤ longest_name) };
 }
 
 impl Name {
     fn as_str(&self) -> &str
         ensures value { result.now ≡ self.now }
         ensures filled { 0 < length self.now }
-        ensures short { length self.now ≤ 255 }
+        ensures short { length self.now ≤ LONGEST_NAME }
     {
         self.text.as_str()
     }
@@ -177,7 +177,7 @@ impl Hash for Name {
 /// Judges whether a text may be a name: `Empty` where it has no byte, `TooLong` where it has more than 255.
 fn judge(text: &str) -> Result<(), Fault>
     ensures empty { (result ≡ Err Fault.Empty) ↔ (text.now ≡ []) }
-    ensures too_long { (result ≡ Err Fault.TooLong) ↔ (255 < length text.now) }
+    ensures too_long { (result ≡ Err Fault.TooLong) ↔ (LONGEST_NAME < length text.now) }
     ensures no_other { IfErr result (λ f. (f ≡ Fault.Empty) ⊎ (f ≡ Fault.TooLong)) }
 {
     if text.is_empty() {
@@ -210,7 +210,7 @@ impl App {
     pub fn read(alloc: Global, text: &str) -> Result<App, Fault>
         ensures value { IfOk result (λ a. a ≡ str_to_ascii_uppercase text.now) }
         ensures empty { (result ≡ Err Fault.Empty) ↔ (text.now ≡ []) }
-        ensures too_long { (result ≡ Err Fault.TooLong) ↔ (255 < length text.now) }
+        ensures too_long { (result ≡ Err Fault.TooLong) ↔ (LONGEST_NAME < length text.now) }
         ensures no_other { IfErr result (λ f. (f ≡ Fault.Empty) ⊎ ((f ≡ Fault.TooLong) ⊎ (f ≡ Fault.OutOfMemory))) }
     {
         judge(text)?;
@@ -223,7 +223,7 @@ impl App {
     pub fn as_str(&self) -> &str
         ensures value { result.now ≡ self.now }
         ensures filled { 0 < length self.now }
-        ensures short { length self.now ≤ 255 }
+        ensures short { length self.now ≤ LONGEST_NAME }
     {
         self.name.as_str()
     }
@@ -258,7 +258,7 @@ impl Id {
     pub fn read(alloc: Global, text: &str) -> Result<Id, Fault>
         ensures value { IfOk result (λ i. i ≡ text.now) }
         ensures empty { (result ≡ Err Fault.Empty) ↔ (text.now ≡ []) }
-        ensures too_long { (result ≡ Err Fault.TooLong) ↔ (255 < length text.now) }
+        ensures too_long { (result ≡ Err Fault.TooLong) ↔ (LONGEST_NAME < length text.now) }
         ensures no_other { IfErr result (λ f. (f ≡ Fault.Empty) ⊎ ((f ≡ Fault.TooLong) ⊎ (f ≡ Fault.OutOfMemory))) }
     {
         judge(text)?;
@@ -270,7 +270,7 @@ impl Id {
     pub fn as_str(&self) -> &str
         ensures value { result.now ≡ self.now }
         ensures filled { 0 < length self.now }
-        ensures short { length self.now ≤ 255 }
+        ensures short { length self.now ≤ LONGEST_NAME }
     {
         self.id.as_str()
     }
@@ -301,5 +301,28 @@ impl Key {
         let app = self.app.copy(alloc)?;
         let id = self.id.copy(alloc)?;
         Ok(Key { app, id })
+    }
+}
+
+/// Keys, in their order.
+pub type Keys = Items<Key>;
+
+impl Items<Key> {
+    /// Whether both are equal in every key. Takes no memory.
+    pub fn same(&self, other: &Items<Key>) -> bool
+        ensures { IsTrue result ↔ (self.now ≡ other.now) }
+    {
+        self.as_slice() == other.as_slice()
+    }
+
+    /// The same keys once more. `AllocError` where no memory is left.
+    pub fn copy(&self, alloc: Global) -> Result<Items<Key>, AllocError>
+        ensures { IfOk result (λ k. k ≡ self.now) }
+    {
+        let mut keys = Vec::with_capacity(alloc, self.as_slice().len())?;
+        for key in self.as_slice() {
+            keys.push(key.copy(alloc)?)?;
+        }
+        Ok(Items::new(keys))
     }
 }

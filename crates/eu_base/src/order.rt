@@ -1,6 +1,6 @@
 //! The order of keys.
 ghost use Rattle.std.specs.Prelude.{◌≡◌};
-ghost use Rattle.eu_base.specs.Key.{key_cmp, key_eq};
+ghost use Rattle.eu_base.specs.Values.{key_cmp, key_eq};
 
 use crate::names::Key;
 

@@ -1,6 +1,6 @@
 //! The settings of a registry.
 ghost use Rattle.std.specs.Prelude.{◌≡◌, ◌≤◌, ◌<◌, ◌⊎◌, ◌↔◌, SomeIff, IfOk, IfErr, IsTrue};
-ghost use Rattle.eu_base.specs.Settings.{settings_from};
+ghost use Rattle.eu_base.specs.Values.{settings_from};
 
 use crate::faults::Fault;
 use std::marker::Model;
@@ -90,7 +90,7 @@ pub struct Config {
     pub percent: Percent,
     /// The seconds between two renewals of a client (`expectedClientRenewalIntervalSeconds`).
     pub interval: ExpectedRenewalSecs,
-    /// The milliseconds between two eviction passes (`evictionIntervalTimerInMs`).
+    /// The milliseconds between two evictions (`evictionIntervalTimerInMs`).
     pub evict_ms: u32,
 }
 
@@ -125,7 +125,7 @@ impl Config {
 
     /// The settings of these values. None exactly where `new` refuses them: the percentage is above 100, or the interval isn't from
     /// 1 to 3,600 s.
-    #[tactic(auto, unfolding(crate::specs::Settings::settings_from))]
+    #[tactic(auto, unfolding(crate::specs::Values::settings_from))]
     pub fn of_values(
         preservation: bool,
         percent: u32,

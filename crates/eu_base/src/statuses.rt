@@ -1,7 +1,7 @@
 //! The status of an instance.
 ghost use Rattle.std.specs.Prelude.{◌≡◌};
 ghost use Rattle.std.specs.Str.{bytes_eq};
-ghost use Rattle.eu_base.specs.Status.{status_name, status_of};
+ghost use Rattle.eu_base.specs.Values.{status_name, status_of};
 
 /// The status of an instance (`InstanceInfo.InstanceStatus` in Eureka).
 #[derive(Clone, Copy, Debug, PartialEq, Eq)]

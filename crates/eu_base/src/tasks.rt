@@ -1,8 +1,9 @@
 //! Tasks for peers.
 ghost use Rattle.std.specs.Prelude.{◌≡◌, ◌↔◌, IfOk, IsTrue};
-ghost use Rattle.eu_base.specs.Action.{action_name, action_of};
+ghost use Rattle.eu_base.specs.Values.{action_name, action_of};
 
 use crate::instances::Instance;
+use crate::items::Items;
 use crate::names::Key;
 use crate::statuses::Status;
 use crate::times::Moment;
@@ -119,47 +120,54 @@ fn same_or_none(instance: &Option<Instance>, other: &Option<Instance>) -> bool
     }
 }
 
-/// The HTTP statuses by which a peer answered the tasks of a batch, in their order. Contracts see the list.
-#[derive(Debug, Drop)]
-pub struct Codes {
-    codes: Vec<u16>,
-}
+/// Tasks, in their order.
+pub type Tasks = Items<Task>;
 
-impl Model for Codes {
-    ghost use Rattle.std.specs.Prelude.{ℕ, List};
-
-    ghost Value = { List ℕ };
-
-    ghost view = { λ c. c.codes.items };
-}
-
-impl Codes {
-    /// These statuses. Takes no memory.
-    pub fn new(codes: Vec<u16>) -> Codes
-        ensures { result ≡ codes.items }
-    {
-        Codes { codes }
-    }
-
-    /// The statuses, one after the other.
-    pub fn as_slice(&self) -> &[u16]
-        ensures { result.now ≡ self.now }
-    {
-        self.codes.as_slice()
-    }
-
-    /// Whether both are equal in every status. Takes no memory.
-    pub fn same(&self, other: &Codes) -> bool
+impl Items<Task> {
+    /// Whether both are equal in every task. Takes no memory.
+    pub fn same(&self, other: &Items<Task>) -> bool
         ensures { IsTrue result ↔ (self.now ≡ other.now) }
     {
-        self.codes.as_slice() == other.codes.as_slice()
+        let mut left = other.as_slice().iter();
+        for task in self.as_slice() {
+            let Some(theirs) = left.next() else {
+                return false;
+            };
+            if !task.same(theirs) {
+                return false;
+            }
+        }
+        left.next().is_none()
+    }
+
+    /// The same tasks once more. `AllocError` where no memory is left.
+    pub fn copy(&self, alloc: Global) -> Result<Items<Task>, AllocError>
+        ensures { IfOk result (λ t. t ≡ self.now) }
+    {
+        let mut tasks = Vec::with_capacity(alloc, self.as_slice().len())?;
+        for task in self.as_slice() {
+            tasks.push(task.copy(alloc)?)?;
+        }
+        Ok(Items::new(tasks))
+    }
+}
+
+/// The HTTP statuses by which a peer answered the tasks of a batch, in their order.
+pub type Codes = Items<u16>;
+
+impl Items<u16> {
+    /// Whether both are equal in every status. Takes no memory.
+    pub fn same(&self, other: &Items<u16>) -> bool
+        ensures { IsTrue result ↔ (self.now ≡ other.now) }
+    {
+        self.as_slice() == other.as_slice()
     }
 
     /// The same statuses once more. `AllocError` where no memory is left.
-    pub fn copy(&self, alloc: Global) -> Result<Codes, AllocError>
+    pub fn copy(&self, alloc: Global) -> Result<Items<u16>, AllocError>
         ensures { IfOk result (λ c. c ≡ self.now) }
     {
-        let codes = Vec::from_slice(alloc, self.codes.as_slice())?;
-        Ok(Codes { codes })
+        let codes = Vec::from_slice(alloc, self.as_slice())?;
+        Ok(Items::new(codes))
     }
 }

@@ -1,6 +1,7 @@
 //! Moments, stamps and durations.
 ghost use Rattle.std.specs.Prelude.{◌≡◌, ◌≤◌, ◌<◌, ◌^◌, SomeIff};
 
+use crate::{LAST_MOMENT, LONGEST_LEASE};
 use std::marker::Model;
 
 /// A moment of the handed clock, in milliseconds: 0 to 2^62. Contracts see the number.
@@ -10,13 +11,14 @@ pub struct Moment {
 }
 
 impl Model for Moment {
-    ghost use Rattle.std.specs.Prelude.{ℕ, ◌≤◌, ◌^◌};
+    ghost use Rattle.std.specs.Prelude.{ℕ, ◌≤◌};
+    ghost use Rattle.eu_base.specs.Limits.{last_moment};
 
     ghost Value = { ℕ };
 
     ghost view = { λ m. m.ms };
 
-    ghost invariant = { λ m. m.ms ≤ 2 ^ 62 };
+    ghost invariant = { λ m. m.ms ≤ last_moment };
 
     ghost inverse = { λ n. record { ms = n } };
 }
@@ -24,9 +26,9 @@ impl Model for Moment {
 impl Moment {
     /// The moment of so many milliseconds. None exactly where they are more than 2^62.
     pub fn new(ms: u64) -> Option<Moment>
-        ensures { SomeIff result (ms ≤ 2 ^ 62) ms }
+        ensures { SomeIff result (ms ≤ LAST_MOMENT) ms }
     {
-        if ms > 1 << 62 {
+        if ms > LAST_MOMENT {
             return None;
         }
         Some(Moment { ms })
@@ -35,7 +37,7 @@ impl Moment {
     /// The milliseconds.
     pub fn ms(self) -> u64
         ensures value { result ≡ self }
-        ensures bound { result ≤ 2 ^ 62 }
+        ensures bound { result ≤ LAST_MOMENT }
     {
         self.ms
     }
@@ -88,12 +90,13 @@ pub struct LeaseSecs {
 
 impl Model for LeaseSecs {
     ghost use Rattle.std.specs.Prelude.{ℕ, ◌≤◌};
+    ghost use Rattle.eu_base.specs.Limits.{longest_lease};
 
     ghost Value = { ℕ };
 
     ghost view = { λ s. s.secs };
 
-    ghost invariant = { λ s. (1 ≤ s.secs) × (s.secs ≤ 2147483) };
+    ghost invariant = { λ s. (1 ≤ s.secs) × (s.secs ≤ longest_lease) };
 
     ghost inverse = { λ n. record { secs = n } };
 }
@@ -104,9 +107,9 @@ impl LeaseSecs {
 
     /// So many seconds. None exactly where they are 0, or more than 2,147,483.
     pub fn new(secs: u32) -> Option<LeaseSecs>
-        ensures { SomeIff result ((1 ≤ secs) × (secs ≤ 2147483)) secs }
+        ensures { SomeIff result ((1 ≤ secs) × (secs ≤ LONGEST_LEASE)) secs }
     {
-        if secs == 0 || secs > 2_147_483 {
+        if secs == 0 || secs > LONGEST_LEASE {
             return None;
         }
         Some(LeaseSecs { secs })
@@ -115,7 +118,7 @@ impl LeaseSecs {
     /// The seconds.
     pub fn secs(self) -> u32
         ensures value { result ≡ self }
-        ensures bounds { (1 ≤ result) × (result ≤ 2147483) }
+        ensures bounds { (1 ≤ result) × (result ≤ LONGEST_LEASE) }
     {
         self.secs
     }

@@ -29,14 +29,14 @@ fn key(alloc: Global, pass: u64) -> Result<Key, Fault> {
 
 /// It registers.
 fn registration(alloc: Global, pass: u64) -> Result<Command, Fault> {
-    let dirty = Stamp::new(0).ok_or(Fault::BadStamp)?;
+    let last_dirty = Stamp::new(0).ok_or(Fault::BadStamp)?;
     let key = key(alloc, pass)?;
     let rest = Rest::of_host(alloc, "h")?;
     let instance = Instance {
         key,
         status: Status::Up,
         overridden: Status::Unknown,
-        dirty,
+        last_dirty,
         secs: LeaseSecs::DEFAULT,
         interval: RenewalSecs::DEFAULT,
         rest,
@@ -52,7 +52,7 @@ fn renewal(alloc: Global, pass: u64) -> Result<Command, Fault> {
     let key = key(alloc, pass)?;
     Ok(Command::Renew {
         key,
-        dirty: None,
+        last_dirty: None,
         overridden: None,
         replicated: false,
     })

@@ -1,7 +1,7 @@
 //! Requests that are read and routed.
 ghost use Rattle.std.specs.Prelude.{◌≡◌, true, IsOk, string_bytes};
-ghost use Rattle.eu_framing.specs.Target.{path_of, query_of};
-ghost use Rattle.eu_routes.specs.Route.{route_of};
+ghost use Rattle.eu_framing.specs.Message.{path_of, query_of};
+ghost use Rattle.eu_routes.specs.Table.{route_of};
 
 use eu_base::Fault;
 use eu_framing::{EMPTY_ROOM, Request, read_request};
@@ -12,13 +12,9 @@ use std::alloc::Global;
 fn has_route(alloc: Global, routes: &Routes, request: &Request) -> bool
     ensures { result ≡ true → IsOk (route_of (string_bytes request.now.method) (path_of (string_bytes request.now.target)) (query_of (string_bytes request.now.target))) }
 {
+    let (path, query) = request.parts();
     routes
-        .find(
-            alloc,
-            request.method.as_str(),
-            request.path(),
-            request.query(),
-        )
+        .find(alloc, request.method.as_str(), path, query)
         .is_ok()
 }
 

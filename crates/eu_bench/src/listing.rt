@@ -14,7 +14,7 @@ use std::alloc::Global;
 
 /// The instance that the script's line `register 0 APP ID 90 UP UNKNOWN 0 c` registers, of one of a hundred applications.
 fn newcomer(alloc: Global, number: u32) -> Result<Instance, Fault> {
-    let dirty = Stamp::new(0).ok_or(Fault::BadStamp)?;
+    let last_dirty = Stamp::new(0).ok_or(Fault::BadStamp)?;
     let app = number % 100;
     let app = App::read(alloc, format!(in alloc; "A{app}")?.as_str())?;
     let id = Id::read(alloc, format!(in alloc; "host-{number}")?.as_str())?;
@@ -23,7 +23,7 @@ fn newcomer(alloc: Global, number: u32) -> Result<Instance, Fault> {
         key: Key { app, id },
         status: Status::Up,
         overridden: Status::Unknown,
-        dirty,
+        last_dirty,
         secs: LeaseSecs::DEFAULT,
         interval: RenewalSecs::DEFAULT,
         rest,

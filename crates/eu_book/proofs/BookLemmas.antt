@@ -9,7 +9,7 @@ use Rattle.std.proofs.lemmas.List.{length-append}
 use Rattle.eu_base.specs.declared.faults.Fault.{Fault}
 use Rattle.eu_base.specs.declared.faults.Fault.TheVariants.{Exhausted, OutOfMemory}
 use Rattle.eu_base.specs.declared.settings.Config.{Config}
-use Rattle.eu_base.specs.Key.{key_cmp, name_cmp}
+use Rattle.eu_base.specs.Values.{key_cmp, name_cmp}
 use Rattle.eu_base.specs.declared.statuses.Status.{Status}
 use Rattle.eu_model.specs.declared.commands.Command.{Command}
 use Rattle.eu_model.specs.declared.commands.Entry.{Entry}
@@ -17,29 +17,27 @@ use Rattle.eu_model.specs.declared.commands.Reply.{Reply}
 use Rattle.eu_model.specs.declared.states.State.{State}
 use Rattle.eu_model.specs.declared.tallies.Tally.{Tally}
 use Rattle.eu_model.specs.declared.views.Listed.{Listed}
-use Rattle.eu_model.specs.Answers.{IsRefusal}
+use Rattle.eu_model.specs.Answers.{IsRefusal, ServerAnswers, IsServerAnswer}
 use Rattle.eu_model.specs.Delta.{delta, plus, removed_by, added_by, counted_by, tally_of}
-use Rattle.eu_model.specs.Runs.{IsNumbered}
+use Rattle.eu_model.specs.Server.{IsNumbered, idle, PlainServer, plain_server, server_fault}
 use Rattle.eu_model.specs.Plain.{listed}
-use Rattle.eu_model.specs.Queue.{idle}
 use Rattle.eu_model.specs.Server as server
-use Rattle.eu_model.specs.Server.{PlainServer, plain_server, server_fault}
-use Rattle.eu_model.specs.ServerAnswers.{ServerAnswers, IsServerAnswer}
 use Rattle.eu_model.specs.State.{server_of_state}
 use Rattle.eu_model.proofs.AccountLemmas.{tally_push, numbered_push, runs_push, counted_at_most_one, answer_accounts}
 use Rattle.eu_model.proofs.MapLemmas.{len-map_values}
 use Rattle.eu_model.proofs.OpeningLemmas.{plain-opening}
 use Rattle.eu_model.proofs.ServedLemmas as of
-use Rattle.eu_book.specs.Account.{Account, Refuses, opened, IsKept, cleared, ready, entry, grown, most_entries, most_steps}
+use Rattle.eu_book.specs.Account.{Account, Refuses, opened, IsKept, cleared, ready, entry, grown}
+use Rattle.eu_base.specs.Limits.{most_entries, most_steps}
 use Rattle.eu_book.specs.Peers.{IsPlain, IsRefused, MayRefuse, state_of}
-use Rattle.eu_book.specs.Renewed.{anew, base_by, first_by, entries_by}
+use Rattle.eu_book.specs.Checkpoint.{anew, base_by, first_by, entries_by}
 use Rattle.eu_book.proofs.HistoryLemmas.{runs_on, runs_ended, numbered_on, plus_assoc, plus_nothing, tally_on}
 use Rattle.eu_book.proofs.KeyedLemmas.{book_back}
 
 -- ---- opened
 
 pub server_of_empty : (s : State) (config : Config) (expected peers : ℕ)
-    → s ≡ record { config = config; expected = expected; leases = []; rows = []; last = 0; since = 0; previous = None; queues = replicate peers idle }
+    → s ≡ record { config = config; expected = expected; leases = []; overrides = []; last = 0; since = 0; previous = None; queues = replicate peers idle }
     → server_of_state s ≡ plain_server (server.opened config expected peers)
 server_of_empty s config expected peers is = ap server_of_state is ∙ ap (λ p. of.server p (replicate peers idle)) (sym (plain-opening config expected))
 
@@ -51,14 +49,14 @@ entries_of_none : {K X : Type 0} (R : K → K → Ordering) → entries (empty {
 entries_of_none {X = X} R = no_length (entries (empty {X = X} {R = R})) (sym (len-entries (empty {X = X} {R = R})) ∙ len-empty R X)
 
 pub plain_of_empty : (s : State) (config : Config) (expected peers : ℕ)
-    → s ≡ record { config = config; expected = expected; leases = []; rows = []; last = 0; since = 0; previous = None; queues = replicate peers idle }
+    → s ≡ record { config = config; expected = expected; leases = []; overrides = []; last = 0; since = 0; previous = None; queues = replicate peers idle }
     → IsPlain s
 plain_of_empty s config expected peers is = subst IsPlain (sym is)
     (λ i. let e : State = record {
       config = config;
       expected = expected;
       leases = map (λ e. e.1) (sym (entries_of_none {X = Listed} key_cmp) i);
-      rows = sym (entries_of_none {X = Status} name_cmp) i;
+      overrides = sym (entries_of_none {X = Status} name_cmp) i;
       last = 0;
       since = 0;
       previous = None;

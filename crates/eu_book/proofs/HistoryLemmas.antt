@@ -3,8 +3,7 @@ use Rattle.std.proofs.Common.{◌≡◌, ℕ, ◌+◌, List, [], ◌∷◌, ◌+
 use Rattle.eu_model.specs.declared.commands.Entry.{Entry}
 use Rattle.eu_model.specs.declared.tallies.Tally.{Tally}
 use Rattle.eu_model.specs.Delta.{delta, nothing, plus, tally_of}
-use Rattle.eu_model.specs.Runs.{Runs, IsNumbered}
-use Rattle.eu_model.specs.Server.{Server, PlainServer, Run, plain_server}
+use Rattle.eu_model.specs.Server.{Runs, IsNumbered, Server, PlainServer, Run, plain_server}
 use Rattle.eu_model.proofs.ServerLemmas.{servers_step_alike, servers_fault_alike}
 
 -- ---- runs

@@ -13,7 +13,7 @@ use Rattle.eu_base.specs.declared.instances.Instance.{Instance}
 use Rattle.eu_base.specs.declared.names.Key.{Key}
 use Rattle.eu_base.specs.declared.statuses.Status.{Status}
 use Rattle.eu_base.specs.declared.statuses.Status.TheVariants.{Unknown}
-use Rattle.eu_base.specs.Key.{key_cmp}
+use Rattle.eu_base.specs.Values.{key_cmp}
 use Rattle.eu_base.proofs.KeyLemmas.{keys_total, keys_exact, names_total, names_exact}
 use Rattle.eu_model.specs.declared.commands.Command.{Command}
 use Rattle.eu_model.specs.declared.commands.Command.TheVariants.{Register, Renew, Cancel, SetStatus, UnsetStatus, Adopt, Evict, Drain, Landed, Lost}
@@ -22,20 +22,16 @@ use Rattle.eu_model.specs.declared.commands.Reply.{Reply}
 use Rattle.eu_model.specs.declared.commands.Reply.TheVariants.{Done, NotFound}
 use Rattle.eu_model.specs.declared.states.State.{State}
 use Rattle.eu_model.specs.declared.views.Listed.{Listed}
-use Rattle.eu_model.specs.Change.{newer, told, under_row, register, renew, renew_as, cancel, set_status, unset_status, in_status, stamped, overridden_by, uncounted}
-use Rattle.eu_model.specs.Machine.{Machine, seen, permits}
-use Rattle.eu_model.specs.Maps.{with_value, without}
-use Rattle.eu_model.specs.Override.{rule, is_status}
+use Rattle.eu_model.specs.Change.{newer, row_of, under_row, register, renew, renew_as, cancel, set_status, unset_status, in_status, stamped, overridden_by, uncounted, rule, is_status}
+use Rattle.eu_model.specs.Machine.{Machine, seen, permits, with_value, without, Record, is_expired, renewed}
 use Rattle.eu_model.specs.Plain.{Plain, plain, listed}
-use Rattle.eu_model.specs.Record.{Record, is_expired, renewed}
-use Rattle.eu_model.specs.Runs.{Runs}
-use Rattle.eu_model.specs.Server.{Server, PlainServer, ServerStep, Run}
+use Rattle.eu_model.specs.Server.{Runs, Server, PlainServer, ServerStep, Run}
 use Rattle.eu_model.specs.State.{server_of_state}
 use Rattle.eu_model.specs.Step.{Step}
 use Rattle.eu_model.proofs.MapLemmas.{get-map_values}
 use Rattle.eu_book.specs.Account.{Account, IsLawful}
 use Rattle.eu_book.specs.Peers.{state_of}
-use Rattle.eu_model.proofs.PassLemmas.{first, second, less}
+use Rattle.eu_model.proofs.EvictionLemmas.{first, second, less}
 
 -- ---- maps
 
@@ -127,14 +123,14 @@ under_row-key : (row : Option Status) (i : Instance) → (under_row row i).key �
 under_row-key None i = refl
 under_row-key (Some row) i = refl
 
-stamped-key : (dirty : Option ℕ) (i : Instance) → (stamped dirty i).key ≡ i.key
+stamped-key : (last_dirty : Option ℕ) (i : Instance) → (stamped last_dirty i).key ≡ i.key
 stamped-key None i = refl
-stamped-key (Some d) i = elim (nat_lt i.dirty d) as (λ b. (cond b (record i { dirty = d }) i).key ≡ i.key) [ true ↦ refl | false ↦ refl ]
+stamped-key (Some d) i = elim (nat_lt i.last_dirty d) as (λ b. (cond b (record i { last_dirty = d }) i).key ≡ i.key) [ true ↦ refl | false ↦ refl ]
 
 newer-key : (held : Option Record) (n : Instance) → Stands n.key held → (newer (option_map (λ r. r.instance) held) n).key ≡ n.key
 newer-key None n at = refl
 newer-key (Some r) n at =
-    elim (nat_lt n.dirty r.instance.dirty) as (λ b. (cond b (record r.instance { secs = n.secs }) n).key ≡ n.key) [ true ↦ at | false ↦ refl ]
+    elim (nat_lt n.last_dirty r.instance.last_dirty) as (λ b. (cond b (record r.instance { secs = n.secs }) n).key ≡ n.key) [ true ↦ at | false ↦ refl ]
 
 registered : (held : Option Record) (row : Option Status) (expected : ℕ) (n : Instance) (replicated : Bool) (t : ℕ)
     → Stands n.key held → Stands n.key (register held row expected n replicated t).lease
@@ -144,12 +140,12 @@ overridden : (row : Option Status) (k : Key) (held : Option Record) → Stands k
 overridden row k None at = tt
 overridden row k (Some r) at = under_row-key row r.instance ∙ at
 
-renews : (k : Key) (held : Option Record) (row : Option Status) (expected : ℕ) (dirty : Option ℕ) (overridden : Option Status) (replicated : Bool) (t : ℕ)
-    → Stands k held → Stands k (renew held row expected dirty overridden replicated t).lease
-renews k None row expected dirty overridden replicated t at = tt
-renews k (Some r) row expected dirty overridden replicated t at =
+renews : (k : Key) (held : Option Record) (row : Option Status) (expected : ℕ) (last_dirty : Option ℕ) (overridden : Option Status) (replicated : Bool) (t : ℕ)
+    → Stands k held → Stands k (renew held row expected last_dirty overridden replicated t).lease
+renews k None row expected last_dirty overridden replicated t at = tt
+renews k (Some r) row expected last_dirty overridden replicated t at =
     let status = rule r.instance.status row (Some r.instance.status) replicated in
-    elim (is_status status Unknown) as (λ b. Stands k (cond b (uncounted (Some r) row expected NotFound) (renew_as r row expected dirty overridden replicated t status)).lease) [
+    elim (is_status status Unknown) as (λ b. Stands k (cond b (uncounted (Some r) row expected NotFound) (renew_as r row expected last_dirty overridden replicated t status)).lease) [
       | true ↦ at
       | false ↦ under_row-key _ _ ∙ at
     ]
@@ -158,27 +154,27 @@ cancels : (k : Key) (held : Option Record) (expected : ℕ) → Stands k (cancel
 cancels k None expected = tt
 cancels k (Some r) expected = tt
 
-sets : (k : Key) (permitted : Bool) (held : Option Record) (row : Option Status) (expected : ℕ) (status : Status) (dirty : Option ℕ) (t : ℕ)
-    → Stands k held → Stands k (set_status (seen permitted t held) held row expected status dirty t).lease
-sets k permitted None row expected status dirty t at = tt
-sets k permitted (Some r) row expected status dirty t at =
-    elim (permitted && is_expired r t 0) as (λ b. Stands k (set_status (cond b None (Some r)) (Some r) row expected status dirty t).lease) [
+sets : (k : Key) (permitted : Bool) (held : Option Record) (row : Option Status) (expected : ℕ) (status : Status) (last_dirty : Option ℕ) (t : ℕ)
+    → Stands k held → Stands k (set_status (seen permitted t held) held row expected status last_dirty t).lease
+sets k permitted None row expected status last_dirty t at = tt
+sets k permitted (Some r) row expected status last_dirty t at =
+    elim (permitted && is_expired r t 0) as (λ b. Stands k (set_status (cond b None (Some r)) (Some r) row expected status last_dirty t).lease) [
       | true ↦ at
-      | false ↦ elim (is_status r.instance.status status) as (λ b. Stands k (cond b (uncounted (Some (renewed r t)) row expected Done) (uncounted (Some (in_status r status dirty t)) (Some status) expected Done)).lease) [
+      | false ↦ elim (is_status r.instance.status status) as (λ b. Stands k (cond b (uncounted (Some (renewed r t)) row expected Done) (uncounted (Some (in_status r status last_dirty t)) (Some status) expected Done)).lease) [
         | true ↦ at
-        | false ↦ stamped-key dirty _ ∙ at
+        | false ↦ stamped-key last_dirty _ ∙ at
       ]
     ]
 
-unsets : (k : Key) (permitted : Bool) (held : Option Record) (row : Option Status) (expected : ℕ) (suggested : Option Status) (dirty : Option ℕ) (t : ℕ)
-    → Stands k held → Stands k (unset_status (seen permitted t held) held row expected suggested dirty t).lease
-unsets k permitted None row expected suggested dirty t at = tt
-unsets k permitted (Some r) None expected suggested dirty t at =
-    elim (permitted && is_expired r t 0) as (λ b. Stands k (unset_status (cond b None (Some r)) (Some r) None expected suggested dirty t).lease) [ true ↦ at | false ↦ at ]
-unsets k permitted (Some r) (Some row) expected suggested dirty t at =
-    elim (permitted && is_expired r t 0) as (λ b. Stands k (unset_status (cond b None (Some r)) (Some r) (Some row) expected suggested dirty t).lease) [
+unsets : (k : Key) (permitted : Bool) (held : Option Record) (row : Option Status) (expected : ℕ) (suggested : Option Status) (last_dirty : Option ℕ) (t : ℕ)
+    → Stands k held → Stands k (unset_status (seen permitted t held) held row expected suggested last_dirty t).lease
+unsets k permitted None row expected suggested last_dirty t at = tt
+unsets k permitted (Some r) None expected suggested last_dirty t at =
+    elim (permitted && is_expired r t 0) as (λ b. Stands k (unset_status (cond b None (Some r)) (Some r) None expected suggested last_dirty t).lease) [ true ↦ at | false ↦ at ]
+unsets k permitted (Some r) (Some row) expected suggested last_dirty t at =
+    elim (permitted && is_expired r t 0) as (λ b. Stands k (unset_status (cond b None (Some r)) (Some r) (Some row) expected suggested last_dirty t).lease) [
       | true ↦ at
-      | false ↦ stamped-key dirty _ ∙ at
+      | false ↦ stamped-key last_dirty _ ∙ at
     ]
 
 changes : (s : Machine) (k : Key) (v : Option Record) (new : FinMap key_cmp Record) → Keyed s → Stands k v → new ≡ with_value s.leases k v → IsKeyed key_of_record new
@@ -187,21 +183,21 @@ changes s k v new keyed at is = subst (IsKeyed key_of_record) (sym is) (keyed-wi
 keyed-step : (s : Machine) (c : Command) (t : ℕ) (r : Reply) (new : Machine) → Step s c t r new → Keyed s → Keyed new
 keyed-step s (Register n replicated) t r new step keyed =
     let held = get s.leases n.key in
-    let row = get s.rows n.key.id in
+    let row = get s.overrides n.key.id in
     changes s n.key (register held row s.expected n replicated t).lease new.leases keyed (registered held row s.expected n replicated t (keyed n.key)) (ap (λ m. m.leases) step.1)
 keyed-step s (Adopt n) t r new step keyed =
-    let held = option_map (overridden_by (told n.overridden)) (get s.leases n.key) in
-    let row = option_or (told n.overridden) (get s.rows n.key.id) in
-    let at = registered held row s.expected n true t (overridden (told n.overridden) n.key (get s.leases n.key) (keyed n.key)) in
+    let held = option_map (overridden_by (row_of n.overridden)) (get s.leases n.key) in
+    let row = option_or (row_of n.overridden) (get s.overrides n.key.id) in
+    let at = registered held row s.expected n true t (overridden (row_of n.overridden) n.key (get s.leases n.key) (keyed n.key)) in
     changes s n.key (register held row s.expected n true t).lease new.leases keyed at (ap (λ m. m.leases) step.1)
-keyed-step s (Renew k dirty overridden replicated) t r new step keyed =
-    changes s k _ new.leases keyed (renews k (get s.leases k) (get s.rows k.id) s.expected dirty overridden replicated t (keyed k)) (ap (λ m. m.leases) step.1)
+keyed-step s (Renew k last_dirty overridden replicated) t r new step keyed =
+    changes s k _ new.leases keyed (renews k (get s.leases k) (get s.overrides k.id) s.expected last_dirty overridden replicated t (keyed k)) (ap (λ m. m.leases) step.1)
 keyed-step s (Cancel k replicated) t r new step keyed =
     changes s k _ new.leases keyed (cancels k (get s.leases k) s.expected) (ap (λ m. m.leases) step.1)
-keyed-step s (SetStatus k status dirty replicated) t r new step keyed =
-    changes s k _ new.leases keyed (sets k (permits s) (get s.leases k) (get s.rows k.id) s.expected status dirty t (keyed k)) (ap (λ m. m.leases) step.1)
-keyed-step s (UnsetStatus k suggested dirty replicated) t r new step keyed =
-    changes s k _ new.leases keyed (unsets k (permits s) (get s.leases k) (get s.rows k.id) s.expected suggested dirty t (keyed k)) (ap (λ m. m.leases) step.1)
+keyed-step s (SetStatus k status last_dirty replicated) t r new step keyed =
+    changes s k _ new.leases keyed (sets k (permits s) (get s.leases k) (get s.overrides k.id) s.expected status last_dirty t (keyed k)) (ap (λ m. m.leases) step.1)
+keyed-step s (UnsetStatus k suggested last_dirty replicated) t r new step keyed =
+    changes s k _ new.leases keyed (unsets k (permits s) (get s.leases k) (get s.overrides k.id) s.expected suggested last_dirty t (keyed k)) (ap (λ m. m.leases) step.1)
 keyed-step s Evict t r new step keyed = subst Keyed (sym step.3) (keyed-without key_of_record s.leases step.0 keyed)
 keyed-step s (Drain peer) t r new step keyed = absurd step
 keyed-step s (Landed peer codes) t r new step keyed = absurd step
@@ -243,11 +239,11 @@ keyed-runs s es q runs =
 
 -- a plain form is that of its leases and rows, listed in order
 pub plain_back : (p : Plain) → IsKeyed key_of_listed p.leases
-    → record p { leases = from_entries (map (λ l. (l.instance.key, l)) (map (λ e. e.1) (entries p.leases))); rows = from_entries (entries p.rows) } ≡ p
+    → record p { leases = from_entries (map (λ l. (l.instance.key, l)) (map (λ e. e.1) (entries p.leases))); overrides = from_entries (entries p.overrides) } ≡ p
 plain_back p keyed =
     let leases = keyed-back key_of_listed p.leases keyed in
-    let rows = same_entries names_total names_exact p.rows in
-    λ i. record p { leases = leases i; rows = rows i }
+    let overrides = same_entries names_total names_exact p.overrides in
+    λ i. record p { leases = leases i; overrides = overrides i }
 
 -- so is a server to which entries lead from plain data
 pub server_back : (s : State) (es : List Entry) (q : PlainServer) → Runs (server_of_state s) es q → server_of_state (state_of q) ≡ q

@@ -15,15 +15,14 @@ use Rattle.eu_model.specs.declared.commands.Command.TheVariants.{Register, Renew
 use Rattle.eu_model.specs.declared.commands.Reply.{Reply}
 use Rattle.eu_model.specs.declared.commands.Reply.TheVariants.{Batch, Settled}
 use Rattle.eu_model.specs.declared.queues.Queue.{Queue}
-use Rattle.eu_model.specs.Answers.{Answers, IsRefusal}
+use Rattle.eu_model.specs.Answers.{Answers, IsRefusal, ServerAnswers, IsServerAnswer}
 use Rattle.eu_model.specs.Plain.{Plain, held_under}
-use Rattle.eu_model.specs.Queue.{drained, drain_fault, live, landed, landed_fault, lost, lost_fault}
-use Rattle.eu_model.specs.Server.{Server, queue_fault, server_fault, key_of, is_for_peers, task_for, with_task}
-use Rattle.eu_model.specs.ServerAnswers.{ServerAnswers, IsServerAnswer}
+use Rattle.eu_model.specs.Server.{drained, drain_fault, live, landed, landed_fault, lost, lost_fault, Server, queue_fault, server_fault, key_of, is_for_peers, task_for, with_task}
 use Rattle.eu_model.proofs.ServedLemmas.{server, registry_answers, drain_answers, landed_answers, lost_answers, drain_refuses, landed_refuses, lost_refuses, drain_of_nobody, landed_at_nobody, lost_to_nobody}
 use Rattle.eu_outbox.specs.Boxed.{Boxed}
-use Rattle.eu_book.specs.Account.{most_steps}
-use Rattle.eu_book.specs.Peers.{known_fault, queues_fault, queues_of, served, told_key, IsRefused, QueuesAnswer}
+use Rattle.eu_base.specs.Limits.{most_steps}
+use Rattle.eu_book.specs.Account.{known_fault, queues_fault}
+use Rattle.eu_book.specs.Peers.{queues_of, served, told_key, IsRefused, QueuesAnswer}
 
 -- ---- copies
 
@@ -63,10 +62,10 @@ pop_copies m n (Some x) (Some y) rest old e is long some = let p = popped m x y 
 
 pub untold : (c : Command) (t : ℕ) (r : Reply) (i : Option Instance) → told_key c ≡ None → task_for c t r i ≡ None
 untold (Register n false) t r i e = cc
-untold (Renew k dirty overridden false) t r i e = cc
+untold (Renew k last_dirty overridden false) t r i e = cc
 untold (Cancel k false) t r i e = cc
-untold (SetStatus k status dirty false) t r i e = cc
-untold (UnsetStatus k suggested dirty false) t r i e = cc
+untold (SetStatus k status last_dirty false) t r i e = cc
+untold (UnsetStatus k suggested last_dirty false) t r i e = cc
 untold c t r i e = refl
 
 -- the registry's step alone, where nobody is told of it

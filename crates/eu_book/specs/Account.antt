@@ -1,20 +1,22 @@
 -- What a book keeps, and what a command changes in it
-use Rattle.std.specs.Prelude.{◌≡◌, ◌⊎◌, ℕ, ◌+◌, ◌<◌, ◌≤◌, ◌^◌, ◌==◌, List, [], ◌∷◌, ◌++◌, length, Option, Some, Ok, if◌then◌else◌}
+use Rattle.std.specs.Prelude.{◌≡◌, ◌⊎◌, ℕ, ◌+◌, ◌<◌, ◌≤◌, ◌^◌, ◌==◌, List, [], ◌∷◌, ◌++◌, length, slice_get, Option, Some, None, Ok, if◌then◌else◌}
 use Rattle.std.specs.FinMap.{len}
 use Rattle.eu_base.specs.declared.faults.Fault.{Fault}
 use Rattle.eu_base.specs.declared.faults.Fault.TheVariants.{Exhausted, OutOfMemory}
 use Rattle.eu_base.specs.declared.settings.Config.{Config}
-use Rattle.eu_choice.specs.Front.{Asks}
+use Rattle.eu_base.specs.Limits.{most_entries, most_peers, most_steps}
+use Rattle.eu_clock.specs.Front.{Asks}
 use Rattle.eu_core.specs.Stepped.{Chooses}
 use Rattle.eu_model.specs.declared.commands.Command.{Command}
+use Rattle.eu_model.specs.declared.commands.Command.TheVariants.{Drain, Landed, Lost}
+use Rattle.eu_model.specs.declared.queues.Queue.{Queue}
 use Rattle.eu_model.specs.declared.commands.Entry.{Entry}
 use Rattle.eu_model.specs.declared.commands.Reply.{Reply}
 use Rattle.eu_model.specs.declared.tallies.Tally.{Tally}
 use Rattle.eu_model.specs.Delta.{delta, nothing, plus, tally_of}
-use Rattle.eu_model.specs.Runs.{Runs, IsNumbered}
-use Rattle.eu_model.specs.Server.{Server, PlainServer, plain_server, server_fault}
+use Rattle.eu_model.specs.Server.{Runs, IsNumbered, Server, PlainServer, plain_server, server_fault, queue_fault, drain_fault, landed_fault, lost_fault}
 use Rattle.eu_model.specs.Server as server
-use Rattle.eu_model.specs.ServerAnswers.{ServerAnswers}
+use Rattle.eu_model.specs.Answers.{ServerAnswers}
 use Rattle.eu_book.specs.declared.journal.Logged.{Logged}
 
 -- the plain form that the entries begin at, the number of the first one, the entries, the plain form now, and what was done
@@ -35,21 +37,13 @@ opened config expected peers = record {
   totals = nothing;
 }
 
--- so many entries are kept at most
-abbrev pub most_entries : ℕ
-most_entries = 65536
-
--- so many steps are counted at most
-abbrev pub most_steps : ℕ
-most_steps = 2 ^ 62
-
 -- a server that was just opened
 pub record IsOpening (p : PlainServer) : Type 0 where
   pub config : Config
   pub expected : ℕ
   pub peers : ℕ
   pub expected_fits : expected < 2 ^ 32
-  pub peers_fit : peers ≤ 8
+  pub peers_fit : peers ≤ most_peers
   pub opened : p ≡ plain_server (server.opened config expected peers)
 
 -- A book that has come this far since it was opened. The entries that its journal has dropped led from an opening to the base; those that it has lead from
@@ -106,19 +100,30 @@ grown a e state = record {
 }
 
 -- A command of a pass at a moment is answered with this reply, which makes a step of the server, and its entry is the next one, whose number is that of the
--- steps before it; a journal that is full begins anew before. The chooser is asked as the machine's passes ask
-pub record Applies {S : Type 0} (asks : Asks S) (old : Account) (x : S) (pass : ℕ) (c : Command) (t : ℕ) (reply : Reply) (number : ℕ) (new : Account) (x' : S) : Type 0 where
+-- steps before it; a journal that is full begins anew before. The chooser is asked as the machine's evictions ask
+pub record Applies {S : Type 0} (asks : Asks S) (old : Account) (x : S) (e : Entry) (new : Account) (x' : S) : Type 0 where
   pub counts : old.totals.steps < most_steps
-  pub numbered : number ≡ old.totals.steps
-  pub step : ServerAnswers old.state c t (Ok reply) new.state
-  pub chooses : Chooses asks old.state.registry x c t reply x'
-  pub whole : new ≡ grown (ready old) (entry pass number c t reply) new.state
+  pub numbered : e.number ≡ old.totals.steps
+  pub step : ServerAnswers old.state e.command e.moment (Ok e.reply) new.state
+  pub chooses : Chooses asks old.state.registry x e.command e.moment e.reply x'
+  pub whole : new ≡ grown (ready old) e new.state
 
 -- ---- one that is refused
 
 -- the first fault, if there is one: that the steps are as many as are counted at most, or the server's
 abbrev pub fault_of : Account → Server → Command → ℕ → Option Fault
 fault_of a s c t = if a.totals.steps == most_steps then Some Exhausted else server_fault s c t
+
+-- why the queue of a peer refuses a command, if it does; only a command that speaks of one is refused so
+abbrev pub queues_fault : List Queue → Command → ℕ → Option Fault
+queues_fault qs (Drain peer) t = queue_fault (slice_get qs peer) (drain_fault t)
+queues_fault qs (Landed peer codes) t = queue_fault (slice_get qs peer) (landed_fault codes)
+queues_fault qs (Lost peer) t = queue_fault (slice_get qs peer) lost_fault
+queues_fault qs c t = None
+
+-- the first fault that needs no memory to be known, if there is one, where so many steps were made
+abbrev pub known_fault : ℕ → List Queue → Command → ℕ → Option Fault
+known_fault steps qs c t = if steps == most_steps then Some Exhausted else queues_fault qs c t
 
 -- a command is refused by this fault, of each server of that plain form: by its first one, or for want of memory in place of any
 abbrev pub Refuses : Account → Command → ℕ → Fault → Type 0

@@ -1,5 +1,5 @@
 pub mod Peers
 pub mod Account
 pub mod AccountCode
-pub mod Renewed
+pub mod Checkpoint
 pub mod Desk

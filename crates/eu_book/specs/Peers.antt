@@ -1,21 +1,20 @@
 -- The peers of a book: what waits for each, and what a command tells them
-use Rattle.std.specs.Prelude.{◌≡◌, ◌≢◌, ◌⊎◌, ℕ, ◌<◌, ◌==◌, false, List, map, slice_get, Option, Some, None, Result, Err, if◌then◌else◌}
+use Rattle.std.specs.Prelude.{◌≡◌, ◌≢◌, ◌⊎◌, ℕ, ◌<◌, ◌==◌, false, List, map, Option, Some, None, Result, Err, if◌then◌else◌}
 use Rattle.eu_base.specs.declared.faults.Fault.{Fault}
 use Rattle.eu_base.specs.declared.faults.Fault.TheVariants.{Exhausted, OutOfMemory}
 use Rattle.eu_base.specs.declared.names.Key.{Key}
 use Rattle.eu_core.specs.State as registry
 use Rattle.eu_model.specs.declared.commands.Command.{Command}
-use Rattle.eu_model.specs.declared.commands.Command.TheVariants.{Register, Renew, Cancel, SetStatus, UnsetStatus, Drain, Landed, Lost}
+use Rattle.eu_model.specs.declared.commands.Command.TheVariants.{Register, Renew, Cancel, SetStatus, UnsetStatus}
 use Rattle.eu_model.specs.declared.commands.Reply.{Reply}
 use Rattle.eu_model.specs.declared.queues.Queue.{Queue}
 use Rattle.eu_model.specs.declared.states.State.{State}
 use Rattle.eu_model.specs.Plain.{Plain}
-use Rattle.eu_model.specs.Queue.{drain_fault, landed_fault, lost_fault}
+use Rattle.eu_model.specs.Server.{PlainServer}
 use Rattle.eu_model.specs.State.{server_of_state}
-use Rattle.eu_model.specs.Server.{PlainServer, queue_fault}
-use Rattle.eu_model.specs.ServerAnswers.{ServerAnswers}
+use Rattle.eu_model.specs.Answers.{ServerAnswers}
 use Rattle.eu_outbox.specs.Boxed.{Boxed}
-use Rattle.eu_book.specs.Account.{most_steps}
+use Rattle.eu_base.specs.Limits.{most_steps}
 
 -- the queues of outboxes
 abbrev pub queues_of : List Boxed → List Queue
@@ -32,10 +31,10 @@ IsReady b = 0 < b.room
 -- the key of the lease of which the peers may be told by a command: one that no peer sent, and that names a lease
 abbrev pub told_key : Command → Option Key
 told_key (Register n false) = Some n.key
-told_key (Renew k dirty overridden false) = Some k
+told_key (Renew k last_dirty overridden false) = Some k
 told_key (Cancel k false) = Some k
-told_key (SetStatus k status dirty false) = Some k
-told_key (UnsetStatus k suggested dirty false) = Some k
+told_key (SetStatus k status last_dirty false) = Some k
+told_key (UnsetStatus k suggested last_dirty false) = Some k
 told_key _ = None
 
 -- whatever the registry holds, a command is answered so, which changes the outboxes alone
@@ -59,14 +58,3 @@ abbrev pub IsRefused : ℕ → PlainServer → Command → ℕ → Fault → Typ
 IsRefused steps p c t f = ((steps ≡ most_steps) × (f ≡ Exhausted)) ⊎ ((steps ≢ most_steps) × MayRefuse p c t f)
 
 -- ---- what is known before any memory is wanted
-
--- why the queue of a peer refuses a command, if it does; only a command that speaks of one is refused so
-abbrev pub queues_fault : List Queue → Command → ℕ → Option Fault
-queues_fault qs (Drain peer) t = queue_fault (slice_get qs peer) (drain_fault t)
-queues_fault qs (Landed peer codes) t = queue_fault (slice_get qs peer) (landed_fault codes)
-queues_fault qs (Lost peer) t = queue_fault (slice_get qs peer) lost_fault
-queues_fault qs c t = None
-
--- the first fault that needs no memory to be known, if there is one, where so many steps were made
-abbrev pub known_fault : ℕ → List Queue → Command → ℕ → Option Fault
-known_fault steps qs c t = if steps == most_steps then Some Exhausted else queues_fault qs c t

@@ -3,19 +3,20 @@ ghost use Rattle.std.specs.Prelude.{◌≡◌, ◌≤◌, length, Some, IfOk, If
 ghost use Rattle.eu_model.specs.Answers.{Shows};
 ghost use Rattle.eu_model.specs.State.{server_of_state};
 ghost use Rattle.eu_model.specs.View.{view};
-ghost use Rattle.eu_book.specs.Account.{cleared, most_entries, opened, logged, Applies, Refuses, IsLawful};
+ghost use Rattle.eu_book.specs.Account.{cleared, entry, known_fault, opened, logged, Applies, Refuses, IsLawful};
+ghost use Rattle.eu_base.specs.Limits.{most_entries};
 ghost use Rattle.eu_core.specs.Answered.{for_log};
-ghost use Rattle.eu_book.specs.Renewed.{IsJournal, IsRetired};
-ghost use Rattle.eu_book.specs.Peers.{known_fault, served, state_of};
+ghost use Rattle.eu_book.specs.Checkpoint.{IsJournal, IsRetired};
+ghost use Rattle.eu_book.specs.Peers.{served, state_of};
 
+use crate::checkpoint::{begin, plain};
 use crate::entering::{answer, note};
 use crate::journal::{Journal, Logged};
 use crate::peers::Peers;
-use crate::renewal::{begin, plain};
-use eu_base::{Config, Fault, Moment};
+use eu_base::{Config, Fault, MOST_PEERS, Moment};
 use eu_clock::Chooser;
 use eu_core::Registry;
-use eu_model::{Command, Listed, Listing, Query, Reply, Rows, State, Tally, View};
+use eu_model::{Command, Listed, Listing, OverrideRows, Query, Reply, State, Tally, View};
 use std::alloc::{AllocError, Global};
 use std::marker::Model;
 use std::mem;
@@ -83,7 +84,7 @@ impl Book {
         expected: u32,
         peers: u32,
     ) -> Result<Book, AllocError>
-        requires { peers ≤ 8 }
+        requires { peers ≤ MOST_PEERS }
         ensures { IfOk result (λ book. book ≡ opened config expected peers) }
     {
         let peers = Peers::open(alloc, peers)?;
@@ -91,7 +92,7 @@ impl Book {
             config,
             expected: u64::from(expected),
             leases: Listing::new(Vec::new(alloc)),
-            rows: Rows::new(Vec::new(alloc)),
+            overrides: OverrideRows::new(Vec::new(alloc)),
             last: 0,
             since: 0,
             previous: None,
@@ -112,7 +113,7 @@ impl Book {
     /// Tells the registry a command at a moment. `pass` is the number of who asks: it is only noted in the entry.
     ///
     /// The registry answers as the call does that the command names (`Registry`), and the command with its reply is one entry
-    /// more of the journal. Only an eviction pass asks the chooser.
+    /// more of the journal. Only an eviction asks the chooser.
     ///
     /// What a client did goes into the outbox of each peer, as its task; what a peer sent, an adoption and a timer's command put
     /// nothing there. `Drain`, `Landed` and `Lost` are the calls of that name on the outbox of the peer that they name.
@@ -131,7 +132,7 @@ impl Book {
         moment: Moment,
         chooser: &mut C,
     ) -> Result<Receipt, Fault>
-        ensures applied { IfOk result (λ r. Applies C.asks self.old chooser.old pass command moment r.reply r.number self.new chooser.new) }
+        ensures applied { IfOk result (λ r. Applies C.asks self.old chooser.old (entry pass r.number command moment r.reply) self.new chooser.new) }
         ensures refused { IfErr result (λ f. Refuses self.old command moment f) }
         ensures memory { IfErr result (λ f. f ≡ Fault.OutOfMemory → known_fault self.old.totals.steps self.old.state.queues command moment ≡ None) }
         ensures err { OnErr result (self.new ≡ self.old) }
@@ -153,7 +154,7 @@ impl Book {
         moment: Moment,
         chooser: &mut C,
     ) -> Result<LoggedReceipt, Fault>
-        ensures applied { IfOk result (λ r. Applies C.asks self.old chooser.old pass command moment r.receipt.reply r.receipt.number self.new chooser.new) }
+        ensures applied { IfOk result (λ r. Applies C.asks self.old chooser.old (entry pass r.receipt.number command moment r.receipt.reply) self.new chooser.new) }
         ensures logged { IfOk result (λ r. r.logged ≡ logged mine moment r.receipt.reply r.receipt.number) }
         ensures retired { IfOk result (λ r. IsRetired self.old r.retired) }
         ensures refused { IfErr result (λ f. Refuses self.old command moment f) }
@@ -180,7 +181,7 @@ impl Book {
         chooser: &mut C,
         logs: bool,
     ) -> Result<Entered, Fault>
-        ensures applied { IfOk result (λ e. Applies C.asks self.old chooser.old pass command moment e.receipt.reply e.receipt.number self.new chooser.new) }
+        ensures applied { IfOk result (λ e. Applies C.asks self.old chooser.old (entry pass e.receipt.number command moment e.receipt.reply) self.new chooser.new) }
         ensures logged { IfOk result (λ e. e.logged ≡ for_log logs e.receipt.reply) }
         ensures retired { IfOk result (λ e. IsRetired self.old e.retired) }
         ensures refused { IfErr result (λ f. Refuses self.old command moment f) }

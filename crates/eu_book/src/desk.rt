@@ -3,7 +3,7 @@
 use crate::Book;
 use eu_base::{Fault, Moment};
 use eu_clock::FirstChooser;
-use eu_desk::{Answer, Ask, Desk};
+use eu_model::{Answer, Ask, Desk};
 use std::alloc::Global;
 
 /// The number by which a lent book is asked.

@@ -4,18 +4,19 @@ ghost use Rattle.std.specs.Option.{option_map};
 ghost use Rattle.std.specs.Vec.{vec_capacity};
 ghost use Rattle.eu_core.specs.Stepped.{Chooses};
 ghost use Rattle.eu_model.specs.Delta.{added_by, counted_by, delta, plus, removed_by};
-ghost use Rattle.eu_model.specs.ServerAnswers.{ServerAnswers};
-ghost use Rattle.eu_book.specs.Account.{entry, most_steps};
+ghost use Rattle.eu_model.specs.Answers.{ServerAnswers};
+ghost use Rattle.eu_book.specs.Account.{entry, known_fault};
+ghost use Rattle.eu_base.specs.Limits.{most_steps};
 ghost use Rattle.eu_core.specs.Answered.{answered};
-ghost use Rattle.eu_book.specs.Peers.{IsRefused, known_fault, queues_of, served};
-ghost use Rattle.eu_book.specs.Renewed.{anew, base_by, entries_by, first_by, BeginsAt};
+ghost use Rattle.eu_book.specs.Peers.{IsRefused, queues_of, served};
+ghost use Rattle.eu_book.specs.Checkpoint.{anew, base_by, entries_by, first_by, BeginsAt};
 
 use crate::book::{Entered, Receipt};
-use crate::journal::{Journal, MOST_STEPS};
+use crate::checkpoint::{begin_anew, make_room};
+use crate::journal::Journal;
 use crate::peers::Peers;
-use crate::renewal::{begin_anew, make_room};
 use crate::serving::serve;
-use eu_base::{Fault, Moment};
+use eu_base::{Fault, MOST_STEPS, Moment};
 use eu_clock::Chooser;
 use eu_core::{Answered, Registry};
 use eu_model::{Command, Entry, Reply, Tally};
@@ -84,7 +85,7 @@ pub(crate) fn note(
     ensures entries { journal.new.entries.items ≡ entries_by (option_map (λ (j : _). j.value.base) accepted.renewal) journal.old.entries.items ++ entry pass totals.old.steps command moment accepted.answered.reply ∷ [] }
     ensures totals { totals.new ≡ plus totals.old (delta command accepted.answered.reply) }
     ensures number { result.receipt.number ≡ totals.old.steps }
-    ensures told { result.receipt.reply ≡ accepted.answered.told }
+    ensures told { result.receipt.reply ≡ accepted.answered.answer }
     ensures logged { result.logged ≡ accepted.answered.logged }
     ensures retired { option_map (λ (j : _). j.value) result.retired ≡ option_map (λ _. journal.old) accepted.renewal }
 {
@@ -101,7 +102,7 @@ pub(crate) fn note(
     });
     Entered {
         receipt: Receipt {
-            reply: answered.told,
+            reply: answered.answer,
             number,
         },
         logged: answered.logged,

@@ -3,12 +3,6 @@
 use eu_base::Moment;
 use eu_model::{Command, Entry, Reply, State};
 
-/// The most entries that a journal keeps.
-pub const MOST_ENTRIES: usize = 65_536;
-
-/// The most steps that a book counts.
-pub const MOST_STEPS: u64 = 1 << 62;
-
 /// The last that was told to a registry: its entries are a run of the lease machine from the base.
 #[derive(Debug, Drop)]
 pub struct Journal {

@@ -7,13 +7,13 @@
 #![tactic(auto)]
 
 mod book;
+mod checkpoint;
 mod desk;
 mod entering;
 mod journal;
 mod peers;
-mod renewal;
 mod serving;
 mod tasks;
 
 pub use book::{Book, LoggedReceipt, Receipt};
-pub use journal::{Journal, Logged, MOST_ENTRIES, MOST_STEPS};
+pub use journal::{Journal, Logged};

@@ -3,13 +3,13 @@ ghost use Rattle.std.specs.Prelude.{◌≡◌, ◌≤◌, All, Err, Ok, Option, 
 ghost use Rattle.std.specs.Vec.{vec_capacity};
 ghost use Rattle.eu_base.specs.declared.instances.Instance.{Instance};
 ghost use Rattle.eu_core.specs.Stepped.{copies_of};
-ghost use Rattle.eu_model.specs.Queue.{idle};
-ghost use Rattle.eu_model.specs.Server.{task_for, with_task};
+ghost use Rattle.eu_model.specs.Server.{idle, task_for, with_task};
 ghost use Rattle.eu_core.specs.Answered.{answered};
-ghost use Rattle.eu_book.specs.Peers.{queues_fault, queues_of, IsReady, QueuesAnswer, told_key};
+ghost use Rattle.eu_book.specs.Account.{queues_fault};
+ghost use Rattle.eu_book.specs.Peers.{queues_of, IsReady, QueuesAnswer, told_key};
 
 use crate::tasks::task_for;
-use eu_base::{Codes, Fault, Instance, Key, Moment};
+use eu_base::{Codes, Fault, Instance, Key, MOST_PEERS, Moment};
 use eu_core::{Answered, replies_for, split};
 use eu_model::{Command, Queues, Reply};
 use eu_outbox::Outbox;
@@ -26,6 +26,7 @@ impl Model for Peers {
     ghost use Rattle.std.specs.Prelude.{List, length, ◌≤◌};
     ghost use Rattle.std.specs.Coded.{coded_list};
     ghost use Rattle.eu_outbox.specs.Boxed.{Boxed, coded_boxed};
+    ghost use Rattle.eu_base.specs.Limits.{most_peers};
 
     ghost Value = { List Boxed };
 
@@ -33,13 +34,13 @@ impl Model for Peers {
 
     ghost view = { λ p. p.outboxes.items };
 
-    ghost invariant = { λ p. length p.outboxes.items ≤ 8 };
+    ghost invariant = { λ p. length p.outboxes.items ≤ most_peers };
 }
 
 impl Peers {
     /// So many peers, for whom nothing waits. `AllocError` where no memory is left.
     pub(crate) fn open(alloc: Global, count: u32) -> Result<Peers, AllocError>
-        requires { count ≤ 8 }
+        requires { count ≤ MOST_PEERS }
         ensures { IfOk result (λ p. queues_of p ≡ replicate count idle) }
     {
         let mut outboxes = Vec::new(alloc);
@@ -138,7 +139,7 @@ impl Peers {
         let each = split(batches, logs);
         Ok(Answered {
             reply: Reply::Batch(each.reply),
-            told: Reply::Batch(each.told),
+            answer: Reply::Batch(each.answer),
             logged: each.logged.map(Reply::Batch),
         })
     }

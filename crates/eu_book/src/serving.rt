@@ -4,7 +4,7 @@ ghost use Rattle.std.specs.Borrow.{Bor};
 ghost use Rattle.eu_base.specs.declared.names.Key.{Key};
 ghost use Rattle.eu_core.specs.Stepped.{Chooses};
 ghost use Rattle.eu_model.specs.Server.{is_for_peers};
-ghost use Rattle.eu_model.specs.ServerAnswers.{ServerAnswers};
+ghost use Rattle.eu_model.specs.Answers.{ServerAnswers};
 ghost use Rattle.eu_core.specs.Answered.{answered};
 ghost use Rattle.eu_book.specs.Peers.{MayRefuse, served, told_key};
 

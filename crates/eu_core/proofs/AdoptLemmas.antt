@@ -5,11 +5,10 @@ use Rattle.std.specs.Option.{option_or}
 use Rattle.eu_base.specs.declared.statuses.Status.{Status}
 use Rattle.eu_base.specs.declared.instances.Instance.{Instance}
 use Rattle.eu_model.specs.declared.views.Listed.{Listed}
-use Rattle.eu_model.specs.Override.{rule}
-use Rattle.eu_model.specs.Record.{made}
-use Rattle.eu_model.specs.Change.{told, joined, up_after, register, overridden_by}
+use Rattle.eu_model.specs.Change.{rule, row_of, joined, up_after, register, overridden_by}
+use Rattle.eu_model.specs.Machine.{made}
 use Rattle.eu_model.specs.Plain.{listed}
-use Rattle.eu_model.specs.Kept.{raised, kept, kept_register, kept_adopt}
+use Rattle.eu_model.specs.PlainSteps.{raised, plain_change, plain_register, plain_adopt}
 
 -- the instance that a registration leaves, from the one that was chosen, where the id has a row
 abbrev settled : Instance → Status → Status → Bool → Instance
@@ -17,16 +16,16 @@ settled chosen row held replicated = record chosen { status = rule chosen.status
 
 same_joined : (h n : Instance) (row : Status) (replicated : Bool) → joined (Some h) (Some row) n replicated ≡ joined (Some (record h { overridden = row })) (Some row) n replicated
 same_joined h n row replicated =
-    elim (nat_lt n.dirty h.dirty) as (λ b.
+    elim (nat_lt n.last_dirty h.last_dirty) as (λ b.
     settled (cond b (record h { secs = n.secs }) n) row h.status replicated
     ≡ settled (cond b (record h { overridden = row; secs = n.secs }) n) row h.status replicated) [ true ↦ refl | false ↦ refl ]
 
-pub adopt_registers : (held : Option Listed) (row : Option Status) (e : ℕ) (n : Instance) (t : ℕ) → kept_register held (option_or (told n.overridden) row) e n true t ≡ kept_adopt held row e n t
+pub adopt_registers : (held : Option Listed) (row : Option Status) (e : ℕ) (n : Instance) (t : ℕ) → plain_register held (option_or (row_of n.overridden) row) e n true t ≡ plain_adopt held row e n t
 adopt_registers None row e n t = refl
 adopt_registers (Some l) row e n t =
-    elim (told n.overridden) as (λ o. kept_register (Some l) (option_or o row) e n true t ≡ kept (register (Some (overridden_by o (raised l))) (option_or o row) e n true t)) [
+    elim (row_of n.overridden) as (λ o. plain_register (Some l) (option_or o row) e n true t ≡ plain_change (register (Some (overridden_by o (raised l))) (option_or o row) e n true t)) [
       | None ↦ refl
       | Some s ↦
           let q = same_joined l.instance n s true in
-          λ i. record (kept_register (Some l) (Some s) e n true t) { lease = Some (listed (made (q i) (up_after l.times.up (q i).status t) t)) }
+          λ i. record (plain_register (Some l) (Some s) e n true t) { lease = Some (listed (made (q i) (up_after l.times.up (q i).status t) t)) }
     ]

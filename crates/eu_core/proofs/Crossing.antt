@@ -2,8 +2,8 @@
 use denote.Param.Send.{IsSend, sendable}
 use Rattle.std.proofs.Crossing as heap
 use Rattle.eu_core.specs.contracts.registry.Registry as registry
-use Rattle.eu_meter.specs.contracts.rate.Rate as rate
-use Rattle.eu_meter.specs.contracts.threshold.Threshold as threshold
+use Rattle.eu_lease.specs.contracts.rate.Rate as rate
+use Rattle.eu_lease.specs.contracts.threshold.Threshold as threshold
 use Rattle.eu_eviction.proofs.Crossing.{Overrides-send}
 use Rattle.eu_store.proofs.Crossing.{Leases-send}
 

@@ -3,13 +3,13 @@ use Rattle.std.proofs.Common.{◌≡◌, ℕ, ◌+◌, ◌≤◌, ◌^◌, Bool,
 use Rattle.std.specs.Prelude.{if◌then◌else◌, Option, None, Ok}
 use Rattle.std.specs.FinMap.{FinMap, get}
 use Rattle.eu_base.specs.declared.names.Key.{Key}
-use Rattle.eu_base.specs.Key.{key_cmp}
+use Rattle.eu_base.specs.Values.{key_cmp}
 use Rattle.eu_model.specs.declared.commands.Command.{Command}
 use Rattle.eu_model.specs.declared.views.Listed.{Listed}
 use Rattle.eu_model.specs.Answers.{Answers}
 use Rattle.eu_model.specs.Change.{Change}
-use Rattle.eu_model.specs.Kept.{after}
-use Rattle.eu_model.specs.Maps.{with_value}
+use Rattle.eu_model.specs.PlainSteps.{after}
+use Rattle.eu_model.specs.Machine.{with_value}
 use Rattle.eu_model.specs.Plain.{Plain}
 use Rattle.eu_core.specs.declared.decision.Change.{Change as Decided}
 use Rattle.eu_core.specs.declared.decision.Decision.{Decision}
@@ -29,7 +29,7 @@ is_after : (p : Plain) (k : Key) (d : Decision) (c : Change Listed) → IsChange
 is_after p k d c h =
     λ i. record p {
       leases = with_value p.leases k (h.lease i);
-      rows = with_value p.rows k.id (h.row_is i);
+      overrides = with_value p.overrides k.id (h.row_is i);
       expected = h.expected_is i;
       since = if h.counted_is i then p.since + 1 else p.since;
     }

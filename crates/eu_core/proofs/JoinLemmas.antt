@@ -6,10 +6,9 @@ use Rattle.std.specs.Option.{option_map, option_map_or}
 use Rattle.eu_base.specs.declared.statuses.Status.{Status}
 use Rattle.eu_base.specs.declared.instances.Instance.{Instance}
 use Rattle.eu_model.specs.declared.views.Listed.{Listed}
-use Rattle.eu_model.specs.Override.{rule, is_status}
-use Rattle.eu_model.specs.Change.{newer, row_after, under_row, up_after}
+use Rattle.eu_model.specs.Change.{rule, is_status, newer, row_after, under_row, up_after}
 use Rattle.eu_model.specs.declared.commands.Reply.TheVariants.{Registered}
-use Rattle.eu_model.specs.Kept.{kept_register}
+use Rattle.eu_model.specs.PlainSteps.{plain_register}
 use Rattle.eu_core.specs.declared.decision.Decision.{Decision}
 use Rattle.eu_core.specs.Decided.{lease_left}
 use Rattle.eu_core.specs.Joins.{Joins}
@@ -44,18 +43,18 @@ one_lease None j held replicated up t = refl
 one_lease (Some row) j held replicated up t = refl
 
 pub lease_joined : (held : Option Listed) (row : Option Status) (n : Instance) (replicated : Bool) (t : ℕ) →
-    Some (joined_lease (chosen held n) row (held_status held) replicated (held_up held) t) ≡ (kept_register held row 0 n replicated t).lease
+    Some (joined_lease (chosen held n) row (held_status held) replicated (held_up held) t) ≡ (plain_register held row 0 n replicated t).lease
 lease_joined None row n replicated t = ap Some (one_lease (row_after row n.overridden) n None replicated 0 t)
 lease_joined (Some l) row n replicated t =
     let j = newer (Some l.instance) n in
     ap Some (one_lease (row_after row j.overridden) j (Some l.instance.status) replicated l.times.up t)
 
-pub reply_joined : (held : Option Listed) (row : Option Status) (e : ℕ) (n : Instance) (r : Bool) (t : ℕ) → (kept_register held row e n r t).reply ≡ Registered (not (is_some held))
+pub reply_joined : (held : Option Listed) (row : Option Status) (e : ℕ) (n : Instance) (r : Bool) (t : ℕ) → (plain_register held row e n r t).reply ≡ Registered (not (is_some held))
 reply_joined None row e n r t = refl
 reply_joined (Some l) row e n r t = refl
 
 pub row_joined : (held : Option Listed) (row : Option Status) (n : Instance) (replicated : Bool) (t : ℕ) →
-    row_after row (chosen held n).overridden ≡ (kept_register held row 0 n replicated t).row
+    row_after row (chosen held n).overridden ≡ (plain_register held row 0 n replicated t).row
 row_joined None row n replicated t = refl
 row_joined (Some l) row n replicated t = refl
 
@@ -79,12 +78,12 @@ module _ (d : Decision) (expected : ℕ) (n j : Instance) (replicated : Bool) (t
   }
 
 -- the newcomer is taken on a tie
-pub chosen_over : (l : Listed) (n : Instance) → l.instance.dirty ≤ n.dirty → n ≡ chosen (Some l) n
+pub chosen_over : (l : Listed) (n : Instance) → l.instance.last_dirty ≤ n.last_dirty → n ≡ chosen (Some l) n
 chosen_over l n h =
-    let e : nat_lt n.dirty l.instance.dirty ≡ false = grind (arith, nat_tests) in
+    let e : nat_lt n.last_dirty l.instance.last_dirty ≡ false = grind (arith, nat_tests) in
     sym (ap (λ b. if b then (let k : Instance = record l.instance { secs = n.secs } in k) else n) e)
 
-pub chosen_under : (l : Listed) (n : Instance) → n.dirty < l.instance.dirty → (let k : Instance = record l.instance { secs = n.secs } in k) ≡ chosen (Some l) n
+pub chosen_under : (l : Listed) (n : Instance) → n.last_dirty < l.instance.last_dirty → (let k : Instance = record l.instance { secs = n.secs } in k) ≡ chosen (Some l) n
 chosen_under l n h =
-    let e : nat_lt n.dirty l.instance.dirty ≡ true = grind (arith, nat_tests) in
+    let e : nat_lt n.last_dirty l.instance.last_dirty ≡ true = grind (arith, nat_tests) in
     sym (ap (λ b. if b then (let k : Instance = record l.instance { secs = n.secs } in k) else n) e)

@@ -5,6 +5,6 @@ pub mod RegisterLemmas
 pub mod AdoptLemmas
 pub mod RenewLemmas
 pub mod LookLemmas
-pub mod PassLemmas
+pub mod EvictionLemmas
 pub mod StepLemmas
 pub mod Crossing

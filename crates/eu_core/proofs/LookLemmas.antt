@@ -6,7 +6,7 @@ use Rattle.eu_model.specs.declared.views.Listed.{Listed}
 use Rattle.eu_model.specs.Plain.{Plain}
 use Rattle.eu_model.specs.View.{one, listing}
 use Rattle.eu_model.specs.Answers.{Shows}
-use Rattle.eu_model.specs.Kept.{kept_expired, kept_listing, kept_one, kept_seen}
+use Rattle.eu_model.specs.PlainSteps.{plain_expired, plain_listing, plain_one, plain_seen}
 use Rattle.eu_model.proofs.SeenLemmas.{one-kept}
 use Rattle.eu_model.proofs.ListingLemmas.{listing_shown}
 use Rattle.eu_store.specs.Stored.{listing_of}
@@ -14,16 +14,16 @@ use Rattle.eu_core.specs.declared.registry.Registry.TheInside.{Inside}
 use Rattle.eu_core.specs.Registry.{plain_of}
 
 -- what is seen is held
-pub seen_held : (b : Bool) (t : ℕ) (o : Option Listed) (l : Listed) → Some l ≡ kept_seen b t o → o ≡ Some l
+pub seen_held : (b : Bool) (t : ℕ) (o : Option Listed) (l : Listed) → Some l ≡ plain_seen b t o → o ≡ Some l
 seen_held b t None l e = sym e
 seen_held b t (Some m) l e =
-    elim (b && kept_expired m t 0) as (λ x. Some l ≡ cond x None (Some m) → Some m ≡ Some l) [ true ↦ λ h. cc | false ↦ λ h. sym h ] e
+    elim (b && plain_expired m t 0) as (λ x. Some l ≡ cond x None (Some m) → Some m ≡ Some l) [ true ↦ λ h. cc | false ↦ λ h. sym h ] e
 
-pub shows : (p : Plain) (k : Key) (t : ℕ) (value : Option Listed) → value ≡ kept_one p k t → Shows p (λ s. one s k t) value
-shows p k t value is s e = is ∙ ap (λ (x : Plain). kept_one x k t) (sym e) ∙ sym (one-kept s k t)
+pub shows : (p : Plain) (k : Key) (t : ℕ) (value : Option Listed) → value ≡ plain_one p k t → Shows p (λ s. one s k t) value
+shows p k t value is s e = is ∙ ap (λ (x : Plain). plain_one x k t) (sym e) ∙ sym (one-kept s k t)
 
 -- what the leases list is what the machine shows
 pub lists : {V E : Type 0} (app : Option (List ℕ)) (a : Inside) (p : Plain) → plain_of a ≡ p → (items : V → List Listed) (r : Result V E)
     → IfOk r (λ v. items v ≡ listing_of app a.leases.held) → IfOk r (λ v. Shows p (listing app) (items v))
-lists app a p is items (Ok v) listed = λ s e. listed ∙ ap (kept_listing app) is ∙ listing_shown app p s e
+lists app a p is items (Ok v) listed = λ s e. listed ∙ ap (plain_listing app) is ∙ listing_shown app p s e
 lists app a p is items (Err f) listed = tt

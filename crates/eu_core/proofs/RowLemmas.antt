@@ -7,15 +7,15 @@ use Rattle.eu_base.specs.contracts.statuses.StatusPartialEq.TheImpl.{eq-value}
 use Rattle.eu_base.specs.declared.statuses.Status.{Status}
 use Rattle.eu_base.specs.declared.statuses.Status.TheVariants.{Up, Down, Starting, OutOfService, Unknown}
 use Rattle.eu_base.specs.declared.names.Key.{Key}
-use Rattle.eu_base.specs.Key.{name_cmp, key_cmp}
+use Rattle.eu_base.specs.Values.{name_cmp, key_cmp}
 use Rattle.eu_model.specs.declared.views.Listed.{Listed}
-use Rattle.eu_model.specs.Maps.{with_value}
+use Rattle.eu_model.specs.Machine.{with_value}
 use Rattle.eu_store.specs.Stored.{changed}
 use Rattle.eu_store.proofs.TableLemmas.{by_key, by_name, changed-absent, changed-found, insert_same, remove_absent}
 
-pub with_row-same : (rows : FinMap name_cmp Status) (id : List ℕ) (row : Option Status) → get rows id ≡ row → with_value rows id row ≡ rows
-with_row-same rows id None e = remove_absent by_name rows id e
-with_row-same rows id (Some r) e = insert_same by_name rows id r e
+pub with_row-same : (overrides : FinMap name_cmp Status) (id : List ℕ) (row : Option Status) → get overrides id ≡ row → with_value overrides id row ≡ overrides
+with_row-same overrides id None e = remove_absent by_name overrides id e
+with_row-same overrides id (Some r) e = insert_same by_name overrides id r e
 
 pub with_lease-same : (leases : FinMap key_cmp Listed) (k : Key) (l : Option Listed) → get leases k ≡ l → with_value leases k l ≡ leases
 with_lease-same leases k None e = remove_absent by_key leases k e

@@ -10,24 +10,23 @@ use Rattle.eu_base.specs.declared.settings.Config.{Config}
 use Rattle.eu_base.specs.declared.faults.Fault.{Fault}
 use Rattle.eu_base.specs.declared.faults.Fault.TheVariants.{OutOfMemory}
 use Rattle.eu_base.specs.declared.names.Key.{Key}
-use Rattle.eu_base.specs.Key.{key_cmp}
+use Rattle.eu_base.specs.Values.{key_cmp}
 use Rattle.eu_base.proofs.KeyLemmas.{keys_total}
 use Rattle.eu_model.specs.declared.views.Listed.{Listed}
 use Rattle.eu_model.specs.declared.commands.Command.{Command}
-use Rattle.eu_model.specs.declared.commands.Command.TheVariants.{Register, Renew, Cancel, SetStatus, UnsetStatus, Adopt, Roll, Update, Reconfigure, Evict, Drain, Landed, Lost}
+use Rattle.eu_model.specs.declared.commands.Command.TheVariants.{Register, Renew, Cancel, SetStatus, UnsetStatus, Adopt, EndMinute, Update, Reconfigure, Evict, Drain, Landed, Lost}
 use Rattle.eu_model.specs.declared.commands.Reply.{Reply}
-use Rattle.eu_model.specs.Maps.{with_value}
-use Rattle.eu_model.specs.Machine.{Machine}
-use Rattle.eu_model.specs.Faults.{fault}
-use Rattle.eu_model.specs.Plain.{Plain, held_under, kept_instance}
+use Rattle.eu_model.specs.Machine.{with_value, Machine}
+use Rattle.eu_model.specs.Step.{fault}
+use Rattle.eu_model.specs.Plain.{Plain, held_under, plain_instance}
 use Rattle.eu_model.specs.Answers.{Answers}
 use Rattle.eu_model.specs.Owned.{owns_nothing}
 use Rattle.eu_model.specs.Server.{key_of}
 use Rattle.eu_model.proofs.AnswerLemmas.{refused}
 use Rattle.eu_model.proofs.DeterminedLemmas.{reply_is}
-use Rattle.eu_model.proofs.MinuteLemmas.{roll_is_kept, update_is_kept, reconfigure_is_kept}
+use Rattle.eu_model.proofs.MinuteLemmas.{end_minute_is_kept, update_is_kept, reconfigure_is_kept}
 use Rattle.eu_store.proofs.TableLemmas.{by_key, get_inserted}
-use Rattle.eu_choice.specs.Front.{Asks}
+use Rattle.eu_clock.specs.Front.{Asks}
 use Rattle.eu_core.specs.declared.decision.Change.{Change}
 use Rattle.eu_core.specs.Decided.{lease_left, left}
 use Rattle.eu_core.specs.Stepped.{Chooses, instance_held}
@@ -45,17 +44,17 @@ get_changed m k (Some l) = get_inserted by_key m k l
 pub held_left : (p q : Plain) (c : Command) (k : Key) (x : Change) → key_of c ≡ Some k → q ≡ left p k x
     → option_map (λ (l : Listed). l.instance) (lease_left x.lease (get p.leases k)) ≡ instance_held q c
 held_left p q c k x key is =
-    sym (ap (held_under q) key ∙ ap (λ (y : Plain). kept_instance y k) is ∙ ap (option_map (λ (l : Listed). l.instance)) (get_changed p.leases k (lease_left x.lease (get p.leases k))))
+    sym (ap (held_under q) key ∙ ap (λ (y : Plain). plain_instance y k) is ∙ ap (option_map (λ (l : Listed). l.instance)) (get_changed p.leases k (lease_left x.lease (get p.leases k))))
 
 -- a command on a lease asks no word
 pub unasked : {S : Type 0} (asks : Asks S) (p : Plain) (x : S) (c : Command) (k : Key) (t : ℕ) (reply : Reply) → key_of c ≡ Some k → Chooses asks p x c t reply x
 unasked asks p x (Register n replicated) k t reply e = refl
-unasked asks p x (Renew own dirty overridden replicated) k t reply e = refl
+unasked asks p x (Renew own last_dirty overridden replicated) k t reply e = refl
 unasked asks p x (Cancel own replicated) k t reply e = refl
-unasked asks p x (SetStatus own status dirty replicated) k t reply e = refl
-unasked asks p x (UnsetStatus own suggested dirty replicated) k t reply e = refl
+unasked asks p x (SetStatus own status last_dirty replicated) k t reply e = refl
+unasked asks p x (UnsetStatus own suggested last_dirty replicated) k t reply e = refl
 unasked asks p x (Adopt n) k t reply e = refl
-unasked asks p x Roll k t reply e = refl
+unasked asks p x EndMinute k t reply e = refl
 unasked asks p x Update k t reply e = refl
 unasked asks p x (Reconfigure config) k t reply e = refl
 unasked asks p x Evict k t reply e = absurd (cc)
@@ -66,8 +65,8 @@ unasked asks p x (Lost peer) k t reply e = refl
 -- ---- replies that own nothing
 
 module _ (t : ℕ) (p q : Plain) (r : Reply) where
-  pub roll_plain : Answers p Roll t (Ok r) q → owns_nothing r ≡ true
-  roll_plain a = ap owns_nothing (reply_is Roll t _ _ _ _ roll_is_kept (λ s s' x h. h) p q r a)
+  pub end_minute_plain : Answers p EndMinute t (Ok r) q → owns_nothing r ≡ true
+  end_minute_plain a = ap owns_nothing (reply_is EndMinute t _ _ _ _ end_minute_is_kept (λ s s' x h. h) p q r a)
 
   pub update_plain : Answers p Update t (Ok r) q → owns_nothing r ≡ true
   update_plain a = ap owns_nothing (reply_is Update t _ _ _ _ update_is_kept (λ s s' x h. h) p q r a)

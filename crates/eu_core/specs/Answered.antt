@@ -10,4 +10,4 @@ abbrev pub for_log : {R : Type 0} → Bool → R → Option R
 for_log logs r = if logs then Some r else None
 
 abbrev pub answered : {R : Type 0} → Bool → R → Answered R
-answered logs r = record { reply = r; told = r; logged = for_log logs r }
+answered logs r = record { reply = r; answer = r; logged = for_log logs r }

@@ -6,15 +6,16 @@ use Rattle.eu_base.specs.declared.faults.Fault.{Fault}
 use Rattle.eu_base.specs.declared.faults.Fault.TheVariants.{Exhausted, OutOfMemory}
 use Rattle.eu_base.specs.declared.names.Key.{Key}
 use Rattle.eu_base.specs.declared.statuses.Status.{Status}
-use Rattle.eu_base.specs.Key.{key_cmp}
+use Rattle.eu_base.specs.Values.{key_cmp}
+use Rattle.eu_base.specs.Limits.{most_expected, most_leases, most_renewals}
 use Rattle.eu_model.specs.declared.commands.Command.{Command}
 use Rattle.eu_model.specs.declared.commands.Reply.{Reply}
 use Rattle.eu_model.specs.declared.views.Listed.{Listed}
 use Rattle.eu_model.specs.Answers.{Answers}
 use Rattle.eu_model.specs.Change.{Change}
-use Rattle.eu_model.specs.Maps.{with_value}
+use Rattle.eu_model.specs.Machine.{with_value}
 use Rattle.eu_model.specs.Plain.{Plain}
-use Rattle.eu_meter.specs.Meter.{Counted}
+use Rattle.eu_lease.specs.Meter.{Counted}
 use Rattle.eu_store.specs.Stored.{amended}
 use Rattle.eu_core.specs.declared.decision.Change.{Change as Decided}
 use Rattle.eu_core.specs.declared.decision.Decision.{Decision}
@@ -36,7 +37,7 @@ begins _ = false
 
 -- a lease begins only where its key isn't held, and there may be one more
 abbrev pub IsNew : FinMap key_cmp Listed → Key → LeaseChange → Type 0
-IsNew leases k (Begun by) = (get leases k ≡ None) × (len leases < 65536)
+IsNew leases k (Begun by) = (get leases k ≡ None) × (len leases < most_leases)
 IsNew leases k _ = Unit {0}
 
 -- ---- what becomes of the row of an id
@@ -65,7 +66,7 @@ pub record IsChange (d : Decision) (held : Option Listed) (c : Change Listed) : 
 
 -- why a renewal isn't counted
 abbrev pub count_fault : Bool → ℕ → Option Fault
-count_fault counts since = if counts && (since == 2 ^ 62) then Some Exhausted else None
+count_fault counts since = if counts && (since == most_renewals) then Some Exhausted else None
 
 abbrev pub counted : Plain → Counted
 counted p = record { last = p.last; since = p.since }
@@ -74,7 +75,7 @@ counted p = record { last = p.last; since = p.since }
 abbrev pub left : Plain → Key → Decided → Plain
 left p k x = record p {
   leases = with_value p.leases k (lease_left x.lease (get p.leases k));
-  rows = with_value p.rows k.id x.row;
+  overrides = with_value p.overrides k.id x.row;
   expected = x.expected;
   since = if x.counted then p.since + 1 else p.since;
 }
@@ -82,7 +83,7 @@ left p k x = record p {
 -- it can be carried out: nothing but want of memory stands in its way
 pub record IsReady (p : Plain) (k : Key) (x : Decided) : Type 0 where
   pub new : IsNew p.leases k x.lease
-  pub bound : x.expected ≤ 2 ^ 40
+  pub bound : x.expected ≤ most_expected
   pub countable : count_fault x.counted p.since ≡ None
 
 -- a decision on the lease of a key is that of a command: carried out it is a step of the machine, and memory may be wanted for it

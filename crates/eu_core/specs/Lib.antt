@@ -1,7 +1,6 @@
 pub mod Joins
 pub mod Registry
 pub mod Shown
-pub mod Evicts
 pub mod Answered
 pub mod Stepped
 pub mod State

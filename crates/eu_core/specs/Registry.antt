@@ -7,7 +7,7 @@ abbrev pub plain_of : Inside → Plain
 plain_of a = record {
   config = a.threshold.config;
   leases = a.leases.held;
-  rows = a.rows.rows;
+  overrides = a.overrides.rows;
   expected = a.threshold.expected;
   last = a.rate.last;
   since = a.rate.since;

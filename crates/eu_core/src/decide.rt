@@ -5,16 +5,15 @@ ghost use Rattle.eu_base.specs.declared.statuses.Status.{Status};
 ghost use Rattle.eu_model.specs.declared.views.Listed.{Listed};
 ghost use Rattle.eu_model.specs.Answers.{IsRefusal};
 ghost use Rattle.eu_model.specs.Change.{renew_reply};
-ghost use Rattle.eu_model.specs.Kept.{kept_cancel, kept_renew, kept_set_status, kept_unset_status};
+ghost use Rattle.eu_model.specs.PlainSteps.{plain_cancel, plain_renew, plain_set_status, plain_unset_status};
 ghost use Rattle.eu_core.specs.Decided.{begins, count_fault, decided, IsChange};
 
 use crate::decision::{Change, Decision, LeaseChange};
-use crate::statuses::brought;
+use crate::statuses::row_of_peer;
 use eu_base::{BoxedInstance, Fault, Instance, Moment, Stamp, Status};
-use eu_lease::{is_status, override_rule};
-use eu_meter::Rate;
+use eu_lease::{Rate, is_status, override_rule};
 use eu_model::Reply;
-use eu_store::{Amendment, Held};
+use eu_store::{Amendment, HeldLease};
 use std::alloc::{AllocError, Global};
 
 /// What is known beside the lease when a command on it is decided.
@@ -31,20 +30,20 @@ pub struct Known {
 /// A renewal (`AbstractInstanceRegistry.renew`, and `InstanceResource.renewLease` for the stamps).
 pub fn decide_renewal(
     alloc: Global,
-    held: Option<&Held>,
+    held: Option<&HeldLease>,
     known: Known,
-    dirty: Option<Stamp>,
+    last_dirty: Option<Stamp>,
     overridden: Option<Status>,
     replicated: bool,
     moment: Moment,
 ) -> Result<Decision, Fault>
-    ensures change { IfOk result (λ d. IsChange d (option_copied held.entry) (kept_renew (option_copied held.entry) known.row known.expected dirty overridden replicated moment)) }
-    ensures counted { OnOk result (count_fault (kept_renew (option_copied held.entry) known.row known.expected dirty overridden replicated moment).counted known.rate.since ≡ None) }
+    ensures change { IfOk result (λ d. IsChange d (option_copied held.entry) (plain_renew (option_copied held.entry) known.row known.expected last_dirty overridden replicated moment)) }
+    ensures counted { OnOk result (count_fault (plain_renew (option_copied held.entry) known.row known.expected last_dirty overridden replicated moment).counted known.rate.since ≡ None) }
     ensures in_place { IfOk result (λ d. begins d.change.lease ≡ false) }
     ensures few { IfOk result (λ d. d.change.expected ≤ known.expected) }
-    ensures frugal { (dirty ≡ None) ⊎ (replicated ≡ false) → IfOk result (λ d. d.change.row ≡ known.row) }
-    ensures refused { IfErr result (λ f. IsRefusal (count_fault (kept_renew (option_copied held.entry) known.row known.expected dirty overridden replicated moment).counted known.rate.since) f) }
-    ensures memory { (dirty ≡ None) ⊎ (replicated ≡ false) → result ≢ Err Fault.OutOfMemory }
+    ensures frugal { (last_dirty ≡ None) ⊎ (replicated ≡ false) → IfOk result (λ d. d.change.row ≡ known.row) }
+    ensures refused { IfErr result (λ f. IsRefusal (count_fault (plain_renew (option_copied held.entry) known.row known.expected last_dirty overridden replicated moment).counted known.rate.since) f) }
+    ensures memory { (last_dirty ≡ None) ⊎ (replicated ≡ false) → result ≢ Err Fault.OutOfMemory }
 {
     let Some(held) = held else {
         return Ok(unchanged(known, Reply::NotFound));
@@ -56,18 +55,18 @@ pub fn decide_renewal(
         return Ok(unchanged(known, Reply::NotFound));
     }
     known.rate.check()?;
-    let reply = renew_reply(alloc, instance, status, dirty, replicated)?;
-    let brought = brought(&reply, overridden, known.row, replicated);
+    let reply = renew_reply(alloc, instance, status, last_dirty, replicated)?;
+    let row_of_peer = row_of_peer(&reply, overridden, known.row, replicated);
     Ok(Decision {
         change: Change {
             lease: LeaseChange::Amended(Amendment::InStatuses {
                 moment,
                 status,
-                overridden: brought.unwrap_or(instance.overridden),
-                dirty: None,
+                overridden: row_of_peer.unwrap_or(instance.overridden),
+                last_dirty: None,
                 comes_up: false,
             }),
-            row: brought.or(known.row),
+            row: row_of_peer.or(known.row),
             expected: known.expected,
             counted: true,
         },
@@ -81,20 +80,20 @@ fn renew_reply(
     alloc: Global,
     instance: &Instance,
     status: Status,
-    dirty: Option<Stamp>,
+    last_dirty: Option<Stamp>,
     replicated: bool,
 ) -> Result<Reply, AllocError>
-    ensures reply { IfOk result (λ reply. reply ≡ renew_reply dirty (record instance.now { status = status }) replicated) }
-    ensures memory { dirty ≡ None → IsOk result }
+    ensures reply { IfOk result (λ reply. reply ≡ renew_reply last_dirty (record instance.now { status = status }) replicated) }
+    ensures memory { last_dirty ≡ None → IsOk result }
     ensures client { replicated ≡ false → IsOk result }
 {
-    let Some(stamp) = dirty else {
+    let Some(stamp) = last_dirty else {
         return Ok(Reply::Done);
     };
-    if stamp.value() > instance.dirty.value() {
+    if stamp.value() > instance.last_dirty.value() {
         return Ok(Reply::Stale);
     }
-    if stamp.value() < instance.dirty.value() && replicated {
+    if stamp.value() < instance.last_dirty.value() && replicated {
         let mut now = instance.copy(alloc)?;
         now.status = status;
         return Ok(Reply::Conflict(BoxedInstance::new(alloc, now)?));
@@ -104,14 +103,14 @@ fn renew_reply(
 
 /// A status that is set for a lease that is seen, if it is (`AbstractInstanceRegistry.statusUpdate`).
 pub fn decide_status(
-    seen: Option<&Held>,
+    seen: Option<&HeldLease>,
     known: Known,
     status: Status,
-    dirty: Option<Stamp>,
+    last_dirty: Option<Stamp>,
     moment: Moment,
 ) -> Decision
     ensures change { (held : Option Listed) → ((l : Listed) → option_copied seen.entry ≡ Some l → held ≡ Some l)
-        → IsChange result held (kept_set_status (option_copied seen.entry) held known.row known.expected status dirty moment) }
+        → IsChange result held (plain_set_status (option_copied seen.entry) held known.row known.expected status last_dirty moment) }
     ensures in_place { begins result.change.lease ≡ false }
     ensures few { result.change.expected ≤ known.expected }
     ensures uncounted { result.change.counted ≡ false }
@@ -128,7 +127,7 @@ pub fn decide_status(
                 moment,
                 status,
                 overridden: status,
-                dirty,
+                last_dirty,
                 comes_up: is_status(status, Status::Up),
             }),
             row: Some(status),
@@ -141,14 +140,14 @@ pub fn decide_status(
 
 /// An override that is taken back from a lease that is seen, if it is (`AbstractInstanceRegistry.deleteStatusOverride`).
 pub fn decide_no_status(
-    seen: Option<&Held>,
+    seen: Option<&HeldLease>,
     known: Known,
     status: Option<Status>,
-    dirty: Option<Stamp>,
+    last_dirty: Option<Stamp>,
     moment: Moment,
 ) -> Decision
     ensures change { (held : Option Listed) → ((l : Listed) → option_copied seen.entry ≡ Some l → held ≡ Some l)
-        → IsChange result held (kept_unset_status (option_copied seen.entry) held known.row known.expected status dirty moment) }
+        → IsChange result held (plain_unset_status (option_copied seen.entry) held known.row known.expected status last_dirty moment) }
     ensures in_place { begins result.change.lease ≡ false }
     ensures few { result.change.expected ≤ known.expected }
     ensures uncounted { result.change.counted ≡ false }
@@ -166,7 +165,7 @@ pub fn decide_no_status(
                 moment,
                 status: status.unwrap_or(Status::Unknown),
                 overridden: Status::Unknown,
-                dirty,
+                last_dirty,
                 comes_up: false,
             }),
             row: None,
@@ -178,8 +177,8 @@ pub fn decide_no_status(
 }
 
 /// A cancel (`AbstractInstanceRegistry.internalCancel`).
-pub fn decide_cancel(held: Option<&Held>, known: Known) -> Decision
-    ensures change { IsChange result (option_copied held.entry) (kept_cancel (option_copied held.entry) known.expected) }
+pub fn decide_cancel(held: Option<&HeldLease>, known: Known) -> Decision
+    ensures change { IsChange result (option_copied held.entry) (plain_cancel (option_copied held.entry) known.expected) }
     ensures in_place { begins result.change.lease ≡ false }
     ensures few { result.change.expected ≤ known.expected }
     ensures uncounted { result.change.counted ≡ false }

@@ -2,13 +2,13 @@
 ghost use Rattle.std.specs.Prelude.{◌≡◌, ◌<◌, true, false, None, IfOk, IfErr, IsOk, OnErr, OnOk};
 ghost use Rattle.std.specs.Option.{option_map};
 ghost use Rattle.std.specs.FinMap as map;
-ghost use Rattle.eu_model.specs.Maps.{with_value};
+ghost use Rattle.eu_model.specs.Machine.{with_value};
 ghost use Rattle.eu_core.specs.Decided.{begins, is_new, lease_left, new_id};
 
-use eu_base::{Fault, Id, Key, Status};
+use eu_base::{Fault, Id, Key, MOST_LEASES, Status};
 use eu_eviction::Overrides;
 use eu_model::Reply;
-use eu_store::{Amendment, Held, Leases, Place};
+use eu_store::{Amendment, HeldLease, Leases, Place};
 use std::alloc::{AllocError, Global};
 
 /// What becomes of the lease of a key.
@@ -19,7 +19,7 @@ pub enum LeaseChange {
     /// It is amended, where one is held.
     Amended(Amendment),
     /// It begins.
-    Begun(Held),
+    Begun(HeldLease),
     /// It ends.
     Ended,
 }
@@ -47,9 +47,9 @@ pub struct Decision {
 }
 
 /// Has a lease begin under a key that has none, where one more may be held. `OutOfMemory` alone refuses, which changes nothing.
-pub fn begin(leases: &mut Leases, alloc: Global, key: &Key, held: Held) -> Result<(), Fault>
+pub fn begin(leases: &mut Leases, alloc: Global, key: &Key, held: HeldLease) -> Result<(), Fault>
     requires new { map.get leases.old.held key.now ≡ None }
-    requires few { map.len leases.old.held < 65536 }
+    requires few { map.len leases.old.held < MOST_LEASES }
     ensures ok { OnOk result (leases.new.held ≡ map.insert leases.old.held key.now held) }
     ensures no_other { IfErr result (λ f. f ≡ Fault.OutOfMemory) }
     ensures err { OnErr result (leases.new.held ≡ leases.old.held) }
@@ -79,20 +79,20 @@ pub fn write_lease(leases: &mut Leases, key: &Key, place: Place, change: LeaseCh
 
 /// A copy of an id, and room for its row, where it is to have one and has none. `AllocError` where no memory is left; no row changes.
 pub fn new_id(
-    rows: &mut Overrides,
+    overrides: &mut Overrides,
     alloc: Global,
     id: &Id,
     before: Option<Status>,
     after: Option<Status>,
 ) -> Result<Option<Box<Id>>, AllocError>
-    ensures rows { rows.new.rows ≡ rows.old.rows }
+    ensures overrides { overrides.new.rows ≡ overrides.old.rows }
     ensures id { IfOk result (λ new. option_map (λ (b : _). b.value) new ≡ new_id id.now before after) }
-    ensures room { OnOk result (is_new before after ≡ true → 0 < rows.new.room) }
+    ensures room { OnOk result (is_new before after ≡ true → 0 < overrides.new.room) }
     ensures memory { is_new before after ≡ false → IsOk result }
 {
     match (before, after) {
         (None, Some(_)) => {
-            rows.reserve()?;
+            overrides.reserve()?;
             Ok(Some(Box::new(alloc, id.copy(alloc)?)?))
         }
         _ => Ok(None),
@@ -101,25 +101,25 @@ pub fn new_id(
 
 /// Carries out that an id has this row, which had that one before. `new` is its copy, where it had none. Takes no memory.
 pub fn write_row(
-    rows: &mut Overrides,
+    overrides: &mut Overrides,
     id: &Id,
     new: Option<Box<Id>>,
     before: Option<Status>,
     after: Option<Status>,
 )
-    requires before { before ≡ map.get rows.old.rows id.now }
+    requires before { before ≡ map.get overrides.old.rows id.now }
     requires new { option_map (λ (b : _). b.value) new ≡ new_id id.now before after }
-    requires room { is_new before after ≡ true → 0 < rows.old.room }
-    ensures { rows.new.rows ≡ with_value rows.old.rows id.now after }
+    requires room { is_new before after ≡ true → 0 < overrides.old.room }
+    ensures { overrides.new.rows ≡ with_value overrides.old.rows id.now after }
 {
     if before == after {
         return;
     }
     match (after, new) {
-        (Some(status), Some(new)) => rows.insert(Box::into_inner(new), status),
-        (Some(status), None) => rows.set(id, status),
+        (Some(status), Some(new)) => overrides.insert(Box::into_inner(new), status),
+        (Some(status), None) => overrides.set(id, status),
         (None, _) => {
-            rows.take(id);
+            overrides.take(id);
         }
     }
 }

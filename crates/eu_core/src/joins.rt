@@ -3,7 +3,7 @@ ghost use Rattle.std.specs.Prelude.{◌≡◌, ◌<◌, ◌≤◌, false, IfOk, 
 ghost use Rattle.std.specs.FinMap as map;
 ghost use Rattle.std.specs.FinMap.{FinMap};
 ghost use Rattle.std.specs.Option.{option_copied};
-ghost use Rattle.eu_base.specs.Key.{key_cmp};
+ghost use Rattle.eu_base.specs.Values.{key_cmp};
 ghost use Rattle.eu_model.specs.declared.views.Listed.{Listed};
 ghost use Rattle.eu_model.specs.Change.{up_after};
 ghost use Rattle.eu_core.specs.Decided.{begins, IsNew};
@@ -11,11 +11,11 @@ ghost use Rattle.eu_core.specs.Joins.{Joins};
 
 use crate::decide::Known;
 use crate::decision::{Change, Decision, LeaseChange};
-use crate::statuses::settle;
-use eu_base::{Instance, Moment, Status};
+use crate::statuses::judge_statuses;
+use eu_base::{Instance, MOST_LEASES, Moment, Status};
 use eu_lease::Lease;
 use eu_model::Reply;
-use eu_store::{Amendment, Held};
+use eu_store::{Amendment, HeldLease};
 use std::alloc::{AllocError, Global};
 
 /// A lease that begins with its instance in this status.
@@ -34,17 +34,17 @@ fn begun(mut lease: Lease, status: Status, moment: Moment) -> Lease
 pub fn decide_join(
     alloc: Global,
     instance: &Instance,
-    held: Option<&Held>,
+    held: Option<&HeldLease>,
     known: Known,
     replicated: bool,
     moment: Moment,
 ) -> Result<Decision, AllocError>
     ensures joins { IfOk result (λ d. Joins d (option_copied held.entry) known.row known.expected instance.now replicated moment) }
-    ensures new { IfOk result (λ d. (leases : FinMap key_cmp Listed) → option_copied held.entry ≡ map.get leases instance.now.key → (option_copied held.entry ≡ None → map.len leases < 65536) → IsNew leases instance.now.key d.change.lease) }
+    ensures new { IfOk result (λ d. (leases : FinMap key_cmp Listed) → option_copied held.entry ≡ map.get leases instance.now.key → (option_copied held.entry ≡ None → map.len leases < MOST_LEASES) → IsNew leases instance.now.key d.change.lease) }
 {
     match held {
         None => join_new(alloc, instance, known, replicated, moment),
-        Some(held) if instance.dirty.value() < held.instance().dirty.value() => {
+        Some(held) if instance.last_dirty.value() < held.instance().last_dirty.value() => {
             Ok(join_under(instance, held, known, replicated, moment))
         }
         Some(held) => join_over(alloc, instance, held, known, replicated, moment),
@@ -75,9 +75,9 @@ fn join_new(
     moment: Moment,
 ) -> Result<Decision, AllocError>
     ensures joins { IfOk result (λ d. Joins d None known.row known.expected instance.now replicated moment) }
-    ensures new { IfOk result (λ d. (leases : FinMap key_cmp Listed) → map.get leases instance.now.key ≡ None → map.len leases < 65536 → IsNew leases instance.now.key d.change.lease) }
+    ensures new { IfOk result (λ d. (leases : FinMap key_cmp Listed) → map.get leases instance.now.key ≡ None → map.len leases < MOST_LEASES → IsNew leases instance.now.key d.change.lease) }
 {
-    let settled = settle(
+    let statuses = judge_statuses(
         instance.status,
         instance.overridden,
         known.row,
@@ -85,13 +85,13 @@ fn join_new(
         replicated,
     );
     let fresh = Lease::fresh(moment, instance.secs);
-    let lease = begun(fresh, settled.status, moment);
-    let instance = copy_as(alloc, instance, settled.status, settled.overridden)?;
-    let held = Held::new(instance, lease);
+    let lease = begun(fresh, statuses.status, moment);
+    let instance = copy_as(alloc, instance, statuses.status, statuses.overridden)?;
+    let held = HeldLease::new(instance, lease);
     Ok(Decision {
         change: Change {
             lease: LeaseChange::Begun(held),
-            row: settled.row,
+            row: statuses.row,
             expected: known.expected,
             counted: false,
         },
@@ -103,16 +103,16 @@ fn join_new(
 fn join_over(
     alloc: Global,
     instance: &Instance,
-    held: &Held,
+    held: &HeldLease,
     known: Known,
     replicated: bool,
     moment: Moment,
 ) -> Result<Decision, AllocError>
-    requires { held.now.instance.dirty ≤ instance.now.dirty }
+    requires { held.now.instance.last_dirty ≤ instance.now.last_dirty }
     ensures joins { IfOk result (λ d. Joins d (Some held.now) known.row known.expected instance.now replicated moment) }
-    ensures stays { IfOk result (λ d. begins d.change.lease ≡ false) }
+    ensures in_place { IfOk result (λ d. begins d.change.lease ≡ false) }
 {
-    let settled = settle(
+    let statuses = judge_statuses(
         instance.status,
         instance.overridden,
         known.row,
@@ -120,13 +120,13 @@ fn join_over(
         replicated,
     );
     let anew = held.lease().anew(moment, instance.secs);
-    let lease = begun(anew, settled.status, moment);
-    let instance = copy_as(alloc, instance, settled.status, settled.overridden)?;
-    let held = Held::new(instance, lease);
+    let lease = begun(anew, statuses.status, moment);
+    let instance = copy_as(alloc, instance, statuses.status, statuses.overridden)?;
+    let held = HeldLease::new(instance, lease);
     Ok(Decision {
         change: Change {
             lease: LeaseChange::Amended(Amendment::Replaced(held)),
-            row: settled.row,
+            row: statuses.row,
             expected: known.expected,
             counted: false,
         },
@@ -137,17 +137,17 @@ fn join_over(
 /// The registration of an instance whose key is held with a greater stamp: the held one stays. Takes no memory.
 fn join_under(
     newcomer: &Instance,
-    held: &Held,
+    held: &HeldLease,
     known: Known,
     replicated: bool,
     moment: Moment,
 ) -> Decision
-    requires { newcomer.now.dirty < held.now.instance.dirty }
+    requires { newcomer.now.last_dirty < held.now.instance.last_dirty }
     ensures joins { Joins result (Some held.now) known.row known.expected newcomer.now replicated moment }
-    ensures stays { begins result.change.lease ≡ false }
+    ensures in_place { begins result.change.lease ≡ false }
 {
     let own = held.instance();
-    let settled = settle(
+    let statuses = judge_statuses(
         own.status,
         own.overridden,
         known.row,
@@ -155,15 +155,15 @@ fn join_under(
         replicated,
     );
     let anew = held.lease().anew(moment, newcomer.secs);
-    let lease = begun(anew, settled.status, moment);
+    let lease = begun(anew, statuses.status, moment);
     Decision {
         change: Change {
             lease: LeaseChange::Amended(Amendment::Rejoined {
-                status: settled.status,
-                overridden: settled.overridden,
+                status: statuses.status,
+                overridden: statuses.overridden,
                 lease,
             }),
-            row: settled.row,
+            row: statuses.row,
             expected: known.expected,
             counted: false,
         },

@@ -4,28 +4,29 @@ ghost use Rattle.std.specs.Option.{option_copied};
 ghost use Rattle.std.specs.FinMap as map;
 ghost use Rattle.eu_base.specs.declared.names.Key.{Key};
 ghost use Rattle.eu_model.specs.Change.{one_more};
-ghost use Rattle.eu_model.specs.Machine.{opening};
-ghost use Rattle.eu_model.specs.Meter.{is_permitted};
+ghost use Rattle.eu_model.specs.Machine.{opening, is_permitted};
 ghost use Rattle.eu_model.specs.Plain.{plain};
 ghost use Rattle.eu_model.specs.Answers.{Answers, Shows};
 ghost use Rattle.eu_model.specs.View.{counts, one, listing};
-ghost use Rattle.eu_model.specs.Kept.{kept_join_fault, kept_seen};
-ghost use Rattle.eu_model.specs.Evict.{extra_time};
+ghost use Rattle.eu_model.specs.PlainSteps.{plain_join_fault, plain_seen};
+ghost use Rattle.eu_model.specs.Step.{extra_time};
 ghost use Rattle.eu_core.specs.Decided.{count_fault, counted, left, Decides, IsFrugal, IsReady};
-ghost use Rattle.eu_core.specs.Evicts.{Draws};
+ghost use Rattle.eu_core.specs.Stepped.{Draws};
 ghost use Rattle.eu_core.specs.Shown.{shown};
 ghost use Rattle.eu_core.specs.State.{state_of};
 
 use crate::decide::{Known, decide_cancel, decide_no_status, decide_renewal, decide_status};
 use crate::decision::{Change, Decision, LeaseChange, begin, new_id, write_lease, write_row};
 use crate::joins::decide_join;
-use crate::statuses::told;
-use eu_base::{App, Config, Fault, Instance, Key, Moment, Stamp, Status};
+use crate::statuses::row_of;
+use eu_base::{
+    App, Config, Fault, Instance, Key, Keys, MOST_EXPECTED, MOST_LEASES, Moment, Stamp, Status,
+};
 use eu_clock::Chooser;
-use eu_eviction::{Overrides, Passed, run_pass};
-use eu_meter::{Rate, Threshold};
-use eu_model::{Command, Counts, Keys, Listed, Listing, Queues, Reply, State, Times};
-use eu_store::{Held, Leases, MOST_LEASES, Place};
+use eu_eviction::{Eviction, Overrides, run_eviction};
+use eu_lease::{Rate, Threshold};
+use eu_model::{Command, Counts, Listed, Listing, Queues, Reply, State, Times};
+use eu_store::{HeldLease, Leases, Place};
 use std::alloc::{AllocError, Global};
 use std::marker::Model;
 
@@ -36,7 +37,7 @@ use std::marker::Model;
 #[derive(Debug, Drop)]
 pub struct Registry {
     leases: Leases,
-    rows: Overrides,
+    overrides: Overrides,
     threshold: Threshold,
     rate: Rate,
     previous: Option<Moment>,
@@ -64,7 +65,7 @@ impl Registry {
     {
         Registry {
             leases: Leases::new(alloc),
-            rows: Overrides::new(alloc),
+            overrides: Overrides::new(alloc),
             threshold: Threshold::open(config, expected),
             rate: Rate::new(),
             previous: None,
@@ -148,19 +149,19 @@ impl Registry {
         &mut self,
         alloc: Global,
         key: &Key,
-        dirty: Option<Stamp>,
+        last_dirty: Option<Stamp>,
         overridden: Option<Status>,
         replicated: bool,
         moment: Moment,
     ) -> Result<Reply, Fault>
-        ensures answers { Answers self.old (Command.Renew key.now dirty overridden replicated) moment result self.new }
+        ensures answers { Answers self.old (Command.Renew key.now last_dirty overridden replicated) moment result self.new }
         ensures err { OnErr result (self.new ≡ self.old) }
-        ensures memory { dirty ≡ None → result ≢ Err Fault.OutOfMemory }
+        ensures memory { last_dirty ≡ None → result ≢ Err Fault.OutOfMemory }
         ensures client { replicated ≡ false → result ≢ Err Fault.OutOfMemory }
     {
         let (place, held, row) = self.find(key);
         let Decision { change, reply } = self.renewal(
-            alloc, key, held, row, dirty, overridden, replicated, moment,
+            alloc, key, held, row, last_dirty, overridden, replicated, moment,
         )?;
         self.carry_out(alloc, key, place, row, change)?;
         Ok(reply)
@@ -179,14 +180,14 @@ impl Registry {
         alloc: Global,
         key: &Key,
         status: Status,
-        dirty: Option<Stamp>,
+        last_dirty: Option<Stamp>,
         moment: Moment,
     ) -> Result<Reply, Fault>
-        ensures answers { (replicated : Bool) → Answers self.old (Command.SetStatus key.now status dirty replicated) moment result self.new }
+        ensures answers { (replicated : Bool) → Answers self.old (Command.SetStatus key.now status last_dirty replicated) moment result self.new }
         ensures err { OnErr result (self.new ≡ self.old) }
     {
         let (place, held, row) = self.find(key);
-        let Decision { change, reply } = self.status(key, held, row, status, dirty, moment);
+        let Decision { change, reply } = self.status(key, held, row, status, last_dirty, moment);
         self.carry_out(alloc, key, place, row, change)?;
         Ok(reply)
     }
@@ -202,13 +203,13 @@ impl Registry {
         &mut self,
         key: &Key,
         status: Option<Status>,
-        dirty: Option<Stamp>,
+        last_dirty: Option<Stamp>,
         moment: Moment,
     ) -> Reply
-        ensures { (replicated : Bool) → Answers self.old (Command.UnsetStatus key.now status dirty replicated) moment (Ok result) self.new }
+        ensures { (replicated : Bool) → Answers self.old (Command.UnsetStatus key.now status last_dirty replicated) moment (Ok result) self.new }
     {
         let (place, held, row) = self.find(key);
-        let Decision { change, reply } = self.no_status(key, held, row, status, dirty, moment);
+        let Decision { change, reply } = self.no_status(key, held, row, status, last_dirty, moment);
         self.carry_out_in_place(key, place, row, change);
         reply
     }
@@ -231,10 +232,10 @@ impl Registry {
     ///
     /// The renewals since the last end become those of the last minute, which the reply tells, and counting begins anew.
     /// All else stays. Takes no memory.
-    pub fn roll(&mut self) -> Reply
-        ensures { (t : ℕ) → Answers self.old Command.Roll t (Ok result) self.new }
+    pub fn end_minute(&mut self) -> Reply
+        ensures { (t : ℕ) → Answers self.old Command.EndMinute t (Ok result) self.new }
     {
-        Reply::Last(self.rate.roll())
+        Reply::Last(self.rate.end_minute())
     }
 
     /// Counts the clients anew (`PeerAwareInstanceRegistryImpl.updateRenewalThreshold` in Eureka).
@@ -250,9 +251,9 @@ impl Registry {
 
     /// Takes other settings, while the registry runs (Eureka reads its `EurekaServerConfig` from properties, which may change so).
     ///
-    /// From now on the threshold, and whether eviction is permitted, are those of the new settings, and a pass grants what it comes
-    /// later than the new interval after the pass before it. The number expected, the counted renewals, the previous pass, leases
-    /// and override rows stay. The reply is `Done`. Takes no memory.
+    /// From now on the threshold, and whether eviction is permitted, are those of the new settings, and an eviction grants what it
+    /// comes later than the new interval after the eviction before it. The number expected, the counted renewals, the previous
+    /// eviction, leases and override rows stay. The reply is `Done`. Takes no memory.
     pub fn reconfigure(&mut self, config: Config) -> Reply
         ensures { (t : ℕ) → Answers self.old (Command.Reconfigure config) t (Ok result) self.new }
     {
@@ -262,14 +263,14 @@ impl Registry {
 
     /// Evicts leases that have expired at the moment, where eviction is permitted (`AbstractInstanceRegistry.evict` in Eureka).
     ///
-    /// Each lease is granted what this pass comes later than one interval after the pass before it; at the first pass nothing.
-    /// Of the leases that have expired at most the share goes that the settings' percentage leaves, drawn by the chooser from
-    /// their keys in key order; the override rows of their ids go with them. This is the previous pass from now on, also where
-    /// eviction isn't permitted.
+    /// Each lease is granted what this eviction comes later than one interval after the eviction before it; at the first eviction
+    /// nothing. Of the leases that have expired at most the share goes that the settings' percentage leaves, drawn by the chooser
+    /// from their keys in key order; the override rows of their ids go with them. This is the previous eviction from now on, also
+    /// where eviction isn't permitted.
     ///
     /// Each victim is one fewer expected, but never fewer than none, and the threshold is that of the number that is left
-    /// (`AbstractInstanceRegistry.internalCancel` in Eureka). Whether the pass is permitted, and the share, are still those of the
-    /// registry before it. The counted renewals stay.
+    /// (`AbstractInstanceRegistry.internalCancel` in Eureka). Whether the eviction is permitted, and the share, are still those of
+    /// the registry before it. The counted renewals stay.
     ///
     /// The reply is `Evicted` with the victims in the order in which they were drawn. Refused with `OutOfMemory` alone; that
     /// changes nothing, and no word is asked.
@@ -284,18 +285,18 @@ impl Registry {
         ensures err { OnErr result (self.new ≡ self.old) }
         ensures unasked { OnErr result (chooser.new ≡ chooser.old) }
     {
-        let passed = self.pass(alloc, moment, 0, chooser)?;
-        Ok(Reply::Evicted(Keys::new(passed.victims)))
+        let eviction = self.evict_due(alloc, moment, 0, chooser)?;
+        Ok(Reply::Evicted(Keys::new(eviction.victims)))
     }
 
     /// Evicts as `evict` does, and hands back the victims with so many replies that tell them.
-    pub(crate) fn pass<C: Chooser>(
+    pub(crate) fn evict_due<C: Chooser>(
         &mut self,
         alloc: Global,
         moment: Moment,
         replies: u32,
         chooser: &mut C,
-    ) -> Result<Passed, Fault>
+    ) -> Result<Eviction, Fault>
         ensures answers { IfOk result (λ v. Answers self.old Command.Evict moment (Ok (Reply.Evicted v.victims.items)) self.new) }
         ensures drawn { IfOk result (λ v. Draws C.asks self.old moment chooser.old v.victims.items chooser.new) }
         ensures replies { IfOk result (λ v. v.replies.items ≡ replicate replies (Reply.Evicted v.victims.items)) }
@@ -306,10 +307,10 @@ impl Registry {
         let config = self.threshold.config();
         let permitted = self.threshold.permitted(self.rate.last());
         let extra = extra_time(&config, self.previous, moment);
-        let passed = run_pass(
+        let eviction = run_eviction(
             alloc,
             &mut self.leases,
-            &mut self.rows,
+            &mut self.overrides,
             &config,
             permitted,
             moment,
@@ -317,9 +318,9 @@ impl Registry {
             replies,
             chooser,
         )?;
-        self.threshold.left_by(passed.victims.len());
+        self.threshold.left_by(eviction.victims.len());
         self.previous = Some(moment);
-        Ok(passed)
+        Ok(eviction)
     }
 
     /// The instance and the moments of a lease, where it is visible at the moment
@@ -346,21 +347,21 @@ impl Registry {
     }
 
     /// The registry as plain data: settings, number expected, leases in key order, override rows in the order of their ids, the
-    /// counts of renewals and the previous pass, and no peers. `AllocError` where no memory is left.
+    /// counts of renewals and the previous eviction, and no peers. `AllocError` where no memory is left.
     pub fn plain(&self, alloc: Global) -> Result<State, AllocError>
         ensures { IfOk result (λ s. s ≡ state_of self.now) }
     {
         let leases = Listing::new(self.leases.listed(alloc, None)?);
-        let rows = self.rows.listed(alloc)?;
+        let overrides = self.overrides.listed(alloc)?;
         let mut rate = self.rate;
         let last = rate.last();
         Ok(State {
             config: self.threshold.config(),
             expected: self.threshold.expected(),
             leases,
-            rows,
+            overrides,
             last,
-            since: rate.roll(),
+            since: rate.end_minute(),
             previous: self.previous,
             queues: Queues::new(Vec::new(alloc)),
         })
@@ -368,19 +369,19 @@ impl Registry {
 
     /// What is held under that key, and where, and the override row of its id. Takes no memory.
     #[inline(always)]
-    pub(crate) fn find(&self, key: &Key) -> (Place, Option<&Held>, Option<Status>)
+    pub(crate) fn find(&self, key: &Key) -> (Place, Option<&HeldLease>, Option<Status>)
         ensures held { option_copied result.1 ≡ map.get self.now.leases key.now }
-        ensures row { result.2 ≡ map.get self.now.rows key.now.id }
+        ensures row { result.2 ≡ map.get self.now.overrides key.now.id }
     {
         let (place, held) = self.leases.find(key);
-        (place, held, self.rows.get(&key.id))
+        (place, held, self.overrides.get(&key.id))
     }
 
     /// What is known beside a lease whose id has that row.
     fn known(&self, row: Option<Status>) -> Known
         ensures row { result.row ≡ row }
         ensures expected { result.expected ≡ self.now.expected }
-        ensures bound { result.expected ≤ 2 ^ 40 }
+        ensures bound { result.expected ≤ MOST_EXPECTED }
         ensures rate { result.rate ≡ counted self.now }
     {
         Known {
@@ -391,8 +392,8 @@ impl Registry {
     }
 
     /// What is seen at the moment of what is held: nothing, where eviction is permitted and it has expired.
-    fn seen<'a>(&self, held: Option<&'a Held>, moment: Moment) -> Option<&'a Held>
-        ensures { option_copied result ≡ kept_seen (is_permitted self.now.config self.now.expected self.now.last) moment (option_copied held.entry) }
+    fn seen<'a>(&self, held: Option<&'a HeldLease>, moment: Moment) -> Option<&'a HeldLease>
+        ensures { option_copied result ≡ plain_seen (is_permitted self.now.config self.now.expected self.now.last) moment (option_copied held.entry) }
     {
         let permitted = self.threshold.permitted(self.rate.last());
         match held {
@@ -403,12 +404,12 @@ impl Registry {
 
     /// Whether a lease can be registered, where that is held under its key, and how many clients are expected then. `Full` or `Exhausted`
     /// where the machine has that fault. Takes no memory.
-    fn check_join(&self, held: Option<&Held>) -> Result<u64, Fault>
-        ensures ok { (k : Key) → option_copied held.entry ≡ map.get self.now.leases k → OnOk result (kept_join_fault self.now k ≡ None) }
+    fn check_join(&self, held: Option<&HeldLease>) -> Result<u64, Fault>
+        ensures ok { (k : Key) → option_copied held.entry ≡ map.get self.now.leases k → OnOk result (plain_join_fault self.now k ≡ None) }
         ensures expected { IfOk result (λ expected. expected ≡ one_more (not (is_some (option_copied held.entry))) self.now.expected) }
-        ensures bound { IfOk result (λ expected. expected ≤ 2 ^ 40) }
-        ensures few { option_copied held.entry ≡ None → OnOk result (map.len self.now.leases < 65536) }
-        ensures refused { (k : Key) → option_copied held.entry ≡ map.get self.now.leases k → IfErr result (λ f. kept_join_fault self.now k ≡ Some f) }
+        ensures bound { IfOk result (λ expected. expected ≤ MOST_EXPECTED) }
+        ensures few { option_copied held.entry ≡ None → OnOk result (map.len self.now.leases < MOST_LEASES) }
+        ensures refused { (k : Key) → option_copied held.entry ≡ map.get self.now.leases k → IfErr result (λ f. plain_join_fault self.now k ≡ Some f) }
     {
         if held.is_some() {
             return Ok(self.threshold.expected());
@@ -424,13 +425,13 @@ impl Registry {
         &self,
         alloc: Global,
         instance: &Instance,
-        held: Option<&Held>,
+        held: Option<&HeldLease>,
         row: Option<Status>,
         replicated: bool,
         moment: Moment,
     ) -> Result<Decision, Fault>
         requires held { option_copied held ≡ map.get self.now.leases instance.now.key }
-        requires row { row ≡ map.get self.now.rows instance.now.key.id }
+        requires row { row ≡ map.get self.now.overrides instance.now.key.id }
         ensures decides { IfOk result (Decides self.now (Command.Register instance.now replicated) moment instance.now.key) }
         ensures refused { IfErr result (λ f. Answers self.now (Command.Register instance.now replicated) moment (Err f) self.now) }
     {
@@ -448,18 +449,18 @@ impl Registry {
         &self,
         alloc: Global,
         instance: &Instance,
-        held: Option<&Held>,
+        held: Option<&HeldLease>,
         row: Option<Status>,
         moment: Moment,
     ) -> Result<Decision, Fault>
         requires held { option_copied held ≡ map.get self.now.leases instance.now.key }
-        requires row { row ≡ map.get self.now.rows instance.now.key.id }
+        requires row { row ≡ map.get self.now.overrides instance.now.key.id }
         ensures decides { IfOk result (Decides self.now (Command.Adopt instance.now) moment instance.now.key) }
         ensures refused { IfErr result (λ f. Answers self.now (Command.Adopt instance.now) moment (Err f) self.now) }
     {
         let expected = self.check_join(held)?;
         let known = Known {
-            row: told(instance.overridden).or(row),
+            row: row_of(instance.overridden).or(row),
             expected,
             rate: self.rate,
         };
@@ -471,66 +472,68 @@ impl Registry {
         &self,
         alloc: Global,
         key: &Key,
-        held: Option<&Held>,
+        held: Option<&HeldLease>,
         row: Option<Status>,
-        dirty: Option<Stamp>,
+        last_dirty: Option<Stamp>,
         overridden: Option<Status>,
         replicated: bool,
         moment: Moment,
     ) -> Result<Decision, Fault>
         requires held { option_copied held ≡ map.get self.now.leases key.now }
-        requires row { row ≡ map.get self.now.rows key.now.id }
-        ensures decides { IfOk result (Decides self.now (Command.Renew key.now dirty overridden replicated) moment key.now) }
-        ensures refused { IfErr result (λ f. Answers self.now (Command.Renew key.now dirty overridden replicated) moment (Err f) self.now) }
-        ensures frugal { (dirty ≡ None) ⊎ (replicated ≡ false) → IfOk result (λ d. IsFrugal row d.change) }
-        ensures memory { (dirty ≡ None) ⊎ (replicated ≡ false) → result ≢ Err Fault.OutOfMemory }
+        requires row { row ≡ map.get self.now.overrides key.now.id }
+        ensures decides { IfOk result (Decides self.now (Command.Renew key.now last_dirty overridden replicated) moment key.now) }
+        ensures refused { IfErr result (λ f. Answers self.now (Command.Renew key.now last_dirty overridden replicated) moment (Err f) self.now) }
+        ensures frugal { (last_dirty ≡ None) ⊎ (replicated ≡ false) → IfOk result (λ d. IsFrugal row d.change) }
+        ensures memory { (last_dirty ≡ None) ⊎ (replicated ≡ false) → result ≢ Err Fault.OutOfMemory }
     {
         let known = self.known(row);
-        decide_renewal(alloc, held, known, dirty, overridden, replicated, moment)
+        decide_renewal(
+            alloc, held, known, last_dirty, overridden, replicated, moment,
+        )
     }
 
     /// What a status that is set does to the lease of that key, where that is held and its id has that row.
     pub(crate) fn status(
         &self,
         key: &Key,
-        held: Option<&Held>,
+        held: Option<&HeldLease>,
         row: Option<Status>,
         status: Status,
-        dirty: Option<Stamp>,
+        last_dirty: Option<Stamp>,
         moment: Moment,
     ) -> Decision
         requires held { option_copied held ≡ map.get self.now.leases key.now }
-        requires row { row ≡ map.get self.now.rows key.now.id }
-        ensures { (replicated : Bool) → Decides self.now (Command.SetStatus key.now status dirty replicated) moment key.now result }
+        requires row { row ≡ map.get self.now.overrides key.now.id }
+        ensures { (replicated : Bool) → Decides self.now (Command.SetStatus key.now status last_dirty replicated) moment key.now result }
     {
         let seen = self.seen(held, moment);
-        decide_status(seen, self.known(row), status, dirty, moment)
+        decide_status(seen, self.known(row), status, last_dirty, moment)
     }
 
     /// What a status that is taken back does to the lease of that key, where that is held and its id has that row.
     pub(crate) fn no_status(
         &self,
         key: &Key,
-        held: Option<&Held>,
+        held: Option<&HeldLease>,
         row: Option<Status>,
         status: Option<Status>,
-        dirty: Option<Stamp>,
+        last_dirty: Option<Stamp>,
         moment: Moment,
     ) -> Decision
         requires held { option_copied held ≡ map.get self.now.leases key.now }
-        requires row { row ≡ map.get self.now.rows key.now.id }
-        ensures decides { (replicated : Bool) → Decides self.now (Command.UnsetStatus key.now status dirty replicated) moment key.now result }
+        requires row { row ≡ map.get self.now.overrides key.now.id }
+        ensures decides { (replicated : Bool) → Decides self.now (Command.UnsetStatus key.now status last_dirty replicated) moment key.now result }
         ensures frugal { IsFrugal row result.change }
     {
         let seen = self.seen(held, moment);
-        decide_no_status(seen, self.known(row), status, dirty, moment)
+        decide_no_status(seen, self.known(row), status, last_dirty, moment)
     }
 
     /// What a cancel does to the lease of that key, where that is held and its id has that row.
     pub(crate) fn cancellation(
         &self,
         key: &Key,
-        held: Option<&Held>,
+        held: Option<&HeldLease>,
         row: Option<Status>,
     ) -> Decision
         requires held { option_copied held ≡ map.get self.now.leases key.now }
@@ -550,7 +553,7 @@ impl Registry {
         row: Option<Status>,
         change: Change,
     ) -> Result<(), Fault>
-        requires row { row ≡ map.get self.old.rows key.now.id }
+        requires row { row ≡ map.get self.old.overrides key.now.id }
         requires ready { IsReady self.old key.now change }
         ensures ok { OnOk result (self.new ≡ left self.old key.now change) }
         ensures no_other { IfErr result (λ f. f ≡ Fault.OutOfMemory) }
@@ -563,19 +566,19 @@ impl Registry {
             expected,
             counted,
         } = change;
-        let new = new_id(&mut self.rows, alloc, &key.id, row, after)?;
+        let new = new_id(&mut self.overrides, alloc, &key.id, row, after)?;
         match lease {
             LeaseChange::Begun(held) => begin(&mut self.leases, alloc, key, held)?,
             lease => write_lease(&mut self.leases, key, place, lease),
         }
-        write_row(&mut self.rows, &key.id, new, row, after);
+        write_row(&mut self.overrides, &key.id, new, row, after);
         self.count(expected, counted);
         Ok(())
     }
 
     /// The same, where that wants no memory.
     fn carry_out_in_place(&mut self, key: &Key, place: Place, row: Option<Status>, change: Change)
-        requires row { row ≡ map.get self.old.rows key.now.id }
+        requires row { row ≡ map.get self.old.overrides key.now.id }
         requires ready { IsReady self.old key.now change }
         requires frugal { IsFrugal row change }
         ensures { self.new ≡ left self.old key.now change }
@@ -587,14 +590,14 @@ impl Registry {
             counted,
         } = change;
         write_lease(&mut self.leases, key, place, lease);
-        write_row(&mut self.rows, &key.id, None, row, after);
+        write_row(&mut self.overrides, &key.id, None, row, after);
         self.count(expected, counted);
     }
 
     /// So many clients are expected from now on; a renewal is counted, where one is.
     #[inline(always)]
     fn count(&mut self, expected: u64, counted: bool)
-        requires bound { expected ≤ 2 ^ 40 }
+        requires bound { expected ≤ MOST_EXPECTED }
         requires countable { count_fault counted self.old.since ≡ None }
         ensures { self.new ≡ record self.old { expected = expected; since = if counted then self.old.since + 1 else self.old.since } }
     {
@@ -605,7 +608,7 @@ impl Registry {
     }
 }
 
-/// What a pass comes later than one interval after the pass before it, in milliseconds; 0 at the first pass.
+/// What an eviction comes later than one interval after the eviction before it, in milliseconds; 0 at the first eviction.
 fn extra_time(config: &Config, previous: Option<Moment>, moment: Moment) -> u64
     ensures { result ≡ extra_time config.now previous moment }
 {

@@ -10,7 +10,7 @@ ghost use Rattle.eu_core.specs.Stepped.{copies_of};
 use crate::decision::LeaseChange;
 use eu_base::Instance;
 use eu_model::Reply;
-use eu_store::Held;
+use eu_store::HeldLease;
 use std::alloc::{AllocError, Global};
 
 /// What a command is answered: equal replies, each for its use.
@@ -19,7 +19,7 @@ pub struct Answered<R> {
     /// The one that a journal keeps.
     pub reply: R,
     /// The one that who asked is told.
-    pub told: R,
+    pub answer: R,
     /// The one that a log of theirs keeps, where they have one.
     pub logged: Option<R>,
 }
@@ -37,9 +37,9 @@ pub fn split<R: Drop>(mut replies: Vec<R>, logs: bool) -> Answered<R>
     ensures { (r : R) → replies.items ≡ replicate (replies_for logs) r → result ≡ answered logs r }
 {
     match (replies.pop(), replies.pop()) {
-        (Some(reply), Some(told)) => Answered {
+        (Some(reply), Some(answer)) => Answered {
             reply,
-            told,
+            answer,
             logged: replies.pop(),
         },
         _ => unreachable!(),
@@ -52,7 +52,7 @@ pub fn plain(alloc: Global, reply: Reply, logs: bool) -> Answered<Reply>
     ensures { result ≡ answered logs reply }
 {
     Answered {
-        told: reply.copy(alloc).unwrap(),
+        answer: reply.copy(alloc).unwrap(),
         logged: for_log(alloc, &reply, logs).unwrap(),
         reply,
     }
@@ -77,7 +77,7 @@ pub(crate) fn for_log(alloc: Global, reply: &Reply, logs: bool) -> Result<Option
 pub(crate) fn copies_left(
     alloc: Global,
     change: &LeaseChange,
-    held: Option<&Held>,
+    held: Option<&HeldLease>,
     number: u32,
 ) -> Result<Vec<Instance>, AllocError>
     ensures { IfOk result (λ v. v.items ≡ copies_of number (option_map (λ (l : Listed). l.instance) (lease_left change.now (option_copied held.entry)))) }
@@ -92,7 +92,7 @@ pub(crate) fn copies_left(
 fn made_copies(
     alloc: Global,
     change: &LeaseChange,
-    held: Option<&Held>,
+    held: Option<&HeldLease>,
     number: u32,
 ) -> Result<Vec<Instance>, AllocError>
     ensures { IfOk result (λ v. v.items ≡ copies_of number (option_map (λ (l : Listed). l.instance) (lease_left change.now (option_copied held.entry)))) }
@@ -111,7 +111,7 @@ fn made_copies(
 fn instance_left(
     alloc: Global,
     change: &LeaseChange,
-    held: Option<&Held>,
+    held: Option<&HeldLease>,
 ) -> Result<Option<Instance>, AllocError>
     ensures { IfOk result (λ left. left ≡ option_map (λ (l : Listed). l.instance) (lease_left change.now (option_copied held.entry))) }
 {

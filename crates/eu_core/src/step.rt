@@ -17,7 +17,7 @@ use crate::replies::{Answered, copies_left, for_log, plain, replies_for, split};
 use eu_base::{Config, Fault, Instance, Key, Moment, Status};
 use eu_clock::Chooser;
 use eu_model::{Command, Reply};
-use eu_store::Held;
+use eu_store::HeldLease;
 use std::alloc::Global;
 
 /// What a step gives: its reply for each use, and so many copies of the instance that is held after it.
@@ -32,10 +32,10 @@ pub struct Stepped {
 impl Registry {
     /// Takes one step by a command at the moment, and gives its reply, once more for who asked, and once more for a log, where one
     /// `logs` it; and so many copies of the instance that is held under the command's key after it: none where no lease is held then,
-    /// or where the command names no key (`Roll`, `Update`, `Reconfigure`, `Evict`).
+    /// or where the command names no key (`EndMinute`, `Update`, `Reconfigure`, `Evict`).
     ///
     /// No command for a peer (`Drain`, `Landed`, `Lost`) is handed in. The step is that of the command's call: `register`,
-    /// `renew`, `cancel`, `set_status`, `unset_status`, `adopt`, `roll`, `update`, `reconfigure` or `evict`, whose replies and
+    /// `renew`, `cancel`, `set_status`, `unset_status`, `adopt`, `end_minute`, `update`, `reconfigure` or `evict`, whose replies and
     /// refusals it has.
     /// Refused with `Full` or `Exhausted` where that call is, and else with `OutOfMemory`, also where no memory is left for
     /// replies and copies; a refusal changes nothing, and asks the chooser for no word. Only an `Evict` asks it.
@@ -60,14 +60,14 @@ impl Registry {
         let (place, found, row) = self.find(key);
         let decision = self.decide(alloc, command, key, found, row, moment)?;
         let Decision { change, reply } = decision;
-        let told = reply.copy(alloc)?;
+        let answer = reply.copy(alloc)?;
         let logged = for_log(alloc, &reply, logs)?;
         let held = copies_left(alloc, &change.lease, found, held)?;
         self.carry_out(alloc, key, place, row, change)?;
         Ok(Stepped {
             answered: Answered {
                 reply,
-                told,
+                answer,
                 logged,
             },
             held,
@@ -90,7 +90,7 @@ impl Registry {
         ensures unasked { OnErr result (chooser.new ≡ chooser.old) }
     {
         match command {
-            Command::Roll => Ok(self.step_roll(alloc, logs)),
+            Command::EndMinute => Ok(self.step_end_minute(alloc, logs)),
             Command::Update => Ok(self.step_update(alloc, logs)),
             Command::Reconfigure { config } => Ok(self.step_reconfigure(alloc, config, logs)),
             Command::Evict => self.step_evict(alloc, moment, logs, chooser),
@@ -104,13 +104,13 @@ impl Registry {
         alloc: Global,
         command: &Command,
         key: &Key,
-        held: Option<&Held>,
+        held: Option<&HeldLease>,
         row: Option<Status>,
         moment: Moment,
     ) -> Result<Decision, Fault>
         requires key { key_of command.now ≡ Some key.now }
         requires held { option_copied held ≡ map.get self.now.leases key.now }
-        requires row { row ≡ map.get self.now.rows key.now.id }
+        requires row { row ≡ map.get self.now.overrides key.now.id }
         ensures decides { IfOk result (Decides self.now command.now moment key.now) }
         ensures refused { IfErr result (λ f. Answers self.now command.now moment (Err f) self.now) }
     {
@@ -120,7 +120,7 @@ impl Registry {
                 replicated,
             } => self.registration(alloc, instance, held, row, *replicated, moment),
             Command::Renew {
-                dirty,
+                last_dirty,
                 overridden,
                 replicated,
                 ..
@@ -129,18 +129,22 @@ impl Registry {
                 key,
                 held,
                 row,
-                *dirty,
+                *last_dirty,
                 *overridden,
                 *replicated,
                 moment,
             ),
             Command::Cancel { .. } => Ok(self.cancellation(key, held, row)),
-            Command::SetStatus { status, dirty, .. } => Ok(self.status(
-                key, held, row, *status, *dirty, moment,
-            )),
-            Command::UnsetStatus { status, dirty, .. } => Ok(self.no_status(
-                key, held, row, *status, *dirty, moment,
-            )),
+            Command::SetStatus {
+                status,
+                last_dirty,
+                ..
+            } => Ok(self.status(key, held, row, *status, *last_dirty, moment)),
+            Command::UnsetStatus {
+                status,
+                last_dirty,
+                ..
+            } => Ok(self.no_status(key, held, row, *status, *last_dirty, moment)),
             Command::Adopt { instance } => self.adoption(alloc, instance, held, row, moment),
             _ => unreachable!(),
         }
@@ -158,17 +162,17 @@ impl Registry {
         ensures err { OnErr result (self.new ≡ self.old) }
         ensures unasked { OnErr result (chooser.new ≡ chooser.old) }
     {
-        let passed = self.pass(alloc, moment, replies_for(logs), chooser)?;
+        let eviction = self.evict_due(alloc, moment, replies_for(logs), chooser)?;
         Ok(Stepped {
-            answered: split(passed.replies, logs),
+            answered: split(eviction.replies, logs),
             held: Vec::new(alloc),
         })
     }
 
-    fn step_roll(&mut self, alloc: Global, logs: bool) -> Stepped
-        ensures { (t m : ℕ) → Acts self.old Command.Roll t logs m result self.new }
+    fn step_end_minute(&mut self, alloc: Global, logs: bool) -> Stepped
+        ensures { (t m : ℕ) → Acts self.old Command.EndMinute t logs m result self.new }
     {
-        let reply = self.roll();
+        let reply = self.end_minute();
         on_no_lease(alloc, reply, logs)
     }
 

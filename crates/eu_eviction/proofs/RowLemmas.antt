@@ -4,7 +4,7 @@ use Rattle.std.specs.Option.{option_map}
 use Rattle.std.specs.Map.{lookup}
 use Rattle.std.specs.FinMap.{FinMap, get, insert}
 use Rattle.std.specs.declared.cmp.Ordering.{Ordering}
-use Rattle.eu_model.specs.Maps.{with_value}
+use Rattle.eu_model.specs.Machine.{with_value}
 use Rattle.eu_store.proofs.TableLemmas.{IsKeyed, remove_absent}
 
 pub nothing_there : {K X : Type 0} (test : K → Bool) (es : List (K × X)) → length es ≡ 0 → lookup test es ≡ None

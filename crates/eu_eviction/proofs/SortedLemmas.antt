@@ -1,7 +1,7 @@
 -- Rows and leases as they are listed
 use Rattle.std.proofs.Common.{◌≡◌, List, [], ◌∷◌, true, filter, refl, ap}
 use Rattle.std.specs.Ordering.{eq_by_cmp}
-use Rattle.eu_base.specs.Key.{name_cmp, name_eq}
+use Rattle.eu_base.specs.Values.{name_cmp, name_eq}
 use Rattle.eu_base.proofs.KeyLemmas.{name_eq-ties}
 
 pub filter_true : {X : Type 0} (xs : List X) → filter (λ x. true) xs ≡ xs

@@ -1,9 +1,9 @@
-//! Override rows, and the passes that evict: leases that have expired go, and the rows of their ids with them.
+//! Override rows, and evictions: leases that have expired go, and the rows of their ids with them.
 #![tactic(auto)]
 
+mod eviction;
 mod lots;
 mod overrides;
-mod pass;
 
+pub use eviction::{Eviction, run_eviction};
 pub use overrides::Overrides;
-pub use pass::{Passed, run_pass};

@@ -1,12 +1,12 @@
 //! Lists of keys that are drawn from, each in the same way.
 ghost use Rattle.std.specs.Prelude.{◌≡◌, ◌<◌, ◌≤◌, Bool, [], length, replicate, swap, take, vec_capacity, IfOk, IsPermutation};
 ghost use Rattle.std.specs.List.{IsDistinct};
-ghost use Rattle.eu_choice.specs.Front.{shuffled, state_after};
+ghost use Rattle.eu_clock.specs.Front.{shuffled, state_after};
 ghost use Rattle.eu_base.specs.declared.names.Key.{Key};
 
-use eu_base::Key;
+use eu_base::{Key, Keys};
 use eu_clock::Chooser;
-use eu_model::{Keys, Reply};
+use eu_model::Reply;
 use std::alloc::{AllocError, Global};
 use std::marker::Model;
 

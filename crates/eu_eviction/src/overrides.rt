@@ -4,10 +4,10 @@ ghost use Rattle.std.specs.Option.{option_map};
 ghost use Rattle.std.specs.FinMap as map;
 ghost use Rattle.std.specs.Prelude.{map as all};
 ghost use Rattle.std.specs.Map.Iter.{deref_pair};
-ghost use Rattle.eu_model.specs.Maps.{with_value};
+ghost use Rattle.eu_model.specs.Machine.{with_value};
 
 use eu_base::{Id, Status};
-use eu_model::Rows;
+use eu_model::OverrideRows;
 use indexmap::IndexMap;
 use std::alloc::{AllocError, Global};
 use std::marker::Model;
@@ -51,7 +51,7 @@ impl Overrides {
     }
 
     /// The rows, in the order of their ids. `AllocError` where no memory is left.
-    pub fn listed(&self, alloc: Global) -> Result<Rows, AllocError>
+    pub fn listed(&self, alloc: Global) -> Result<OverrideRows, AllocError>
         ensures { IfOk result (λ rows. rows ≡ map.entries self.now.rows) }
     {
         let sorted = self.sorted(alloc)?;
@@ -59,7 +59,7 @@ impl Overrides {
         for row in &sorted {
             rows.push((row.0.copy(alloc)?, *row.1))?;
         }
-        Ok(Rows::new(rows))
+        Ok(OverrideRows::new(rows))
     }
 
     /// The same, not copied.

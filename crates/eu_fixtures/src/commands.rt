@@ -23,7 +23,7 @@ pub fn renewal(alloc: Global, id: &str) -> Result<Command, Fault> {
     let key = key(alloc, id)?;
     Ok(Command::Renew {
         key,
-        dirty: None,
+        last_dirty: None,
         overridden: None,
         replicated: false,
     })

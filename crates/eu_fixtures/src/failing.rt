@@ -33,6 +33,11 @@ impl<'a> Torn<'a> {
         }
     }
 
+    /// It never fails.
+    pub fn steady(text: &'a [u8], size: usize) -> Torn<'a> {
+        Torn::new(text, size, usize::MAX, ErrorKind::Other)
+    }
+
     /// Whether the next read fails.
     fn fails(&mut self) -> bool
         ensures told { result ≡ true → self.new.has_failed ≡ true }
@@ -125,6 +130,11 @@ impl Brittle {
         let number = self.calls;
         self.calls = number.saturating_add(1);
         number == self.fails_at
+    }
+
+    /// The text that it has taken. `?` where that is none.
+    pub fn text(&self) -> &str {
+        str::from_utf8(&self.held).unwrap_or("?")
     }
 
     /// Whether it was asked for so many writes and flushes, and holds this.

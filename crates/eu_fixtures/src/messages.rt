@@ -1,4 +1,6 @@
 //! Messages of HTTP, and the JSON in them.
+use crate::texts::joined;
+use std::alloc::{AllocError, Global};
 
 /// What a client sends at least of an instance, i1 of application A, with a status and a stamp.
 pub const REGISTRATION: &str =
@@ -7,6 +9,15 @@ pub const REGISTRATION: &str =
 /// The same, as it is listed, where it was registered at 1000.
 pub const LISTED: &str =
     r#"{"instance":{"app":"A","dataCenterInfo":{"name":"MyOwn"},"hostName":"h","instanceId":"i1","ipAddr":"10.0.0.1","lastDirtyTimestamp":"5","leaseInfo":{"durationInSecs":90,"evictionTimestamp":0,"lastRenewalTimestamp":1000,"registrationTimestamp":1000,"renewalIntervalInSecs":30,"serviceUpTimestamp":1000},"overriddenStatus":"UNKNOWN","status":"UP"}}"#;
+
+/// What a look at its lease is answered then, but for the content.
+const LOOKED: &str =
+    "HTTP/1.1 200 OK\r\nContent-Type: application/json\r\nContent-Length: 345\r\n\r\n";
+
+/// What a look at its lease is answered then.
+pub fn looked(alloc: Global) -> Result<String, AllocError> {
+    joined(alloc, &[LOOKED, LISTED])
+}
 
 /// A renewal of its lease.
 pub const RENEWAL: &str = "PUT /eureka/apps/A/i1 HTTP/1.1\r\nHost: x\r\n\r\n";

@@ -1,4 +1,5 @@
 //! Texts put together from their parts.
+use eu_base::Key;
 use std::alloc::{AllocError, Global};
 
 /// Writes these texts, one after another.
@@ -16,6 +17,25 @@ pub fn joined(alloc: Global, parts: &[&str]) -> Result<String, AllocError> {
         out.push_str(part)?;
     }
     Ok(out)
+}
+
+/// These lines, each with its end.
+pub fn text_of(alloc: Global, lines: &[&str]) -> Result<String, AllocError> {
+    let mut text = String::new(alloc);
+    for line in lines {
+        text.push_str(line)?;
+        text.push_str("\n")?;
+    }
+    Ok(text)
+}
+
+/// The ids of these keys, each after a space.
+pub fn ids(alloc: Global, keys: &[Key]) -> Result<String, AllocError> {
+    let mut text = String::new(alloc);
+    for key in keys {
+        write!(text, " {}", key.id.as_str())?;
+    }
+    Ok(text)
 }
 
 /// Writes a number.

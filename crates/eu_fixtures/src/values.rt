@@ -7,7 +7,7 @@ use eu_base::{
 use eu_clock::ListClock;
 use std::alloc::Global;
 
-/// Self-preservation is on, at 85%, with a renewal each 30 s and a pass each minute.
+/// Self-preservation is on, at 85%, with a renewal each 30 s and an eviction each minute.
 pub fn settings() -> Result<Config, Fault> {
     Config::new(true, 85, 30, 60_000)
 }
@@ -48,8 +48,8 @@ pub fn key_of(alloc: Global, app: &str, id: &str) -> Result<Key, Fault> {
 }
 
 /// An instance of application A at the host h that is UP, with that stamp, for so many seconds.
-pub fn instance(alloc: Global, id: &str, dirty: u64, secs: u32) -> Result<Instance, Fault> {
-    let dirty = Stamp::new(dirty).ok_or(Fault::BadStamp)?;
+pub fn instance(alloc: Global, id: &str, last_dirty: u64, secs: u32) -> Result<Instance, Fault> {
+    let last_dirty = Stamp::new(last_dirty).ok_or(Fault::BadStamp)?;
     let secs = LeaseSecs::new(secs).ok_or(Fault::BadDuration)?;
     let rest = Rest::of_host(alloc, "h")?;
     match key(alloc, id) {
@@ -57,7 +57,7 @@ pub fn instance(alloc: Global, id: &str, dirty: u64, secs: u32) -> Result<Instan
             key,
             status: Status::Up,
             overridden: Status::Unknown,
-            dirty,
+            last_dirty,
             secs,
             interval: RenewalSecs::DEFAULT,
             rest,

@@ -2,7 +2,7 @@
 use Rattle.std.proofs.Common.{Result, Ok, Err, IfErr, OnOk, ◌≡◌, ℕ, ◌≤◌, ◌<◌, inl, inr, Bool, List, [], ◌++◌, length, drop, Option, Some, None, refl, sym, ap, ◌∙◌, subst, append_assoc, append-nil, length-append, arith}
 use Rattle.std.specs.Io.KnownBytes.{Keeps, Consumes, IsAtEnd}
 use Rattle.eu_base.specs.declared.faults.Fault.{Fault}
-use Rattle.eu_framing.specs.Stream.{pending, OfBytes, Between}
+use Rattle.eu_framing.specs.Message.{pending, OfBytes, Between}
 use Rattle.eu_framing.specs.Reading.{Grows, Halts, Fails, IsCutBy, Comes, Blames}
 
 keeps_refl : (a : Option (List ℕ)) → Keeps a a

@@ -13,9 +13,7 @@ use Rattle.httparse.proofs.GrammarLemmas.{ReadsRequest-append}
 use Rattle.eu_base.specs.declared.faults.Fault.{Fault}
 use Rattle.eu_framing.specs.declared.request.Head.{Head}
 use Rattle.eu_framing.specs.declared.request.Request.{Request}
-use Rattle.eu_framing.specs.Stream.{pending, OfBytes}
-use Rattle.eu_framing.specs.Message.{max_head, max_fields, HasHead, IsFault, ReadsBody, BreaksBody}
-use Rattle.eu_framing.specs.Next.{FindsNext, Interrupts}
+use Rattle.eu_framing.specs.Message.{pending, OfBytes, max_head, max_fields, HasHead, IsFault, ReadsBody, BreaksBody, FindsNext, Interrupts}
 use Rattle.eu_framing.specs.Reading.{Blames}
 use Rattle.eu_framing.specs.Steps.{HasHeadAt}
 use Rattle.eu_framing.specs.HeadSteps.{GivesHead, FindsHead}

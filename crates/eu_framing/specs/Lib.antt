@@ -1,8 +1,6 @@
-pub mod Stream
 pub mod Fields
 pub mod Chunks
 pub mod Message
-pub mod Next
 pub mod Reading
 pub mod Steps
 pub mod HeadSteps
@@ -10,5 +8,4 @@ pub mod ChunkSteps
 pub mod Said
 pub mod Lists
 pub mod Law
-pub mod Target
 pub mod Scanning

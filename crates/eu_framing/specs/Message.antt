@@ -1,13 +1,48 @@
--- The next request of a list of bytes.
-use Rattle.std.specs.Prelude.{◌≡◌, ℕ, ◌<◌, ◌≤◌, ◌⊎◌, List, [], ◌++◌, length, take, map, Result, Ok, Err}
+-- The message that begins a list of bytes, or the fault of one that is broken, and what follows it
+use Rattle.std.specs.Prelude.{ℕ, List, Option, Some, None, ◌==◌, ◌≡◌, ◌<◌, ◌≤◌, ◌⊎◌, [], ◌++◌, length, take, map, Result, Ok, Err, Bool, true, string_bytes}
+use Rattle.std.specs.Io.KnownBytes.{prepend_known, Keeps}
+use Rattle.std.specs.List.{before_first, after_first}
 use Rattle.httparse.specs.Grammar.{LineEnd, print_blank, RequestHead, print_request, ReadsRequest, HasNoRequest, NeverHasRequest}
 use Rattle.httparse.specs.Spans.{name_and_value, RequestExceeds}
 use Rattle.eu_base.specs.declared.faults.Fault.{Fault}
-use Rattle.eu_base.specs.declared.faults.Fault.TheVariants as faults
 use Rattle.eu_framing.specs.declared.fields.Framing.{Framing}
 use Rattle.eu_framing.specs.declared.fields.Framing.TheVariants.{NoBody, Sized, Chunked}
-use Rattle.eu_framing.specs.Fields.{Header, framing_of}
+use Rattle.eu_framing.specs.Fields.{Header, framing_of, closes, is_replicated}
 use Rattle.eu_framing.specs.Chunks.{ReadsChunked, BreaksChunked}
+use Rattle.eu_framing.specs.declared.request.Request.{Request}
+use Rattle.eu_base.specs.declared.faults.Fault.TheVariants as faults
+
+-- ---- the bytes of a connection that are still to come.
+
+-- the bytes read and not yet used, and then those that the reader has left, where those are known
+abbrev pub pending : List ℕ → Option (List ℕ) → Option (List ℕ)
+pending buffer left = prepend_known buffer left
+
+-- P of the known bytes; where they aren't known, of some bytes
+abbrev pub OfBytes : Option (List ℕ) → (List ℕ → Type 0) → Type 0
+OfBytes None P = (bytes : List ℕ) × P bytes
+OfBytes (Some bytes) P = P bytes
+
+-- P of the known bytes before and after; where they aren't known, of some bytes
+abbrev pub Between : Option (List ℕ) → Option (List ℕ) → (List ℕ → List ℕ → Type 0) → Type 0
+Between None new P = (bytes : List ℕ) × (rest : List ℕ) × P bytes rest
+Between (Some old) None P = ⊥
+Between (Some old) (Some new) P = P old new
+
+-- ---- the parts of a request's target (RFC 9112, section 3.2; RFC 3986, section 3.4).
+
+abbrev pub question_mark : ℕ
+question_mark = 63
+
+-- all before the first question mark
+abbrev pub path_of : List ℕ → List ℕ
+path_of target = before_first (λ b. b == question_mark) target
+
+-- all behind the first question mark; nothing where there is none
+abbrev pub query_of : List ℕ → List ℕ
+query_of target = after_first (λ b. b == question_mark) target
+
+-- ---- the next request of a list of bytes.
 
 abbrev pub max_head : ℕ
 max_head = 8192
@@ -109,3 +144,23 @@ IsFault bytes fault = IsHeadFault bytes fault ⊎ BreaksMessage bytes fault
 -- the bytes begin with no whole request: they end before one, or have a fault
 abbrev pub IsCut : List ℕ → Type 0
 IsCut bytes = IsEnd bytes ⊎ ((fault : Fault) × IsFault bytes fault)
+
+-- ---- what a reader of requests answers: the next request of a list of bytes, or the end.
+
+-- the request is that message, as far as it matters here
+pub record IsRequest (request : Request) (m : Message) : Type 0 where
+  pub method : string_bytes request.method ≡ m.head.method
+  pub target : string_bytes request.target ≡ m.head.target
+  pub minor : request.minor ≡ m.head.minor
+  pub closes_is : request.closes ≡ closes m.head.minor (headers_of m.head)
+  pub replicated : request.replicated ≡ is_replicated (headers_of m.head)
+  pub body : request.body.items ≡ m.body
+
+-- the bytes begin with that request, and the rest is behind it; or they end, and nothing of them is used
+abbrev pub FindsNext : Option Request → List ℕ → List ℕ → Type 0
+FindsNext None bytes rest = IsEnd bytes × (rest ≡ bytes)
+FindsNext (Some request) bytes rest = (m : Message) × IsRequest request m × ReadsMessage bytes m rest
+
+-- the fault comes from outside: no memory was left; or the reader failed, no byte was lost, and those in the buffer begin with no whole request
+abbrev pub Interrupts : Bool → Option (List ℕ) → Option (List ℕ) → List ℕ → Fault → Type 0
+Interrupts failed old new buffer fault = (fault ≡ faults.OutOfMemory) ⊎ ((fault ≡ faults.Read) × (failed ≡ true) × Keeps old new × IsCut buffer)

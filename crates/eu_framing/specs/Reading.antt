@@ -3,8 +3,7 @@ use Rattle.std.specs.Prelude.{◌≡◌, ◌⊎◌, ℕ, Bool, true, List, ◌++
 use Rattle.std.specs.Io.KnownBytes.{Keeps}
 use Rattle.eu_base.specs.declared.faults.Fault.{Fault}
 use Rattle.eu_base.specs.declared.faults.Fault.TheVariants as faults
-use Rattle.eu_framing.specs.Message.{IsEnd}
-use Rattle.eu_framing.specs.Stream.{pending}
+use Rattle.eu_framing.specs.Message.{IsEnd, pending}
 
 -- From one place to the next nothing but reading was done: the buffer grew at its end, and no byte was lost.
 pub record Grows (left : Option (List ℕ)) (failed : Bool) (buffer : List ℕ) (left' : Option (List ℕ)) (failed' : Bool) (buffer' : List ℕ) : Type 0 where

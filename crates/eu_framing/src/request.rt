@@ -4,13 +4,10 @@ ghost use Rattle.std.specs.Option.{MatchOption};
 ghost use Rattle.std.specs.Io.KnownBytes.{IsAtEnd};
 ghost use Rattle.httparse.specs.Spans.{IsRequestWithin, IsRequestOf};
 ghost use Rattle.eu_framing.specs.Fields.{IsWithin};
-ghost use Rattle.eu_framing.specs.Message.{IsFault, max_head};
-ghost use Rattle.eu_framing.specs.Next.{FindsNext, Interrupts};
+ghost use Rattle.eu_framing.specs.Message.{IsFault, max_head, FindsNext, Interrupts, path_of, query_of, pending, Between, OfBytes};
 ghost use Rattle.eu_framing.specs.Reading.{Grows, Blames};
 ghost use Rattle.eu_framing.specs.Steps.{HasHeadAt};
 ghost use Rattle.eu_framing.specs.HeadSteps.{GivesHead, FindsHead};
-ghost use Rattle.eu_framing.specs.Target.{path_of, query_of};
-ghost use Rattle.eu_framing.specs.Stream.{pending, Between, OfBytes};
 
 use crate::MAX_HEAD;
 use crate::body::read_body;
@@ -50,20 +47,6 @@ impl Request {
             Some((path, query)) => (path, query),
             None => (self.target.as_str(), ""),
         }
-    }
-
-    /// The path of `parts`.
-    pub fn path(&self) -> &str
-        ensures { result.now ≡ path_of (string_bytes self.now.target) }
-    {
-        self.parts().0
-    }
-
-    /// The query of `parts`.
-    pub fn query(&self) -> &str
-        ensures { result.now ≡ query_of (string_bytes self.now.target) }
-    {
-        self.parts().1
     }
 }
 

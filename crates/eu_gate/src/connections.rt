@@ -4,7 +4,7 @@ ghost use Rattle.std.specs.Prelude.{◌≡◌, None};
 use std::io::{Read, Write};
 
 /// Where connections come from.
-pub trait Source {
+pub trait Incoming {
     // What holds where no more will come. Nothing is to be told of it but where a caller wants that.
     ghost ended: { Self → Type 0 } = { λ _. Unit {0} };
 

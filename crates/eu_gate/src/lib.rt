@@ -1,13 +1,10 @@
-//! What paces the workers of a server: the gates that they pass, when its timers take their turns, where its connections come from,
-//! and how many are still to be accepted.
+//! What paces the workers of a server: the gates that they pass, where its connections come from, and when its timers take their turns.
 #![tactic(auto)]
 
-mod admission;
 mod connections;
 mod gate;
 mod timers;
 
-pub use admission::Admission;
-pub use connections::Source;
+pub use connections::Incoming;
 pub use gate::{BUCKET, EVICTOR, FIRST_REPLICATOR, Gate, Go, MOST_WORKERS, Point, THRESHOLD};
 pub use timers::{BUCKET_MS, Periods, Schedule, Schedules, THRESHOLD_MS, Timer};

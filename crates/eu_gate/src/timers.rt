@@ -51,7 +51,7 @@ impl Timer {
 /// The milliseconds between two turns of each timer; 0 counts as 1.
 #[derive(Clone, Copy, Debug, PartialEq, Eq)]
 pub struct Periods {
-    /// Between two eviction passes.
+    /// Between two evictions.
     pub evictor: u64,
     /// Between two ends of minutes.
     pub bucket: u64,
@@ -60,7 +60,7 @@ pub struct Periods {
 }
 
 impl Periods {
-    /// Those of a server whose eviction passes are that many milliseconds apart.
+    /// Those of a server whose evictions are that many milliseconds apart.
     pub fn of_server(evict_ms: u32) -> Periods
         ensures { result ≡ record { evictor = evict_ms; bucket = 60000; threshold = 900000 } }
     {

@@ -11,13 +11,15 @@ use Rattle.eu_json.specs.Batch.{batch_of}
 use Rattle.eu_json.specs.Reading.{instance_of}
 use Rattle.eu_routes.specs.declared.asks.Route.{Route}
 use Rattle.eu_routes.specs.declared.asks.Route.TheVariants as route
-use Rattle.eu_routes.specs.Route.{route_of}
-use Rattle.eu_routes.specs.Chain.{◌>>=◌, Gives}
+use Rattle.eu_routes.specs.Table.{route_of}
+use Rattle.eu_base.specs.Gives.{◌>>=◌, Gives, result_map}
 use Rattle.eu_framing.specs.declared.request.Request.{Request}
-use Rattle.eu_framing.specs.Target as target
-use Rattle.eu_desk.specs.declared.asks.Ask.{Ask}
-use Rattle.eu_desk.specs.declared.asks.Ask.TheVariants.{Do, See}
+use Rattle.eu_framing.specs.Message as target
+use Rattle.eu_model.specs.declared.asks.Ask.{Ask}
+use Rattle.eu_model.specs.declared.asks.Ask.TheVariants.{Do, See}
 use Rattle.eu_http.specs.declared.exchange.Asked.{Asked}
+use Rattle.eu_http.specs.declared.wanted.Wanted.{Wanted}
+use Rattle.eu_http.specs.declared.wanted.Wanted.TheVariants as wanted
 use Rattle.eu_http.specs.declared.exchange.Asked.TheVariants as asked
 
 -- the instance that a body says, for an application at a moment
@@ -32,43 +34,48 @@ registration app replicated body moment = instance_in app moment body >>= λ ins
 abbrev pub batch_in : ℕ → List ℕ → Result (List Command) Fault
 batch_in moment body = if is_utf8 body then batch_of moment body else Err BadBatch
 
+-- the kind of answer that is wanted, and what is asked, in order
+pub record Wants : Type 0 where
+  pub wanted : Wanted
+  pub asks : List Ask
+
 -- that one command
-abbrev pub change : Command → Option (List Ask)
-change c = Some (Do c ∷ [])
+abbrev pub change : Command → Option Wants
+change c = Some (record { wanted = wanted.Change; asks = Do c ∷ [] })
 
 -- each of them
-abbrev pub batch_asks : ℕ → List ℕ → Result (Option (List Ask)) Fault
-batch_asks moment body = batch_in moment body >>= λ commands. Ok (Some (map (λ c. Do c) commands))
+abbrev pub batch_asks : ℕ → List ℕ → Result (Option Wants) Fault
+batch_asks moment body = batch_in moment body >>= λ commands. Ok (Some (record { wanted = wanted.Batch; asks = map (λ c. Do c) commands }))
 
 -- what a status page shows
-abbrev pub for_page : Option (List Ask)
-for_page = Some (See query.Counts ∷ See query.All ∷ [])
+abbrev pub for_page : Option Wants
+for_page = Some (record { wanted = wanted.Page; asks = See query.Counts ∷ See query.All ∷ [] })
 
 -- what is asked for a route, by a body at a moment; nothing, where it is forbidden. A peer sends every command of a batch, whatever the request says
-abbrev pub asks_for : Route → Bool → List ℕ → ℕ → Result (Option (List Ask)) Fault
+abbrev pub asks_for : Route → Bool → List ℕ → ℕ → Result (Option Wants) Fault
 asks_for (route.Register app) replicated body moment = registration app replicated body moment >>= λ c. Ok (change c)
-asks_for (route.Renew key dirty overridden) replicated body moment = Ok (change (command.Renew key dirty overridden replicated))
+asks_for (route.Renew key last_dirty overridden) replicated body moment = Ok (change (command.Renew key last_dirty overridden replicated))
 asks_for (route.Cancel key) replicated body moment = Ok (change (command.Cancel key replicated))
-asks_for (route.SetStatus key status dirty) replicated body moment = Ok (change (command.SetStatus key status dirty replicated))
-asks_for (route.UnsetStatus key status dirty) replicated body moment = Ok (change (command.UnsetStatus key status dirty replicated))
+asks_for (route.SetStatus key status last_dirty) replicated body moment = Ok (change (command.SetStatus key status last_dirty replicated))
+asks_for (route.UnsetStatus key status last_dirty) replicated body moment = Ok (change (command.UnsetStatus key status last_dirty replicated))
 asks_for route.Batch replicated body moment = batch_asks moment body
-asks_for route.All replicated body moment = Ok (Some (See query.All ∷ []))
-asks_for (route.OfApp app) replicated body moment = Ok (Some (See (query.OfApp app) ∷ []))
-asks_for (route.One key) replicated body moment = Ok (Some (See (query.One key) ∷ []))
+asks_for route.All replicated body moment = Ok (Some (record { wanted = wanted.All; asks = See query.All ∷ [] }))
+asks_for (route.OfApp app) replicated body moment = Ok (Some (record { wanted = wanted.OfApp; asks = See (query.OfApp app) ∷ [] }))
+asks_for (route.One key) replicated body moment = Ok (Some (record { wanted = wanted.One; asks = See (query.One key) ∷ [] }))
 asks_for route.Delta replicated body moment = Ok None
 asks_for route.StatusPage replicated body moment = Ok for_page
 asks_for (route.Reconfigure config) replicated body moment = Ok (change (command.Reconfigure config))
 
 -- what a request asks at a moment, or its first fault
-abbrev pub asks_of : Request → ℕ → Result (Option (List Ask)) Fault
+abbrev pub asks_of : Request → ℕ → Result (Option Wants) Fault
 asks_of request moment = do
-  wanted ← route_of (string_bytes request.method) (target.path_of (string_bytes request.target)) (target.query_of (string_bytes request.target))
-  asks_for wanted request.replicated request.body.items moment
+  named ← route_of (string_bytes request.method) (target.path_of (string_bytes request.target)) (target.query_of (string_bytes request.target))
+  asks_for named request.replicated request.body.items moment
 
-abbrev pub asks_in : Asked → Option (List Ask)
-asks_in asked.Forbidden = None
-asks_in (asked.Asks asks) = Some asks.items
+abbrev pub wants_in : Asked → Option Wants
+wants_in asked.Forbidden = None
+wants_in (asked.Asks wanted asks) = Some (record { wanted = wanted; asks = asks.items })
 
 -- it is what the request asks; where memory ran out, nothing is known
-abbrev pub Says : Result Asked Fault → Result (Option (List Ask)) Fault → Type 0
-Says = Gives asks_in
+abbrev pub Says : Result Asked Fault → Result (Option Wants) Fault → Type 0
+Says result said = Gives (result_map wants_in result) said

@@ -1,34 +1,80 @@
--- What a request is answered
-use Rattle.std.specs.Prelude.{ℕ, Bool, ◌&&◌, ◌||◌, List, [], ◌∷◌, ◌++◌, map, Option, Some, None, Result, Ok, Err, codes, if◌then◌else◌, ◌==◌, string_bytes}
+-- Responses: their text, and what is answered for what came of a request
+use Rattle.std.specs.Prelude.{ℕ, Bool, List, [], ◌++◌, length, codes, if◌then◌else◌, ◌==◌, ◌∷◌, map, Option, Some, None, Result, Ok, Err, string_bytes}
 use Rattle.std.specs.Fmt.{decimal}
-use Rattle.std.specs.Str.{bytes_eq}
+use Rattle.http.specs.StatusCode.{status_text}
 use Rattle.serde_json.specs.Written.{compact_text}
 use Rattle.eu_base.specs.declared.faults.Fault.{Fault}
-use Rattle.eu_base.specs.declared.faults.Fault.TheVariants as faults
 use Rattle.eu_base.specs.Fault.{fault_number}
 use Rattle.eu_base.specs.declared.instances.Instance.{Instance}
 use Rattle.eu_model.specs.declared.commands.Reply.{Reply}
-use Rattle.eu_model.specs.declared.commands.Reply.TheVariants as reply
 use Rattle.eu_model.specs.declared.views.Counts.{Counts}
 use Rattle.eu_model.specs.declared.views.Listed.{Listed}
-use Rattle.eu_model.specs.declared.views.View.TheVariants as seen
-use Rattle.eu_json.specs.BatchTree.{answers_tree}
+use Rattle.eu_json.specs.Batch.{answers_tree}
 use Rattle.eu_json.specs.Tree.{held_tree, application_tree, applications_tree}
 use Rattle.eu_json.specs.declared.batch_write.ItemAnswer.{ItemAnswer}
 use Rattle.eu_page.specs.Page.{shown_page}
-use Rattle.eu_routes.specs.Path.{path_of, parent}
-use Rattle.eu_framing.specs.declared.request.Request.{Request}
-use Rattle.eu_framing.specs.Target as target
-use Rattle.eu_desk.specs.declared.asks.Answer.{Answer}
-use Rattle.eu_desk.specs.declared.asks.Answer.TheVariants.{Did, Saw}
+use Rattle.eu_model.specs.declared.asks.Answer.{Answer}
+use Rattle.eu_model.specs.declared.asks.Answer.TheVariants.{Did, Saw}
 use Rattle.eu_http.specs.declared.exchange.Outcome.{Outcome}
 use Rattle.eu_http.specs.declared.exchange.Outcome.TheVariants.{Refused, Forbidden, Answers}
 use Rattle.eu_http.specs.declared.wanted.Wanted.{Wanted}
-use Rattle.eu_http.specs.declared.wanted.Wanted.TheVariants as wanted
 use Rattle.eu_http.specs.declared.response.Content.{Content as Made}
-use Rattle.eu_http.specs.declared.response.Content.TheVariants as made
 use Rattle.eu_http.specs.declared.response.Response.{Response as Draft}
-use Rattle.eu_http.specs.Text.{Response, Content, Nothing, Json, Plain, bare, print}
+use Rattle.eu_base.specs.declared.faults.Fault.TheVariants as faults
+use Rattle.eu_model.specs.declared.commands.Reply.TheVariants as reply
+use Rattle.eu_model.specs.declared.views.View.TheVariants as seen
+use Rattle.eu_http.specs.declared.wanted.Wanted.TheVariants as wanted
+use Rattle.eu_http.specs.declared.response.Content.TheVariants as made
+
+-- ---- the bytes of a response (RFC 9112, section 4)
+
+-- what follows the head
+pub data Content : Type 0 where
+  Nothing : Content
+  -- the text of a JSON value (RFC 8259)
+  Json : List ℕ → Content
+  -- plain text, in UTF-8
+  Plain : List ℕ → Content
+
+-- a status (RFC 9110, section 15) and what is said with it
+pub record Response : Type 0 where
+  pub status : ℕ
+  pub content : Content
+
+-- a response without content
+abbrev pub bare : ℕ → Response
+bare status = record { status = status; content = Nothing }
+
+abbrev pub line : List ℕ → List ℕ
+line text = text ++ codes "\r\n"
+
+-- the bytes of a content
+abbrev pub text_of : Content → List ℕ
+text_of Nothing = []
+text_of (Json text) = text
+text_of (Plain text) = text
+
+-- what it is, where there is one (RFC 9110, section 8.3)
+abbrev pub type_line : Content → List ℕ
+type_line Nothing = []
+type_line (Json text) = line (codes "Content-Type: application/json")
+type_line (Plain text) = line (codes "Content-Type: text/plain; charset=utf-8")
+
+-- how many bytes it has; 204 never has any and says none (RFC 9110, section 8.6)
+abbrev pub length_line : ℕ → List ℕ → List ℕ
+length_line status text = if status == 204 then [] else line (codes "Content-Length: " ++ decimal (length text))
+
+-- no request follows on the connection (RFC 9112, section 9.6)
+abbrev pub close_line : Bool → List ℕ
+close_line close = if close then line (codes "Connection: close") else []
+
+-- the status line, the fields, an empty line and the content
+abbrev pub print : Response → Bool → List ℕ
+print r close =
+    line (codes "HTTP/1.1 " ++ status_text r.status)
+    ++ (type_line r.content ++ (length_line r.status (text_of r.content) ++ (close_line close ++ (line [] ++ text_of r.content))))
+
+-- ---- what a request is answered
 
 -- ---- refusals
 
@@ -125,30 +171,6 @@ page c ls = record { status = 200; content = Plain (shown_page c ls) }
 
 -- ---- answers
 
-abbrev pub is_apps : List ℕ → Bool
-is_apps path = bytes_eq path (codes "/eureka/apps") || bytes_eq path (codes "/eureka/v2/apps")
-
-abbrev pub is_status : List ℕ → Bool
-is_status path = bytes_eq path (codes "/eureka/status") || bytes_eq path (codes "/eureka/v2/status")
-
-abbrev pub is_batch : List ℕ → Bool
-is_batch path = bytes_eq path (codes "/eureka/peerreplication/batch") || bytes_eq path (codes "/eureka/v2/peerreplication/batch")
-
--- which view a path names, if it names one
-abbrev pub shown_at : List ℕ → Wanted
-shown_at path =
-    if is_apps path then wanted.All
-    else if is_status path then wanted.Page
-    else if is_apps (parent path) then wanted.OfApp
-    else wanted.One
-
--- GET looks, POST to where peers send their batches does what a batch says, and every other request does one thing
-abbrev pub wanted_by : List ℕ → List ℕ → Wanted
-wanted_by method path =
-    if bytes_eq method (codes "GET") then shown_at (path_of path)
-    else if bytes_eq method (codes "POST") && is_batch (path_of path) then wanted.Batch
-    else wanted.Change
-
 -- an answer that isn't of the kind that was wanted is none
 abbrev pub told_change : List (Result Answer Fault) → Response
 told_change (Ok (Did r) ∷ []) = did r
@@ -197,22 +219,22 @@ fault_of wanted.Batch answers = None
 fault_of other answers = first_fault answers
 
 -- a fault of the registry comes before all answers
-abbrev pub told : Option Fault → Wanted → List (Result Answer Fault) → Response
-told None w answers = answered w answers
-told (Some fault) w answers = telling 503 fault
+abbrev pub or_fault : Option Fault → Wanted → List (Result Answer Fault) → Response
+or_fault None w answers = answered w answers
+or_fault (Some fault) w answers = telling 503 fault
 
 abbrev pub response_with : Wanted → List (Result Answer Fault) → Response
-response_with w answers = told (fault_of w answers) w answers
+response_with w answers = or_fault (fault_of w answers) w answers
 
 -- what a request is answered, by what came of it
-abbrev pub response_to : Request → Outcome → Response
-response_to request (Refused fault) = refused fault
-response_to request Forbidden = bare 403
-response_to request (Answers answers) = response_with (wanted_by (string_bytes request.method) (target.path_of (string_bytes request.target))) answers.items
+abbrev pub response_to : Outcome → Response
+response_to (Refused fault) = refused fault
+response_to Forbidden = bare 403
+response_to (Answers wanted answers) = response_with wanted answers.items
 
 -- the bytes of the response
-abbrev pub response : Request → Outcome → Bool → List ℕ
-response request outcome close = print (response_to request outcome) close
+abbrev pub response : Outcome → Bool → List ℕ
+response outcome close = print (response_to outcome) close
 
 -- a response as it is made
 abbrev pub content_of : Made → Content

@@ -7,11 +7,9 @@ use crate::response::{
     Response, all, bare, batch, did, item_of, of_app, one, page, refused, telling,
 };
 use crate::text::print;
-use crate::wanted::{Wanted, wanted_by};
+use crate::wanted::Wanted;
 use eu_base::Fault;
-use eu_desk::Answer;
-use eu_framing::Request;
-use eu_model::{Counts, View};
+use eu_model::{Answer, Counts, View};
 use http::StatusCode;
 use std::alloc::{AllocError, Global};
 
@@ -145,13 +143,13 @@ fn response_with(
 }
 
 /// The response for what came of a request.
-fn response_to(alloc: Global, request: &Request, outcome: &Outcome) -> Result<Response, AllocError>
-    ensures { IfOk result (λ r. spec.response_of r ≡ spec.response_to request.now outcome.now) }
+fn response_to(alloc: Global, outcome: &Outcome) -> Result<Response, AllocError>
+    ensures { IfOk result (λ r. spec.response_of r ≡ spec.response_to outcome.now) }
 {
     match outcome {
         Outcome::Refused(fault) => refused(alloc, *fault),
         Outcome::Forbidden => Ok(bare(StatusCode::FORBIDDEN)),
-        Outcome::Answers(answers) => response_with(alloc, wanted_by(request), answers),
+        Outcome::Answers { wanted, answers } => response_with(alloc, *wanted, answers),
     }
 }
 
@@ -164,15 +162,10 @@ fn response_to(alloc: Global, request: &Request, outcome: &Outcome) -> Result<Re
 /// command 404. Any other request that the registry refuses is 503 itself.
 ///
 /// Statuses and contents are those of `docs/FORMATS.md`. `AllocError` where no memory is left.
-pub fn answer(
-    alloc: Global,
-    request: &Request,
-    outcome: &Outcome,
-    close: bool,
-) -> Result<Vec<u8>, AllocError>
-    ensures { IfOk result (λ bytes. bytes.items ≡ spec.response request.now outcome.now close) }
+pub fn answer(alloc: Global, outcome: &Outcome, close: bool) -> Result<Vec<u8>, AllocError>
+    ensures { IfOk result (λ bytes. bytes.items ≡ spec.response outcome.now close) }
 {
-    let response = response_to(alloc, request, outcome)?;
+    let response = response_to(alloc, outcome)?;
     let text = print(alloc, &response, close)?;
     Ok(text.into_bytes())
 }

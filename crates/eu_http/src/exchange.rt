@@ -1,15 +1,21 @@
 //! What a request asks of a registry, and what comes of it.
 
+use crate::wanted::Wanted;
 use eu_base::Fault;
-use eu_desk::{Answer, Ask};
+use eu_model::{Answer, Ask};
 
 /// What a request asks.
 #[derive(Debug, Drop)]
 pub enum Asked {
     /// Nothing: what it wants is never given.
     Forbidden,
-    /// These, in their order.
-    Asks(Vec<Ask>),
+    /// These.
+    Asks {
+        /// The kind of answer that it wants.
+        wanted: Wanted,
+        /// What is asked, in order.
+        asks: Vec<Ask>,
+    },
 }
 
 /// What comes of a request.
@@ -19,6 +25,11 @@ pub enum Outcome {
     Refused(Fault),
     /// What it wants is never given.
     Forbidden,
-    /// An answer, or the registry's fault, for each that it asked.
-    Answers(Vec<Result<Answer, Fault>>),
+    /// It was asked.
+    Answers {
+        /// The kind of answer that it wants.
+        wanted: Wanted,
+        /// An answer, or the registry's fault, for each ask, in order.
+        answers: Vec<Result<Answer, Fault>>,
+    },
 }

@@ -14,3 +14,4 @@ mod wanted;
 pub use answers::answer;
 pub use exchange::{Asked, Outcome};
 pub use requests::asks;
+pub use wanted::Wanted;

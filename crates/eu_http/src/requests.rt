@@ -1,20 +1,20 @@
 //! What a request asks.
 ghost use Rattle.std.specs.Prelude.{◌≡◌, ◌∷◌, [], Some, IfOk, map};
 ghost use Rattle.eu_http.specs.Asks as spec;
-ghost use Rattle.eu_routes.specs.Chain.{Gives};
+ghost use Rattle.eu_base.specs.Gives.{Gives, result_map};
 
 use crate::exchange::Asked;
+use crate::wanted::Wanted;
 use eu_base::{App, BoxedInstance, Fault, Instance, Moment};
-use eu_desk::Ask;
 use eu_framing::Request;
 use eu_json::{read_batch, read_instance};
-use eu_model::{Command, Query};
+use eu_model::{Ask, Command, Query};
 use eu_routes::{Route, Routes};
 use std::alloc::{AllocError, Global};
 
 /// The instance that a body says.
 fn instance_in(alloc: Global, app: &App, moment: Moment, body: &[u8]) -> Result<Instance, Fault>
-    ensures { Gives (λ i. i) result (spec.instance_in app.now moment body.now) }
+    ensures { Gives result (spec.instance_in app.now moment body.now) }
 {
     match str::from_utf8(body) {
         Ok(text) => read_instance(alloc, text, app, moment),
@@ -29,7 +29,7 @@ fn registration(
     request: &Request,
     moment: Moment,
 ) -> Result<Command, Fault>
-    ensures { Gives (λ c. c) result (spec.registration app.now request.now.replicated request.now.body.items moment) }
+    ensures { Gives result (spec.registration app.now request.now.replicated request.now.body.items moment) }
 {
     let instance = instance_in(alloc, app, moment, &request.body)?;
     let instance = BoxedInstance::new(alloc, instance)?;
@@ -41,7 +41,7 @@ fn registration(
 
 /// The commands that a body says.
 fn batch_in(alloc: Global, moment: Moment, body: &[u8]) -> Result<Vec<Command>, Fault>
-    ensures { Gives (λ commands. commands.items) result (spec.batch_in moment body.now) }
+    ensures { Gives (result_map (λ commands. commands.items) result) (spec.batch_in moment body.now) }
 {
     match str::from_utf8(body) {
         Ok(text) => read_batch(alloc, text, moment),
@@ -64,26 +64,32 @@ fn batch(alloc: Global, moment: Moment, body: &[u8]) -> Result<Asked, Fault>
     ensures { spec.Says result (spec.batch_asks moment body.now) }
 {
     let commands = batch_in(alloc, moment, body)?;
-    Ok(Asked::Asks(each(alloc, commands)?))
+    Ok(Asked::Asks {
+        wanted: Wanted::Batch,
+        asks: each(alloc, commands)?,
+    })
 }
 
 /// That one ask.
-fn just(alloc: Global, ask: Ask) -> Result<Asked, AllocError>
-    ensures { IfOk result (λ asked. spec.asks_in asked ≡ Some (ask ∷ [])) }
+fn just(alloc: Global, wanted: Wanted, ask: Ask) -> Result<Asked, AllocError>
+    ensures { IfOk result (λ asked. spec.wants_in asked ≡ Some (record { wanted = wanted; asks = ask ∷ [] })) }
 {
     let mut asks = Vec::new(alloc);
     asks.push(ask)?;
-    Ok(Asked::Asks(asks))
+    Ok(Asked::Asks { wanted, asks })
 }
 
 /// What a status page shows.
 fn for_page(alloc: Global) -> Result<Asked, AllocError>
-    ensures { IfOk result (λ asked. spec.asks_in asked ≡ spec.for_page) }
+    ensures { IfOk result (λ asked. spec.wants_in asked ≡ spec.for_page) }
 {
     let mut asks = Vec::new(alloc);
     asks.push(Ask::See(Query::Counts))?;
     asks.push(Ask::See(Query::All))?;
-    Ok(Asked::Asks(asks))
+    Ok(Asked::Asks {
+        wanted: Wanted::Page,
+        asks,
+    })
 }
 
 /// What is asked for a route.
@@ -91,40 +97,48 @@ fn asks_for(alloc: Global, route: Route, request: &Request, moment: Moment) -> R
     ensures { spec.Says result (spec.asks_for route request.now.replicated request.now.body.items moment) }
 {
     let replicated = request.replicated;
-    let ask = match route {
-        Route::Register(app) => Ask::Do(registration(alloc, &app, request, moment)?),
+    let command = match route {
+        Route::Register(app) => registration(alloc, &app, request, moment)?,
         Route::Renew {
             key,
-            dirty,
+            last_dirty,
             overridden,
-        } => Ask::Do(Command::Renew {
+        } => Command::Renew {
             key,
-            dirty,
+            last_dirty,
             overridden,
             replicated,
-        }),
-        Route::Cancel(key) => Ask::Do(Command::Cancel { key, replicated }),
-        Route::SetStatus { key, status, dirty } => Ask::Do(Command::SetStatus {
+        },
+        Route::Cancel(key) => Command::Cancel { key, replicated },
+        Route::SetStatus {
             key,
             status,
-            dirty,
-            replicated,
-        }),
-        Route::UnsetStatus { key, status, dirty } => Ask::Do(Command::UnsetStatus {
+            last_dirty,
+        } => Command::SetStatus {
             key,
             status,
-            dirty,
+            last_dirty,
             replicated,
-        }),
-        Route::Reconfigure(config) => Ask::Do(Command::Reconfigure { config }),
-        Route::All => Ask::See(Query::All),
-        Route::OfApp(app) => Ask::See(Query::OfApp(app)),
-        Route::One(key) => Ask::See(Query::One(key)),
+        },
+        Route::UnsetStatus {
+            key,
+            status,
+            last_dirty,
+        } => Command::UnsetStatus {
+            key,
+            status,
+            last_dirty,
+            replicated,
+        },
+        Route::Reconfigure(config) => Command::Reconfigure { config },
+        Route::All => return Ok(just(alloc, Wanted::All, Ask::See(Query::All))?),
+        Route::OfApp(app) => return Ok(just(alloc, Wanted::OfApp, Ask::See(Query::OfApp(app)))?),
+        Route::One(key) => return Ok(just(alloc, Wanted::One, Ask::See(Query::One(key)))?),
         Route::Delta => return Ok(Asked::Forbidden),
         Route::Batch => return batch(alloc, moment, &request.body),
         Route::StatusPage => return Ok(for_page(alloc)?),
     };
-    Ok(just(alloc, ask)?)
+    Ok(just(alloc, Wanted::Change, Ask::Do(command))?)
 }
 
 /// What a request asks of the registry at a moment (`ApplicationResource`, `InstanceResource`, `ApplicationsResource` and

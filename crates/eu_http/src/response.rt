@@ -3,12 +3,10 @@ ghost use Rattle.std.specs.Prelude.{◌≡◌, false, IfOk, None, option_map};
 ghost use Rattle.serde_json.specs.View.{view};
 ghost use Rattle.serde_json.specs.Written.{has_float, compact_text};
 ghost use Rattle.eu_http.specs.Response as spec;
-ghost use Rattle.eu_http.specs.Text as text;
 
 use eu_base::Fault;
-use eu_desk::Answer;
 use eu_json::{ItemAnswer, application_value, applications_value, batch_answer_value, held_value};
-use eu_model::{Counts, Listed, Reply};
+use eu_model::{Answer, Counts, Listed, Reply};
 use eu_page::{page_of, status_page};
 use http::StatusCode;
 use serde_json::Value;
@@ -33,7 +31,7 @@ pub struct Response {
 
 /// A response without content.
 pub fn bare(status: StatusCode) -> Response
-    ensures { spec.response_of result ≡ text.bare status }
+    ensures { spec.response_of result ≡ spec.bare status }
 {
     Response {
         status,
@@ -97,7 +95,7 @@ pub fn refused(alloc: Global, fault: Fault) -> Result<Response, AllocError>
 /// A response with the text of a JSON value.
 fn with_json(alloc: Global, status: StatusCode, value: &Value) -> Result<Response, AllocError>
     requires { has_float (view value.now) ≡ false }
-    ensures { IfOk result (λ r. spec.response_of r ≡ record { status = status; content = text.Json (compact_text (view value.now)) }) }
+    ensures { IfOk result (λ r. spec.response_of r ≡ record { status = status; content = spec.Json (compact_text (view value.now)) }) }
 {
     let text = value.to_string(alloc)?;
     Ok(Response {

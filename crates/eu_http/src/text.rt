@@ -1,7 +1,7 @@
 //! A response as it is written.
 ghost use Rattle.std.specs.Prelude.{◌≡◌, ◌++◌, false, IfOk, IfSome, OnOk, string_bytes};
 ghost use Rattle.eu_http.specs.Response.{content_of, response_of};
-ghost use Rattle.eu_http.specs.Text as spec;
+ghost use Rattle.eu_http.specs.Response as spec;
 
 use crate::response::{Content, Response};
 use http::StatusCode;

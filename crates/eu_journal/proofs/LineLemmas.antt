@@ -7,13 +7,14 @@ use Rattle.eu_model.specs.declared.commands.Command.TheVariants as command
 use Rattle.eu_model.specs.declared.commands.Reply.{Reply}
 use Rattle.eu_model.specs.declared.commands.Reply.TheVariants as reply
 use Rattle.eu_journal.specs.Law.{LinesComeBack, bare}
-use Rattle.eu_journal_values.specs.Limits.{IsCommand, IsReply}
+use Rattle.eu_journal_values.specs.Commands.{IsCommand, adopt_of, cancel_of, codes_of, command_of, drain_of, landed_of, lost_of, reconfigure_of, register_of, renew_of, set_status_of, unset_status_of, command_rest, command_tree}
+use Rattle.eu_journal_values.specs.Replies.{IsReply, conflict_of, expected_of, last_of, registered_of, reply_of, reply_rest, reply_tree}
 use Rattle.eu_journal.specs.LineReading.{answered_line, asked_line, digest_line, flight_line, head_line, head_of, lease_line, line_of, row_line, sent_line, task_in, victim_line, waiting_line}
 use Rattle.eu_journal.specs.Lines.{line_tree}
 use Rattle.eu_journal_values.specs.Members.{below_32, moment_in, moment_of, optional_in, stamp_in, status_in}
-use Rattle.eu_journal_values.specs.Reading.{adopt_of, cancel_of, codes_of, command_of, config_from, conflict_of, drain_of, expected_of, instance_in, key_in, landed_of, last_of, lost_of, name_of, reconfigure_of, register_of, registered_of, renew_of, reply_of, set_status_of, times_of, unset_status_of}
+use Rattle.eu_journal_values.specs.Reading.{config_from, instance_in, key_in, name_of, times_of}
 use Rattle.eu_journal_values.proofs.BackLemmas.{codes_back, config_back, instance_back, key_back, moment_back, name_back, optional_moment_back, optional_stamp_back, optional_status_back, small_back, status_back, step, task_back}
-use Rattle.eu_journal_values.specs.Trees.{command_rest, command_tree, config_tree, reply_rest, reply_tree, whole_number}
+use Rattle.eu_journal_values.specs.Trees.{config_tree, whole_number}
 use Rattle.eu_journal.specs.declared.lines.JournalLine.TheVariants as line
 
 -- ---- commands
@@ -23,28 +24,28 @@ unfolding command_of register_of renew_of cancel_of set_status_of unset_status_o
 command_back (command.Register i replicated) is =
     let tree = command_tree (command.Register i replicated) in
     step (instance_in i.rest tree) _ i (instance_back tree i refl is)
-command_back (command.Renew k dirty overridden replicated) is =
-    let tree = command_tree (command.Renew k dirty overridden replicated) in
+command_back (command.Renew k last_dirty overridden replicated) is =
+    let tree = command_tree (command.Renew k last_dirty overridden replicated) in
     step (key_in tree) _ k (key_back tree k refl is.0)
-    ∙ step (optional_in stamp_in (codes "dirty") tree) _ dirty (optional_stamp_back (codes "dirty") tree dirty refl is.1)
+    ∙ step (optional_in stamp_in (codes "dirty") tree) _ last_dirty (optional_stamp_back (codes "dirty") tree last_dirty refl is.1)
     ∙ step (optional_in status_in (codes "overridden") tree) _ overridden (optional_status_back (codes "overridden") tree overridden refl)
 command_back (command.Cancel k replicated) is =
     let tree = command_tree (command.Cancel k replicated) in
     step (key_in tree) _ k (key_back tree k refl is)
-command_back (command.SetStatus k status dirty replicated) is =
-    let tree = command_tree (command.SetStatus k status dirty replicated) in
+command_back (command.SetStatus k status last_dirty replicated) is =
+    let tree = command_tree (command.SetStatus k status last_dirty replicated) in
     step (key_in tree) _ k (key_back tree k refl is.0)
     ∙ step (status_in (codes "status") tree) _ status (status_back status)
-    ∙ step (optional_in stamp_in (codes "dirty") tree) _ dirty (optional_stamp_back (codes "dirty") tree dirty refl is.1)
-command_back (command.UnsetStatus k status dirty replicated) is =
-    let tree = command_tree (command.UnsetStatus k status dirty replicated) in
+    ∙ step (optional_in stamp_in (codes "dirty") tree) _ last_dirty (optional_stamp_back (codes "dirty") tree last_dirty refl is.1)
+command_back (command.UnsetStatus k status last_dirty replicated) is =
+    let tree = command_tree (command.UnsetStatus k status last_dirty replicated) in
     step (key_in tree) _ k (key_back tree k refl is.0)
     ∙ step (optional_in status_in (codes "status") tree) _ status (optional_status_back (codes "status") tree status refl)
-    ∙ step (optional_in stamp_in (codes "dirty") tree) _ dirty (optional_stamp_back (codes "dirty") tree dirty refl is.1)
+    ∙ step (optional_in stamp_in (codes "dirty") tree) _ last_dirty (optional_stamp_back (codes "dirty") tree last_dirty refl is.1)
 command_back (command.Adopt i) is =
     let tree = command_tree (command.Adopt i) in
     step (instance_in i.rest tree) _ i (instance_back tree i refl is)
-command_back command.Roll is = refl
+command_back command.EndMinute is = refl
 command_back command.Update is = refl
 command_back (command.Reconfigure config) is = step (config_from (config_tree config)) _ config (config_back config is)
 command_back command.Evict is = refl

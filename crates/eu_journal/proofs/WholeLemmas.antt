@@ -11,7 +11,9 @@ use Rattle.eu_model.specs.declared.commands.Command.TheVariants as command
 use Rattle.eu_model.specs.declared.commands.Reply.{Reply}
 use Rattle.eu_model.specs.declared.commands.Reply.TheVariants as reply
 use Rattle.eu_journal.specs.Lines.{line_tree}
-use Rattle.eu_journal_values.specs.Trees.{command_rest, command_tree, instance_tree, optional, reply_rest, reply_tree, rest_tree, status_tree, task_rest, task_tree, whole_number}
+use Rattle.eu_journal_values.specs.Commands.{command_rest, command_tree}
+use Rattle.eu_journal_values.specs.Trees.{instance_tree, optional, rest_tree, status_tree, task_rest, task_tree, whole_number}
+use Rattle.eu_journal_values.specs.Replies.{reply_rest, reply_tree}
 use Rattle.eu_journal.specs.declared.lines.JournalLine.{JournalLine}
 use Rattle.eu_journal.specs.declared.lines.JournalLine.TheVariants as line
 
@@ -36,12 +38,12 @@ whole_codes (c ∷ cs) = whole_codes cs
 
 whole_command : (c : Command) → has_float (command_tree c) ≡ false
 whole_command (command.Register i replicated) = refl
-whole_command (command.Renew k dirty overridden replicated) = rw (whole_number_or_null dirty, whole_status overridden) refl
+whole_command (command.Renew k last_dirty overridden replicated) = rw (whole_number_or_null last_dirty, whole_status overridden) refl
 whole_command (command.Cancel k replicated) = refl
-whole_command (command.SetStatus k status dirty replicated) = rw (whole_number_or_null dirty) refl
-whole_command (command.UnsetStatus k status dirty replicated) = rw (whole_number_or_null dirty, whole_status status) refl
+whole_command (command.SetStatus k status last_dirty replicated) = rw (whole_number_or_null last_dirty) refl
+whole_command (command.UnsetStatus k status last_dirty replicated) = rw (whole_number_or_null last_dirty, whole_status status) refl
 whole_command (command.Adopt i) = refl
-whole_command command.Roll = refl
+whole_command command.EndMinute = refl
 whole_command command.Update = refl
 whole_command (command.Reconfigure config) = refl
 whole_command command.Evict = refl

@@ -3,9 +3,11 @@ use Rattle.std.specs.Prelude.{ℕ, List, Result, Ok, Err, if◌then◌else◌, �
 use Rattle.std.specs.Str.{bytes_eq}
 use Rattle.serde_json.specs.Data.{Data}
 use Rattle.eu_base.specs.declared.tasks.Task.{Task}
-use Rattle.eu_journal_values.specs.Answered.{◌>>=◌}
+use Rattle.eu_base.specs.Gives.{◌>>=◌}
 use Rattle.eu_journal_values.specs.Members.{member_in, moment_in, number_in, optional_in, status_in, text_in}
-use Rattle.eu_journal_values.specs.Reading.{command_of, config_from, instance_in, key_in, name_of, reply_of, task_of, times_of}
+use Rattle.eu_journal_values.specs.Commands.{command_of}
+use Rattle.eu_journal_values.specs.Reading.{config_from, instance_in, key_in, name_of, task_of, times_of}
+use Rattle.eu_journal_values.specs.Replies.{reply_of}
 use Rattle.eu_journal_values.specs.declared.faults.LineFault.{LineFault}
 use Rattle.eu_journal_values.specs.declared.faults.LineFault.TheVariants.{NotALine}
 use Rattle.eu_journal.specs.declared.lines.Head.{Head}

@@ -1,7 +1,9 @@
 -- The JSON of each line of a journal
 use Rattle.std.specs.Prelude.{codes}
 use Rattle.serde_json.specs.Data.{Data, string, object, no_members, member}
-use Rattle.eu_journal_values.specs.Trees.{command_rest, command_tree, config_tree, instance_tree, key_tree, optional, reply_rest, reply_tree, rest_tree, status_tree, task_rest, task_tree, times_tree, whole_number}
+use Rattle.eu_journal_values.specs.Commands.{command_rest, command_tree}
+use Rattle.eu_journal_values.specs.Trees.{config_tree, instance_tree, key_tree, optional, rest_tree, status_tree, task_rest, task_tree, times_tree, whole_number}
+use Rattle.eu_journal_values.specs.Replies.{reply_rest, reply_tree}
 use Rattle.eu_journal.specs.declared.lines.JournalLine.{JournalLine}
 use Rattle.eu_journal.specs.declared.lines.JournalLine.TheVariants as line
 

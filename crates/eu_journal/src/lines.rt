@@ -46,7 +46,7 @@ pub struct Head {
     pub last: u64,
     /// The renewals since then.
     pub since: u64,
-    /// The moment of the previous eviction pass, if there was one.
+    /// The moment of the previous eviction, if there was one.
     pub previous: Option<Moment>,
 }
 

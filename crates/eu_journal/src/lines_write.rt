@@ -3,7 +3,9 @@ ghost use Rattle.std.specs.Prelude.{◌≡◌, false, IfOk};
 ghost use Rattle.serde_json.specs.View.{view};
 ghost use Rattle.serde_json.specs.Written.{has_float};
 ghost use Rattle.eu_journal.specs.Lines.{line_tree};
-ghost use Rattle.eu_journal_values.specs.Trees.{command_rest, optional, reply_rest, rest_tree, task_rest, whole_number};
+ghost use Rattle.eu_journal_values.specs.Commands.{command_rest};
+ghost use Rattle.eu_journal_values.specs.Trees.{optional, rest_tree, task_rest, whole_number};
+ghost use Rattle.eu_journal_values.specs.Replies.{reply_rest};
 
 use crate::lines::{Head, JournalLine};
 use eu_base::{Id, Instance, Key, Moment, Status, Task};

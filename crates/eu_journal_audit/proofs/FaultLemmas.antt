@@ -11,7 +11,7 @@ use Rattle.eu_journal_read.specs.declared.journal.Recorded.{Recorded}
 use Rattle.eu_lines.specs.declared.faults.ScriptFault.{ScriptFault}
 use Rattle.eu_lines.specs.declared.faults.ScriptFault.TheVariants as script
 use Rattle.eu_script.specs.Audit.{audit_text}
-use Rattle.eu_script.specs.Desk.{Writes}
+use Rattle.eu_script.specs.ScriptDesk.{Writes}
 use Rattle.eu_script.specs.declared.desk.Verdict.{Verdict}
 
 abbrev pub unread : JournalFault → Result Recorded JournalFault

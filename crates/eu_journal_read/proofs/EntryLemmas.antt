@@ -2,7 +2,7 @@
 use Rattle.std.proofs.Common.{◌≡◌, true, false, List, [], ◌∷◌, ◌++◌, Result, Ok, Err, refl, ap}
 use Rattle.eu_base.specs.declared.names.Key.{Key}
 use Rattle.eu_base.specs.declared.tasks.Task.{Task}
-use Rattle.eu_journal_values.specs.Answered.{◌>>=◌}
+use Rattle.eu_base.specs.Gives.{◌>>=◌}
 use Rattle.eu_journal_values.specs.declared.faults.LineFault.{LineFault}
 use Rattle.eu_journal_values.specs.declared.faults.LineFault.TheVariants.{NotALine}
 use Rattle.eu_journal.specs.declared.lines.JournalLine.TheVariants as line

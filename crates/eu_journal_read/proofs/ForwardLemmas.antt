@@ -4,7 +4,7 @@ use Rattle.std.specs.Prelude.{option_to_list}
 use Rattle.eu_base.specs.declared.names.Key.{Key}
 use Rattle.eu_base.specs.declared.statuses.Status.{Status}
 use Rattle.eu_base.specs.declared.tasks.Task.{Task}
-use Rattle.eu_journal_values.specs.Answered.{◌>>=◌}
+use Rattle.eu_base.specs.Gives.{◌>>=◌}
 use Rattle.eu_journal_values.specs.declared.faults.LineFault.{LineFault}
 use Rattle.eu_journal.specs.declared.lines.Head.{Head}
 use Rattle.eu_journal.specs.declared.lines.JournalLine.{JournalLine}
@@ -38,18 +38,18 @@ drafted_both d e f (x ∷ xs) ys first rest =
     rw (step.1) (drafted_both step.0 e f xs ys step.2 rest)
 
 leases_drafted : (h : Head) (xs ls : List Listed)
-    → drafted (record { head = h; leases = xs; rows = []; queues = []; newest = None }) (map line.Lease ls) ≡ Ok (record { head = h; leases = xs ++ ls; rows = []; queues = []; newest = None })
+    → drafted (record { head = h; leases = xs; overrides = []; queues = []; newest = None }) (map line.Lease ls) ≡ Ok (record { head = h; leases = xs ++ ls; overrides = []; queues = []; newest = None })
 leases_drafted h xs [] = rw append-nil refl
 leases_drafted h xs (l ∷ ls) = leases_drafted h (xs ++ l ∷ []) ls ∙ rw append_assoc refl
 
 rows_drafted : (h : Head) (xs : List Listed) (rs ls : List (List ℕ × Status))
-    → drafted (record { head = h; leases = xs; rows = rs; queues = []; newest = None }) (map row_line ls) ≡ Ok (record { head = h; leases = xs; rows = rs ++ ls; queues = []; newest = None })
+    → drafted (record { head = h; leases = xs; overrides = rs; queues = []; newest = None }) (map row_line ls) ≡ Ok (record { head = h; leases = xs; overrides = rs ++ ls; queues = []; newest = None })
 rows_drafted h xs rs [] = rw append-nil refl
 rows_drafted h xs rs (r ∷ ls) = rows_drafted h xs (rs ++ r ∷ []) ls ∙ rw append_assoc refl
 
 module _ (h : Head) (xs : List Listed) (rs : List (List ℕ × Status)) where
   abbrev busy : List Queue → Queue → Draft
-  busy qs q = record { head = h; leases = xs; rows = rs; queues = qs; newest = Some q }
+  busy qs q = record { head = h; leases = xs; overrides = rs; queues = qs; newest = Some q }
 
   waiting_drafted : (qs : List Queue) (ws ts : List Task) → drafted (busy qs (record { waiting = ws; flight = [] })) (map line.Waiting ts) ≡ Ok (busy qs (record { waiting = ws ++ ts; flight = [] }))
   waiting_drafted qs ws [] = rw append-nil refl
@@ -60,34 +60,34 @@ module _ (h : Head) (xs : List Listed) (rs : List (List ℕ × Status)) where
   flight_drafted qs ws fs (t ∷ ts) = flight_drafted qs ws (fs ++ t ∷ []) ts ∙ rw append_assoc refl
 
   queue_drafted : (qs : List Queue) (o : Option Queue) (q : Queue)
-      → drafted (record { head = h; leases = xs; rows = rs; queues = qs; newest = o }) (queue_lines q) ≡ Ok (busy (qs ++ option_to_list o) q)
+      → drafted (record { head = h; leases = xs; overrides = rs; queues = qs; newest = o }) (queue_lines q) ≡ Ok (busy (qs ++ option_to_list o) q)
   queue_drafted qs o q =
       drafted_both (busy (qs ++ option_to_list o) idle) (busy (qs ++ option_to_list o) (record { waiting = q.waiting; flight = [] })) (busy (qs ++ option_to_list o) q) (map line.Waiting q.waiting) (map line.Flight q.flight)
       (waiting_drafted (qs ++ option_to_list o) [] q.waiting) (flight_drafted (qs ++ option_to_list o) q.waiting [] q.flight)
 
   queues_drafted : (qs : List Queue) (o : Option Queue) (more : List Queue)
-      → (d : Draft) × (drafted (record { head = h; leases = xs; rows = rs; queues = qs; newest = o }) (queues_lines more) ≡ Ok d)
-      × (state_of d ≡ state_of (record { head = h; leases = xs; rows = rs; queues = (qs ++ option_to_list o) ++ more; newest = None }))
-  queues_drafted qs o [] = (record { head = h; leases = xs; rows = rs; queues = qs; newest = o }, refl, rw (append-nil (qs ++ option_to_list o), append-nil (qs ++ option_to_list o)) refl)
+      → (d : Draft) × (drafted (record { head = h; leases = xs; overrides = rs; queues = qs; newest = o }) (queues_lines more) ≡ Ok d)
+      × (state_of d ≡ state_of (record { head = h; leases = xs; overrides = rs; queues = (qs ++ option_to_list o) ++ more; newest = None }))
+  queues_drafted qs o [] = (record { head = h; leases = xs; overrides = rs; queues = qs; newest = o }, refl, rw (append-nil (qs ++ option_to_list o), append-nil (qs ++ option_to_list o)) refl)
   queues_drafted qs o (q ∷ more) =
       let rest = queues_drafted (qs ++ option_to_list o) (Some q) more in (
         rest.0,
-        drafted_both (record { head = h; leases = xs; rows = rs; queues = qs; newest = o }) (busy (qs ++ option_to_list o) q) rest.0 (queue_lines q) (queues_lines more) (queue_drafted qs o q) rest.1,
+        drafted_both (record { head = h; leases = xs; overrides = rs; queues = qs; newest = o }) (busy (qs ++ option_to_list o) q) rest.0 (queue_lines q) (queues_lines more) (queue_drafted qs o q) rest.1,
         rest.2 ∙ rw (append_assoc (qs ++ option_to_list o) (q ∷ []) more) refl,
       )
 
 -- the lines of a state after its first
 abbrev rest_lines : State → List JournalLine
-rest_lines s = map line.Lease s.leases ++ (map row_line s.rows ++ queues_lines s.queues)
+rest_lines s = map line.Lease s.leases ++ (map row_line s.overrides ++ queues_lines s.queues)
 
 state_drafted : (s : State) → (d : Draft) × (drafted (begun (head_of s)) (rest_lines s) ≡ Ok d) × (state_of d ≡ s)
 state_drafted s =
-    let queues = queues_drafted (head_of s) s.leases s.rows [] None s.queues in
-    let rows : Draft = record { head = head_of s; leases = s.leases; rows = s.rows; queues = []; newest = None } in
-    let leases : Draft = record { head = head_of s; leases = s.leases; rows = []; queues = []; newest = None } in (
+    let queues = queues_drafted (head_of s) s.leases s.overrides [] None s.queues in
+    let overrides : Draft = record { head = head_of s; leases = s.leases; overrides = s.overrides; queues = []; newest = None } in
+    let leases : Draft = record { head = head_of s; leases = s.leases; overrides = []; queues = []; newest = None } in (
       queues.0,
-      drafted_both (begun (head_of s)) leases queues.0 (map line.Lease s.leases) (map row_line s.rows ++ queues_lines s.queues) (leases_drafted (head_of s) [] s.leases)
-          (drafted_both leases rows queues.0 (map row_line s.rows) (queues_lines s.queues) (rows_drafted (head_of s) s.leases [] s.rows) queues.1),
+      drafted_both (begun (head_of s)) leases queues.0 (map line.Lease s.leases) (map row_line s.overrides ++ queues_lines s.queues) (leases_drafted (head_of s) [] s.leases)
+          (drafted_both leases overrides queues.0 (map row_line s.overrides) (queues_lines s.queues) (rows_drafted (head_of s) s.leases [] s.overrides) queues.1),
       queues.2 ∙ rw append-nil refl,
     )
 

@@ -5,7 +5,7 @@ use Rattle.std.proofs.lemmas.List.{map-append}
 use Rattle.std.specs.Prelude.{option_to_list}
 use Rattle.eu_base.specs.declared.statuses.Status.{Status}
 use Rattle.eu_base.specs.declared.tasks.Task.{Task}
-use Rattle.eu_journal_values.specs.Answered.{◌>>=◌}
+use Rattle.eu_base.specs.Gives.{◌>>=◌}
 use Rattle.eu_journal.specs.Law.{bare, bare_line}
 use Rattle.eu_journal_values.specs.declared.faults.LineFault.{LineFault}
 use Rattle.eu_journal_values.specs.declared.faults.LineFault.TheVariants.{NotALine}
@@ -93,14 +93,14 @@ one_more : {A : Type 0} (f : A → JournalLine) (xs : List A) (x : A) → map f 
 one_more f xs x = append-nil (map f (xs ++ x ∷ [])) ∙ map-append f xs (x ∷ []) ∙ ap (λ (ls : List JournalLine). ls ++ f x ∷ []) (sym (append-nil (map f xs)))
 
 lease_lines : (h : Head) (ls : List Listed) (l : Listed) (rs : List (List ℕ × Status)) (qs : List Queue) (o : Option Queue) → rs ≡ [] → qs ≡ [] → o ≡ None
-    → state_lines (state_of (record { head = h; leases = ls ++ l ∷ []; rows = rs; queues = qs; newest = o })) ≡ state_lines (state_of (record { head = h; leases = ls; rows = rs; queues = qs; newest = o })) ++ line.Lease l ∷ []
+    → state_lines (state_of (record { head = h; leases = ls ++ l ∷ []; overrides = rs; queues = qs; newest = o })) ≡ state_lines (state_of (record { head = h; leases = ls; overrides = rs; queues = qs; newest = o })) ++ line.Lease l ∷ []
 lease_lines h ls l [] [] None r q n = ap (λ (xs : List JournalLine). line.Head h ∷ xs) (one_more line.Lease ls l)
 lease_lines h ls l [] [] (Some x) r q n = cc
 lease_lines h ls l [] (x ∷ qs) o r q n = cc
 lease_lines h ls l (x ∷ rs) qs o r q n = cc
 
 row_lines : (h : Head) (ls : List Listed) (rs : List (List ℕ × Status)) (row : List ℕ × Status) (qs : List Queue) (o : Option Queue) → qs ≡ [] → o ≡ None
-    → state_lines (state_of (record { head = h; leases = ls; rows = rs ++ row ∷ []; queues = qs; newest = o })) ≡ state_lines (state_of (record { head = h; leases = ls; rows = rs; queues = qs; newest = o })) ++ row_line row ∷ []
+    → state_lines (state_of (record { head = h; leases = ls; overrides = rs ++ row ∷ []; queues = qs; newest = o })) ≡ state_lines (state_of (record { head = h; leases = ls; overrides = rs; queues = qs; newest = o })) ++ row_line row ∷ []
 row_lines h ls rs row [] None q n =
     ap (λ (xs : List JournalLine). line.Head h ∷ (map line.Lease ls ++ xs)) (one_more row_line rs row)
     ∙ sym (append_assoc (line.Head h ∷ map line.Lease ls) (map row_line rs ++ []) (row_line row ∷ []))
@@ -109,16 +109,16 @@ row_lines h ls rs row (x ∷ qs) o q n = cc
 
 lease_told : (d e : Draft) (l : Listed) → state_more d (line.Lease l) ≡ Ok e → state_lines (state_of e) ≡ state_lines (state_of d) ++ line.Lease l ∷ []
 lease_told d e l is =
-    let so = if_ok (has_none d.rows && has_no_peers d) (record d { leases = d.leases ++ l ∷ [] }) e is in
-    let parts = and_parts (has_none d.rows) (has_no_peers d) so.0 in
+    let so = if_ok (has_none d.overrides && has_no_peers d) (record d { leases = d.leases ++ l ∷ [] }) e is in
+    let parts = and_parts (has_none d.overrides) (has_no_peers d) so.0 in
     let peers = and_parts (has_none d.queues) (not (is_some d.newest)) parts.1 in
-    ap (λ (x : Draft). state_lines (state_of x)) (sym so.1) ∙ lease_lines d.head d.leases l d.rows d.queues d.newest (none_nil d.rows parts.0) (none_nil d.queues peers.0) (no_newest d.newest peers.1)
+    ap (λ (x : Draft). state_lines (state_of x)) (sym so.1) ∙ lease_lines d.head d.leases l d.overrides d.queues d.newest (none_nil d.overrides parts.0) (none_nil d.queues peers.0) (no_newest d.newest peers.1)
 
 row_told : (d e : Draft) (id : List ℕ) (status : Status) → state_more d (line.Row id status) ≡ Ok e → state_lines (state_of e) ≡ state_lines (state_of d) ++ line.Row id status ∷ []
 row_told d e id status is =
-    let so = if_ok (has_no_peers d) (record d { rows = d.rows ++ (id, status) ∷ [] }) e is in
+    let so = if_ok (has_no_peers d) (record d { overrides = d.overrides ++ (id, status) ∷ [] }) e is in
     let peers = and_parts (has_none d.queues) (not (is_some d.newest)) so.0 in
-    ap (λ (x : Draft). state_lines (state_of x)) (sym so.1) ∙ row_lines d.head d.leases d.rows (id, status) d.queues d.newest (none_nil d.queues peers.0) (no_newest d.newest peers.1)
+    ap (λ (x : Draft). state_lines (state_of x)) (sym so.1) ∙ row_lines d.head d.leases d.overrides (id, status) d.queues d.newest (none_nil d.queues peers.0) (no_newest d.newest peers.1)
 
 peer_told : (d : Draft) → state_lines (state_of (record d { queues = d.queues ++ option_to_list d.newest; newest = Some idle })) ≡ state_lines (state_of d) ++ line.Peer ∷ []
 peer_told d = rw (queues_lines-append (d.queues ++ option_to_list d.newest) (idle ∷ [])) (simp append_assoc)
@@ -138,8 +138,8 @@ newest_told : (d : Draft) (q more : Queue) (l : JournalLine) → d.newest ≡ So
 newest_told d q more l is lines =
     let grown : queues_lines (d.queues ++ more ∷ []) ≡ queues_lines (d.queues ++ option_to_list d.newest) ++ l ∷ [] =
     queue_told d.queues q more l lines ∙ ap (λ (o : Option Queue). queues_lines (d.queues ++ option_to_list o) ++ l ∷ []) (sym is) in
-    ap (λ (ls : List JournalLine). line.Head d.head ∷ (map line.Lease d.leases ++ (map row_line d.rows ++ ls))) grown
-    ∙ behind_both (line.Head d.head ∷ map line.Lease d.leases) (map row_line d.rows) (queues_lines (d.queues ++ option_to_list d.newest)) l
+    ap (λ (ls : List JournalLine). line.Head d.head ∷ (map line.Lease d.leases ++ (map row_line d.overrides ++ ls))) grown
+    ∙ behind_both (line.Head d.head ∷ map line.Lease d.leases) (map row_line d.overrides) (queues_lines (d.queues ++ option_to_list d.newest)) l
 
 waiting_lines : (ws fs : List Task) (t : Task) → fs ≡ [] → queue_lines (record { waiting = ws ++ t ∷ []; flight = fs }) ≡ queue_lines (record { waiting = ws; flight = fs }) ++ line.Waiting t ∷ []
 waiting_lines ws [] t none = ap (λ (xs : List JournalLine). line.Peer ∷ xs) (one_more line.Waiting ws t)

@@ -9,7 +9,7 @@ use Rattle.eu_model.specs.declared.commands.Reply.TheVariants as reply
 use Rattle.eu_model.specs.declared.queues.Queue.{Queue}
 use Rattle.eu_model.specs.declared.states.State.{State}
 use Rattle.eu_model.specs.declared.views.Listed.{Listed}
-use Rattle.eu_journal_values.specs.Answered.{◌>>=◌}
+use Rattle.eu_base.specs.Gives.{◌>>=◌}
 use Rattle.eu_journal_values.specs.declared.faults.LineFault.{LineFault}
 use Rattle.eu_journal_values.specs.declared.faults.LineFault.TheVariants.{NotALine, OutOfMemory}
 use Rattle.eu_journal.specs.declared.lines.Head.{Head}
@@ -30,7 +30,7 @@ Becomes (Err f) new defined = (f ≡ OutOfMemory) ⊎ (defined ≡ Err f)
 pub record Draft : Type 0 where
   pub head : Head
   pub leases : List Listed
-  pub rows : List (List ℕ × Status)
+  pub overrides : List (List ℕ × Status)
   pub queues : List Queue
   pub newest : Option Queue
 
@@ -40,7 +40,7 @@ state_of d = record {
   config = d.head.config;
   expected = d.head.expected;
   leases = d.leases;
-  rows = d.rows;
+  overrides = d.overrides;
   last = d.head.last;
   since = d.head.since;
   previous = d.head.previous;
@@ -49,7 +49,7 @@ state_of d = record {
 
 -- after the first line
 abbrev pub begun : Head → Draft
-begun h = record { head = h; leases = []; rows = []; queues = []; newest = None }
+begun h = record { head = h; leases = []; overrides = []; queues = []; newest = None }
 
 abbrev pub has_none : {A : Type 0} → List A → Bool
 has_none xs = length xs == 0
@@ -71,8 +71,8 @@ flies_more (Some q) t = Ok (record q { flight = q.flight ++ t ∷ [] })
 
 -- Leases come before rows, and rows before peers
 abbrev pub state_more : Draft → JournalLine → Result Draft LineFault
-state_more d (line.Lease l) = if has_none d.rows && has_no_peers d then Ok (record d { leases = d.leases ++ l ∷ [] }) else Err NotALine
-state_more d (line.Row id status) = if has_no_peers d then Ok (record d { rows = d.rows ++ (id, status) ∷ [] }) else Err NotALine
+state_more d (line.Lease l) = if has_none d.overrides && has_no_peers d then Ok (record d { leases = d.leases ++ l ∷ [] }) else Err NotALine
+state_more d (line.Row id status) = if has_no_peers d then Ok (record d { overrides = d.overrides ++ (id, status) ∷ [] }) else Err NotALine
 state_more d line.Peer = Ok (record d { queues = d.queues ++ option_to_list d.newest; newest = Some idle })
 state_more d (line.Waiting t) = waits_more d.newest t >>= (λ q. Ok (record d { newest = Some q }))
 state_more d (line.Flight t) = flies_more d.newest t >>= (λ q. Ok (record d { newest = Some q }))

@@ -1,6 +1,6 @@
 -- How far a journal was read, and which line may follow
 use Rattle.std.specs.Prelude.{Option, Some, None, [], ◌∷◌, ◌++◌, Result, Ok, Err}
-use Rattle.eu_journal_values.specs.Answered.{◌>>=◌}
+use Rattle.eu_base.specs.Gives.{◌>>=◌}
 use Rattle.eu_journal_values.specs.declared.faults.LineFault.{LineFault}
 use Rattle.eu_journal_values.specs.declared.faults.LineFault.TheVariants.{NotALine}
 use Rattle.eu_journal.specs.declared.lines.Head.{Head}

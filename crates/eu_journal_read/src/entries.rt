@@ -3,10 +3,10 @@ ghost use Rattle.std.specs.Prelude.{◌≡◌};
 ghost use Rattle.eu_journal_values.specs.Answered.{Gives};
 ghost use Rattle.eu_journal_read.specs.Drafts.{Becomes, answered, completed, entry_more, is_batch, is_eviction};
 
-use eu_base::{Key, Moment, Task};
+use eu_base::{Key, Keys, Moment, Task, Tasks};
 use eu_journal::JournalLine;
 use eu_journal_values::LineFault;
-use eu_model::{Command, Entry, Keys, Reply, Tasks};
+use eu_model::{Command, Entry, Reply};
 use std::alloc::Global;
 use std::marker::Model;
 

@@ -3,10 +3,10 @@ ghost use Rattle.std.specs.Prelude.{◌≡◌, ◌++◌, IfOk, None, Some, optio
 ghost use Rattle.eu_journal_values.specs.Answered.{Gives};
 ghost use Rattle.eu_journal_read.specs.Drafts.{begun, flies_more, has_no_peers, idle, state_more, state_of, waits_more};
 
-use eu_base::{Id, Status, Task};
+use eu_base::{Id, Status, Task, Tasks};
 use eu_journal::{Head, JournalLine};
 use eu_journal_values::LineFault;
-use eu_model::{Listed, Listing, Queue, Queues, Rows, State, Tasks};
+use eu_model::{Listed, Listing, OverrideRows, Queue, Queues, State};
 use std::alloc::{AllocFailed, Global};
 use std::marker::Model;
 
@@ -74,7 +74,7 @@ impl QueueDraft {
 pub struct StateDraft {
     head: Head,
     leases: Vec<Listed>,
-    rows: Vec<(Id, Status)>,
+    overrides: Vec<(Id, Status)>,
     queues: Vec<Queue>,
     newest: Option<QueueDraft>,
 }
@@ -91,7 +91,7 @@ impl Model for StateDraft {
 
     ghost coded = { Prim.hlevel (codes, head_line.the_row.coded, listed.the_row.coded, queue.the_row.coded, status.the_row.coded) };
 
-    ghost view = { λ d. record { head = d.head; leases = d.leases.items; rows = d.rows.items; queues = d.queues.items; newest = d.newest } };
+    ghost view = { λ d. record { head = d.head; leases = d.leases.items; overrides = d.overrides.items; queues = d.queues.items; newest = d.newest } };
 }
 
 impl StateDraft {
@@ -102,7 +102,7 @@ impl StateDraft {
         StateDraft {
             head,
             leases: Vec::new(alloc),
-            rows: Vec::new(alloc),
+            overrides: Vec::new(alloc),
             queues: Vec::new(alloc),
             newest: None,
         }
@@ -119,7 +119,7 @@ impl StateDraft {
     fn lease(mut self, listed: Listed) -> Result<StateDraft, LineFault>
         ensures { Gives result (state_more self (JournalLine.Lease listed)) }
     {
-        if !self.rows.is_empty() || !self.has_no_peers() {
+        if !self.overrides.is_empty() || !self.has_no_peers() {
             return Err(LineFault::NotALine);
         }
         self.leases.push(listed)?;
@@ -133,7 +133,7 @@ impl StateDraft {
         if !self.has_no_peers() {
             return Err(LineFault::NotALine);
         }
-        self.rows.push((id, status))?;
+        self.overrides.push((id, status))?;
         Ok(self)
     }
 
@@ -199,7 +199,7 @@ impl StateDraft {
             config: head.config,
             expected: head.expected,
             leases: Listing::new(settled.leases),
-            rows: Rows::new(settled.rows),
+            overrides: OverrideRows::new(settled.overrides),
             last: head.last,
             since: head.since,
             previous: head.previous,

@@ -1,7 +1,7 @@
 -- What the text of a line says
 use Rattle.std.specs.Prelude.{◌≡◌, ℕ, List, Some, Result, Ok}
 use Rattle.serde_json.specs.Read.{read}
-use Rattle.eu_journal_values.specs.Answered.{◌>>=◌}
+use Rattle.eu_base.specs.Gives.{◌>>=◌}
 use Rattle.eu_journal.specs.Law.{IsLine, bare_line}
 use Rattle.eu_journal.specs.LineReading.{line_of}
 use Rattle.eu_journal.specs.Lines.{line_tree}

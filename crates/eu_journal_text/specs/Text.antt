@@ -34,7 +34,7 @@ queues_lines [] = []
 queues_lines (q ∷ qs) = queue_lines q ++ queues_lines qs
 
 abbrev pub state_lines : State → List JournalLine
-state_lines s = line.Head (head_of s) ∷ (map line.Lease s.leases ++ (map row_line s.rows ++ queues_lines s.queues))
+state_lines s = line.Head (head_of s) ∷ (map line.Lease s.leases ++ (map row_line s.overrides ++ queues_lines s.queues))
 
 -- ---- entries
 

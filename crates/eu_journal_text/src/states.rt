@@ -34,11 +34,11 @@ fn push_leases(alloc: Global, out: &mut String, leases: &[Listed]) -> Result<(),
 
 /// Puts a line for each override row at the end.
 #[tactic(auto, unfolding(crate::specs::Text::line_text, crate::specs::Text::IsReadBack))]
-fn push_rows(alloc: Global, out: &mut String, rows: &[(Id, Status)]) -> Result<(), AllocError>
-    ensures text { OnOk result (string_bytes out.new ≡ string_bytes out.old ++ lines_text (map row_line rows.now)) }
-    ensures back { OnOk result (AllByRecursion IsReadBack (map row_line rows.now)) }
+fn push_rows(alloc: Global, out: &mut String, overrides: &[(Id, Status)]) -> Result<(), AllocError>
+    ensures text { OnOk result (string_bytes out.new ≡ string_bytes out.old ++ lines_text (map row_line overrides.now)) }
+    ensures back { OnOk result (AllByRecursion IsReadBack (map row_line overrides.now)) }
 {
-    for row in rows {
+    for row in overrides {
         let line = row_value(alloc, &row.0, row.1)?;
         push_line(alloc, out, &line)?;
     }
@@ -145,10 +145,10 @@ fn push_head(alloc: Global, out: &mut String, state: &State) -> Result<(), Alloc
 /// Puts the lines of a state's rows and of its peers at the end.
 #[tactic(auto, using(crate::proofs::PutLemmas::put_two, crate::proofs::PutLemmas::all_append))]
 fn push_rows_and_queues(alloc: Global, out: &mut String, state: &State) -> Result<(), AllocError>
-    ensures text { OnOk result (string_bytes out.new ≡ string_bytes out.old ++ lines_text (map row_line state.now.rows ++ queues_lines state.now.queues)) }
-    ensures back { OnOk result (AllByRecursion IsReadBack (map row_line state.now.rows ++ queues_lines state.now.queues)) }
+    ensures text { OnOk result (string_bytes out.new ≡ string_bytes out.old ++ lines_text (map row_line state.now.overrides ++ queues_lines state.now.queues)) }
+    ensures back { OnOk result (AllByRecursion IsReadBack (map row_line state.now.overrides ++ queues_lines state.now.queues)) }
 {
-    push_rows(alloc, out, state.rows.as_slice())?;
+    push_rows(alloc, out, state.overrides.as_slice())?;
     push_queues(alloc, out, state.queues.as_slice())
 }
 

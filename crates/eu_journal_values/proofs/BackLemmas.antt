@@ -6,10 +6,8 @@ use Rattle.std.proofs.lemmas.Bool.{lt-ltb, le-leb}
 use Rattle.serde_json.specs.Data.{Data}
 use Rattle.serde_json.specs.Find.{get}
 use Rattle.serde_json.specs.View.{items_of}
-use Rattle.eu_base.specs.Action.{action_name, action_of}
+use Rattle.eu_base.specs.Values.{action_name, action_of, settings_from, status_name, status_of}
 use Rattle.eu_base.specs.Rest.{IsRest}
-use Rattle.eu_base.specs.Settings.{settings_from}
-use Rattle.eu_base.specs.Status.{status_name, status_of}
 use Rattle.eu_base.specs.declared.instances.Instance.{Instance}
 use Rattle.eu_base.specs.declared.names.Key.{Key}
 use Rattle.eu_base.specs.declared.settings.Config.{Config}
@@ -18,11 +16,12 @@ use Rattle.eu_base.specs.declared.statuses.Status.TheVariants.{Up, Down, Startin
 use Rattle.eu_base.specs.declared.tasks.Action.{Action}
 use Rattle.eu_base.specs.declared.tasks.Action.TheVariants.{Register, Heartbeat, Cancel, StatusUpdate, DeleteStatusOverride}
 use Rattle.eu_base.specs.declared.tasks.Task.{Task}
-use Rattle.eu_journal_values.specs.Answered.{◌>>=◌}
-use Rattle.eu_journal_values.specs.Limits.{IsCode, IsConfig, IsInstance, IsKey, IsName, IsStamp, IsTask}
+use Rattle.eu_base.specs.Gives.{◌>>=◌}
+use Rattle.eu_journal_values.specs.Commands.{IsCode, codes_of}
+use Rattle.eu_journal_values.specs.Limits.{IsConfig, IsInstance, IsKey, IsName, IsStamp, IsTask}
 use Rattle.eu_journal_values.specs.Trees.{config_tree, instance_tree, key_tree, optional, rest_tree, status_tree, task_rest, task_tree, whole_number}
 use Rattle.eu_journal_values.specs.Members.{below_32, lease_secs_of, moment_in, moment_of, needed, optional_in, renewal_secs_of, stamp_in, stamp_of, status_in}
-use Rattle.eu_journal_values.specs.Reading.{app_of, codes_of, config_from, instance_from, instance_in, key_in, key_of, name_of, optional_instance_in, rest_of, task_of}
+use Rattle.eu_journal_values.specs.Reading.{app_of, config_from, instance_from, instance_in, key_in, key_of, name_of, optional_instance_in, rest_of, task_of}
 use Rattle.eu_journal_values.specs.declared.faults.LineFault.{LineFault}
 
 pub step : {A B : Type 0} (r : Result A LineFault) (f : A → Result B LineFault) (x : A) → r ≡ Ok x → (r >>= f) ≡ f x
@@ -107,7 +106,7 @@ from_instance i is =
     step (key_in (instance_tree i)) _ i.key (key_back (instance_tree i) i.key refl is.key)
     ∙ step (needed (status_of (status_name i.status))) _ i.status (status_back i.status)
     ∙ step (needed (status_of (status_name i.overridden))) _ i.overridden (status_back i.overridden)
-    ∙ step (stamp_of i.dirty) _ i.dirty (rw (lt-ltb i.dirty (2 ^ 63) is.dirty) refl)
+    ∙ step (stamp_of i.last_dirty) _ i.last_dirty (rw (lt-ltb i.last_dirty (2 ^ 63) is.last_dirty) refl)
     ∙ step (below_32 i.secs >>= lease_secs_of) _ i.secs (lease_secs_back i.secs is.secs)
     ∙ step (below_32 i.interval >>= renewal_secs_of) _ i.interval (renewal_secs_back i.interval is.interval)
     ∙ step (rest_of i.rest) _ i.rest (rest_back i.rest is.rest)

@@ -1,8 +1,8 @@
 -- Codes that are read one after another
 use Rattle.std.proofs.Common.{◌≡◌, ℕ, List, [], ◌∷◌, ◌++◌, Result, Ok, Err, refl, sym, ap, append_assoc}
 use Rattle.serde_json.specs.Data.{Data, Items, item}
-use Rattle.eu_journal_values.specs.Answered.{◌>>=◌}
-use Rattle.eu_journal_values.specs.Reading.{code_of, codes_of}
+use Rattle.eu_base.specs.Gives.{◌>>=◌}
+use Rattle.eu_journal_values.specs.Commands.{code_of, codes_of}
 use Rattle.eu_journal_values.specs.declared.faults.LineFault.{LineFault}
 
 -- what was read before, and what is read of the rest

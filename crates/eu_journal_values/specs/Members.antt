@@ -2,11 +2,11 @@
 use Rattle.std.specs.Prelude.{ℕ, Bool, List, ◌^◌, Option, Some, None, Result, Ok, Err, nat_lt, nat_le, ◌&&◌, if◌then◌else◌, ok_or, option_and_then}
 use Rattle.serde_json.specs.Data.{Data, null}
 use Rattle.serde_json.specs.Find.{get, as_bool, as_number, as_str, as_u64}
-use Rattle.eu_base.specs.Action.{action_of}
-use Rattle.eu_base.specs.Status.{status_of}
+use Rattle.eu_base.specs.Values.{action_of, status_of}
 use Rattle.eu_base.specs.declared.statuses.Status.{Status}
 use Rattle.eu_base.specs.declared.tasks.Action.{Action}
-use Rattle.eu_journal_values.specs.Answered.{◌>>=◌}
+use Rattle.eu_base.specs.Limits.{last_moment, longest_lease}
+use Rattle.eu_base.specs.Gives.{◌>>=◌}
 use Rattle.eu_journal_values.specs.declared.faults.LineFault.{LineFault}
 use Rattle.eu_journal_values.specs.declared.faults.LineFault.TheVariants.{NotALine}
 
@@ -36,7 +36,7 @@ small_in name d = number_in name d >>= below_32
 
 -- a moment is at most 2^62
 abbrev pub moment_of : ℕ → Result ℕ LineFault
-moment_of n = if nat_le n (2 ^ 62) then Ok n else Err NotALine
+moment_of n = if nat_le n last_moment then Ok n else Err NotALine
 
 abbrev pub moment_in : List ℕ → Data → Result ℕ LineFault
 moment_in name d = number_in name d >>= moment_of
@@ -50,7 +50,7 @@ stamp_in name d = number_in name d >>= stamp_of
 
 -- a lease lasts 1 to 2,147,483 s
 abbrev pub lease_secs_of : ℕ → Result ℕ LineFault
-lease_secs_of n = if nat_le 1 n && nat_le n 2147483 then Ok n else Err NotALine
+lease_secs_of n = if nat_le 1 n && nat_le n longest_lease then Ok n else Err NotALine
 
 abbrev pub lease_secs_in : List ℕ → Data → Result ℕ LineFault
 lease_secs_in name d = small_in name d >>= lease_secs_of

@@ -121,7 +121,7 @@ pub fn instance_from(alloc: Global, rest: &Value, object: &Value) -> Result<Inst
     let key = key_in(alloc, object)?;
     let status = status_in(object, "status")?;
     let overridden = status_in(object, "overridden")?;
-    let dirty = stamp_in(object, "dirty")?;
+    let last_dirty = stamp_in(object, "dirty")?;
     let secs = lease_secs_in(object, "secs")?;
     let interval = renewal_secs_in(object, "interval")?;
     let rest = rest_of(alloc, rest)?;
@@ -129,7 +129,7 @@ pub fn instance_from(alloc: Global, rest: &Value, object: &Value) -> Result<Inst
         key,
         status,
         overridden,
-        dirty,
+        last_dirty,
         secs,
         interval,
         rest,

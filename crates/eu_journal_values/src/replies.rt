@@ -2,15 +2,14 @@
 ghost use Rattle.std.specs.Prelude.{◌≡◌, IfOk};
 ghost use Rattle.serde_json.specs.View.{view};
 ghost use Rattle.eu_journal_values.specs.Answered.{Gives};
-ghost use Rattle.eu_journal_values.specs.Reading.{conflict_of, expected_of, last_of, registered_of, reply_named, reply_of};
-ghost use Rattle.eu_journal_values.specs.Trees.{reply_tree};
+ghost use Rattle.eu_journal_values.specs.Replies.{conflict_of, expected_of, last_of, registered_of, reply_named, reply_of, reply_tree};
 
 use crate::faults::LineFault;
 use crate::members::{number_in, text_in, truth_in};
 use crate::read::instance_in;
 use crate::write::instance_value;
-use eu_base::{BoxedInstance, Instance};
-use eu_model::{Keys, Reply, Tasks};
+use eu_base::{BoxedInstance, Instance, Keys, Tasks};
+use eu_model::Reply;
 use serde_json::{Value, json};
 use std::alloc::{AllocError, Global};
 
@@ -44,7 +43,7 @@ pub fn reply_value(alloc: Global, reply: &Reply) -> Result<Value, AllocError>
 }
 
 /// The answer to a registration. `NotALine` where it is none.
-#[tactic(auto, unfolding(crate::specs::Reading::registered_of))]
+#[tactic(auto, unfolding(crate::specs::Replies::registered_of))]
 fn registered_of(object: &Value) -> Result<Reply, LineFault>
     ensures { Gives result (registered_of (view object.now)) }
 {
@@ -53,7 +52,7 @@ fn registered_of(object: &Value) -> Result<Reply, LineFault>
 }
 
 /// The conflict of an object, and its instance's rest. `NotALine` where it is none; `OutOfMemory`.
-#[tactic(auto, unfolding(crate::specs::Reading::conflict_of))]
+#[tactic(auto, unfolding(crate::specs::Replies::conflict_of))]
 fn conflict_of(alloc: Global, rest: &Value, object: &Value) -> Result<Reply, LineFault>
     ensures { Gives result (conflict_of (view rest.now) (view object.now)) }
 {
@@ -62,7 +61,7 @@ fn conflict_of(alloc: Global, rest: &Value, object: &Value) -> Result<Reply, Lin
 }
 
 /// The answer to the end of a minute. `NotALine` where it is none.
-#[tactic(auto, unfolding(crate::specs::Reading::last_of))]
+#[tactic(auto, unfolding(crate::specs::Replies::last_of))]
 fn last_of(object: &Value) -> Result<Reply, LineFault>
     ensures { Gives result (last_of (view object.now)) }
 {
@@ -71,7 +70,7 @@ fn last_of(object: &Value) -> Result<Reply, LineFault>
 }
 
 /// The answer to an update. `NotALine` where it is none.
-#[tactic(auto, unfolding(crate::specs::Reading::expected_of))]
+#[tactic(auto, unfolding(crate::specs::Replies::expected_of))]
 fn expected_of(object: &Value) -> Result<Reply, LineFault>
     ensures { Gives result (expected_of (view object.now)) }
 {
@@ -99,7 +98,7 @@ fn reply_named(alloc: Global, name: &str, rest: &Value, object: &Value) -> Resul
 }
 
 /// The reply of an object, and its instance's rest. `NotALine` where it is none; `OutOfMemory`.
-#[tactic(auto, unfolding(crate::specs::Reading::reply_of))]
+#[tactic(auto, unfolding(crate::specs::Replies::reply_of))]
 pub fn reply_of(alloc: Global, rest: &Value, object: &Value) -> Result<Reply, LineFault>
     ensures { Gives result (reply_of (view rest.now) (view object.now)) }
 {

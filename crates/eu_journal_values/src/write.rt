@@ -74,7 +74,7 @@ pub fn instance_value(alloc: Global, instance: &Instance) -> Result<Value, Alloc
 {
     let key = key_value(alloc, &instance.key)?;
     json!(in alloc; {
-        "dirty": instance.dirty.value(),
+        "dirty": instance.last_dirty.value(),
         "interval": instance.interval.secs(),
         "key": key,
         "overridden": instance.overridden.name(),

@@ -9,16 +9,15 @@ use Rattle.std.proofs.lemmas.Slice.Eq.{bytes_eq-Decides}
 use Rattle.serde_json.specs.Data.{Data, string, object, Members}
 use Rattle.serde_json.specs.Find.{get, get_member}
 use Rattle.serde_json.specs.Written.{has_float, members_have_float}
-use Rattle.eu_base.specs.Status.{status_name}
+use Rattle.eu_base.specs.Values.{status_name}
 use Rattle.eu_base.specs.declared.faults.Fault.{Fault}
 use Rattle.eu_base.specs.declared.faults.Fault.TheVariants.{MissingApp, WrongApp}
 use Rattle.eu_base.specs.declared.instances.Instance.{Instance}
 use Rattle.eu_base.specs.declared.statuses.Status.{Status}
 use Rattle.eu_base.specs.declared.statuses.Status.TheVariants.{Up, Down, Starting, OutOfService, Unknown}
-use Rattle.eu_json.specs.Gives.{◌>>=◌}
-use Rattle.eu_json.specs.Members.{text_at, is_blank}
+use Rattle.eu_base.specs.Gives.{◌>>=◌}
+use Rattle.eu_json.specs.Tree.{text_at, is_blank, instance_tree, lease_tree}
 use Rattle.eu_json.specs.Reading.{address_stands, alike, app_stands, center_stands, interval_in, first_of, lease_member, name_of, of_member, of_object, overridden_at, rest_of, secs_in, short, stamp_in, status_in}
-use Rattle.eu_json.specs.Tree.{instance_tree, lease_tree}
 use Rattle.eu_json.proofs.KeptLemmas.{Lacks, buts_puts, puts, puts_get, set_last}
 use Rattle.eu_json.proofs.SaidLemmas.{IsSaid, address_by, center_by, name_by, own_names, text_by}
 use Rattle.eu_json.proofs.TreeLemmas.{whole_lease, whole_put}
@@ -65,7 +64,7 @@ app_by app filled =
 
 abbrev sets : Instance → List (List ℕ × Data)
 sets i =
-    (codes "app", string i.key.app) ∷ (codes "instanceId", string i.key.id) ∷ (codes "lastDirtyTimestamp", string (decimal i.dirty))
+    (codes "app", string i.key.app) ∷ (codes "instanceId", string i.key.id) ∷ (codes "lastDirtyTimestamp", string (decimal i.last_dirty))
     ∷ (codes "leaseInfo", lease_tree i None) ∷ (codes "overriddenStatus", string (status_name i.overridden)) ∷ (codes "status", string (status_name i.status)) ∷ []
 
 abbrev written : Instance → Members → Members
@@ -98,14 +97,14 @@ name_back i ms said =
     let id : text_at (codes "instanceId") (object (written i ms)) ≡ i.key.id = ap text_by (got (codes "instanceId") i ms) in
     (λ t. name_by (host t) (id t)) ∙ names_back _ i.key.id said.host said.id_filled
 
-of_object_back : (i : Instance) (moment : ℕ) (ms : Members) → IsSaid i ms → i.dirty < 2 ^ 63 → is_blank i.key.app ≡ false → of_object i.key.app moment (object (written i ms)) ≡ Ok i
+of_object_back : (i : Instance) (moment : ℕ) (ms : Members) → IsSaid i ms → i.last_dirty < 2 ^ 63 → is_blank i.key.app ≡ false → of_object i.key.app moment (object (written i ms)) ≡ Ok i
 unfolding of_object
 of_object_back i moment ms said stamp filled =
     let address : address_stands (object (written i ms)) ≡ Ok tt = ap address_by (got (codes "ipAddr") i ms) ∙ said.address in
     let center : center_stands (object (written i ms)) ≡ Ok tt = ap center_by (got (codes "dataCenterInfo") i ms) ∙ said.center in
     let own : app_stands i.key.app (object (written i ms)) ≡ Ok tt =
     ap (λ d. app_check (text_by d) i.key.app) (got (codes "app") i ms) ∙ app_by i.key.app filled in
-    let dirty : stamp_in moment (get (codes "lastDirtyTimestamp") (object (written i ms))) ≡ Ok i.dirty = ap (stamp_in moment) (got (codes "lastDirtyTimestamp") i ms) ∙ dirty_back moment i.dirty stamp in
+    let last_dirty : stamp_in moment (get (codes "lastDirtyTimestamp") (object (written i ms))) ≡ Ok i.last_dirty = ap (stamp_in moment) (got (codes "lastDirtyTimestamp") i ms) ∙ dirty_back moment i.last_dirty stamp in
     let secs : secs_in (lease_member (codes "durationInSecs") (object (written i ms))) ≡ Ok i.secs =
     ap (λ d. secs_in (option_and_then (get (codes "durationInSecs")) d)) (got (codes "leaseInfo") i ms) ∙ said.secs in
     let interval : interval_in (lease_member (codes "renewalIntervalInSecs") (object (written i ms))) ≡ i.interval =
@@ -119,11 +118,11 @@ of_object_back i moment ms said stamp filled =
     ∙ step (app_stands i.key.app (object (written i ms))) _ tt own
     ∙ step (center_stands (object (written i ms))) _ tt center
     ∙ step (short i.key.id) _ i.key.id said.id_short
-    ∙ step (stamp_in moment (get (codes "lastDirtyTimestamp") (object (written i ms)))) _ i.dirty dirty
+    ∙ step (stamp_in moment (get (codes "lastDirtyTimestamp") (object (written i ms)))) _ i.last_dirty last_dirty
     ∙ step (secs_in (lease_member (codes "durationInSecs") (object (written i ms)))) _ i.secs secs
-    ∙ (λ t. Ok (record { key = i.key; status = status t; overridden = overridden t; dirty = i.dirty; secs = i.secs; interval = interval t; rest = rest t }))
+    ∙ (λ t. Ok (record { key = i.key; status = status t; overridden = overridden t; last_dirty = i.last_dirty; secs = i.secs; interval = interval t; rest = rest t }))
 
-pub instance_back : (i : Instance) (moment : ℕ) (ms : Members) → IsSaid i ms → i.dirty < 2 ^ 63 → is_blank i.key.app ≡ false
+pub instance_back : (i : Instance) (moment : ℕ) (ms : Members) → IsSaid i ms → i.last_dirty < 2 ^ 63 → is_blank i.key.app ≡ false
     → of_member i.key.app moment (has_float (instance_tree i None)) (Some (instance_tree i None)) ≡ Ok i
 instance_back i moment ms said stamp filled =
     ap (λ d. of_member i.key.app moment (has_float d) (Some d)) (tree_is i ms said.rest)

@@ -7,8 +7,7 @@ use Rattle.serde_json.specs.Data.{Data, string, object, member}
 use Rattle.serde_json.specs.Events.{items_len}
 use Rattle.serde_json.specs.Read.{read}
 use Rattle.serde_json.specs.View.{items_of}
-use Rattle.eu_base.specs.Action.{action_name, action_of}
-use Rattle.eu_base.specs.Status.{status_name}
+use Rattle.eu_base.specs.Values.{action_name, action_of, status_name}
 use Rattle.eu_base.specs.declared.faults.Fault.TheVariants.{BadBatch}
 use Rattle.eu_base.specs.declared.instances.Instance.{Instance}
 use Rattle.eu_base.specs.declared.names.Key.{Key}
@@ -19,14 +18,13 @@ use Rattle.eu_base.specs.declared.tasks.Action.TheVariants.{Register, Heartbeat,
 use Rattle.eu_base.specs.declared.tasks.Task.{Task}
 use Rattle.eu_model.specs.declared.commands.Command.{Command}
 use Rattle.eu_model.specs.declared.commands.Command.TheVariants as command
-use Rattle.eu_json.specs.Batch.{action_in, app_within, command_of, instance_in, items_in, key_in, most_items, name_within, of_item, of_text, or_bad, status_given, status_needed}
+use Rattle.eu_json.specs.Batch.{action_in, app_within, command_of, instance_in, items_in, key_in, name_within, of_item, of_text, or_bad, status_given, status_needed, batch_tree, instance_members, task_tree}
+use Rattle.eu_base.specs.Limits.{most_sent}
 use Rattle.eu_json.specs.Batch as batch
 use Rattle.eu_json.specs.BatchLaw.{BatchesComeBack, HasParts, IsKey, IsRead, IsSound, asked_by, command_by}
-use Rattle.eu_json.specs.BatchTree.{batch_tree, instance_members, task_tree}
-use Rattle.eu_json.specs.Gives.{result_map}
-use Rattle.eu_json.specs.Members.{is_blank}
+use Rattle.eu_base.specs.Gives.{result_map}
+use Rattle.eu_json.specs.Tree.{is_blank, instance_tree}
 use Rattle.eu_json.specs.Reading.{stamp_in}
-use Rattle.eu_json.specs.Tree.{instance_tree}
 use Rattle.eu_json.proofs.BackLemmas.{dirty_back, instance_back, status_back, step}
 use Rattle.eu_json.proofs.SaidLemmas.{said}
 
@@ -89,16 +87,16 @@ command_back Register k status (Some i) key has =
     (command.Register i true, refl, λ moment. step (instance_in k.app moment (Some (instance_tree i None))) _ i (info_back moment k i key has.1.0 has.1.1))
 command_back Heartbeat k status None key has = absurd has.1
 command_back Heartbeat k status (Some i) key has =
-    (command.Renew k (Some i.dirty) (Some i.overridden) true, refl, λ moment. step _ _ (Some i.dirty) (stamp_back moment i.dirty has.1.1.0) ∙ ap (λ s. Ok (command.Renew k (Some i.dirty) s true)) (given_back i.overridden))
+    (command.Renew k (Some i.last_dirty) (Some i.overridden) true, refl, λ moment. step _ _ (Some i.last_dirty) (stamp_back moment i.last_dirty has.1.1.0) ∙ ap (λ s. Ok (command.Renew k (Some i.last_dirty) s true)) (given_back i.overridden))
 command_back Cancel k status instance key has = (command.Cancel k true, refl, λ moment. refl)
 command_back StatusUpdate k status None key has = absurd has.1
 command_back StatusUpdate k None (Some i) key has = absurd cc
 command_back StatusUpdate k (Some s) (Some i) key has =
-    (command.SetStatus k s (Some i.dirty) true, refl, λ moment. step _ _ s (needed_back s) ∙ step _ _ (Some i.dirty) (stamp_back moment i.dirty has.1.1.0))
+    (command.SetStatus k s (Some i.last_dirty) true, refl, λ moment. step _ _ s (needed_back s) ∙ step _ _ (Some i.last_dirty) (stamp_back moment i.last_dirty has.1.1.0))
 command_back DeleteStatusOverride k status None key has = absurd has.1
 command_back DeleteStatusOverride k None (Some i) key has = absurd cc
 command_back DeleteStatusOverride k (Some s) (Some i) key has =
-    (command.UnsetStatus k (Some s) (Some i.dirty) true, refl, λ moment. step _ _ (Some i.dirty) (stamp_back moment i.dirty has.1.1.0) ∙ ap (λ t. Ok (command.UnsetStatus k t (Some i.dirty) true)) (given_back s))
+    (command.UnsetStatus k (Some s) (Some i.last_dirty) true, refl, λ moment. step _ _ (Some i.last_dirty) (stamp_back moment i.last_dirty has.1.1.0) ∙ ap (λ t. Ok (command.UnsetStatus k t (Some i.last_dirty) true)) (given_back s))
 
 item_back : (t : Task) → IsSound t → (c : Command) × (asked_by t ≡ Some c) × ((moment : ℕ) → of_item moment (task_tree t) ≡ Ok c)
 unfolding of_item
@@ -129,12 +127,12 @@ as_many : (ts : List Task) → items_len (items_of (map task_tree ts)) ≡ lengt
 as_many [] = refl
 as_many (t ∷ ts) = ap (λ n. suc n) (as_many ts)
 
-list_back : (ts : List Task) → length ts ≤ most_items → items_in (batch_tree ts) ≡ Ok (items_of (map task_tree ts))
+list_back : (ts : List Task) → length ts ≤ most_sent → items_in (batch_tree ts) ≡ Ok (items_of (map task_tree ts))
 list_back ts few =
     let within : nat_lt 250 (items_len (items_of (map task_tree ts))) ≡ false = le-ltb 250 (items_len (items_of (map task_tree ts))) (omega (arith, as_many ts)) in
     rw within refl
 
-text_back : (moment : ℕ) (ts : List Task) (text : List ℕ) → length ts ≤ most_items → read text ≡ Some (batch_tree ts) → of_text moment text ≡ batch.of_items moment (items_of (map task_tree ts))
+text_back : (moment : ℕ) (ts : List Task) (text : List ℕ) → length ts ≤ most_sent → read text ≡ Some (batch_tree ts) → of_text moment text ≡ batch.of_items moment (items_of (map task_tree ts))
 unfolding of_text
 text_back moment ts text few got =
     step (ok_or (read text) BadBatch) _ (batch_tree ts) (ap (λ o. ok_or o BadBatch) got)

@@ -4,7 +4,7 @@ use Rattle.serde_json.specs.Data.{Data, Items, item}
 use Rattle.eu_base.specs.declared.faults.Fault.{Fault}
 use Rattle.eu_model.specs.declared.commands.Command.{Command}
 use Rattle.eu_json.specs.Batch.{of_item, of_items}
-use Rattle.eu_json.specs.Gives.{◌>>=◌, result_map}
+use Rattle.eu_base.specs.Gives.{◌>>=◌, result_map}
 
 -- what was read before, and what is read of the rest
 abbrev pub onto : List Command → Result (List Command) Fault → Result (List Command) Fault

@@ -9,7 +9,7 @@ use Rattle.std.proofs.lemmas.Slice.Eq.{bytes_eq-Decides}
 use Rattle.serde_json.specs.Data.{Data, Members, no_members, member, put}
 use Rattle.serde_json.specs.Find.{get_member}
 use Rattle.serde_json.proofs.Views.{get_member-put, get_member-put_other}
-use Rattle.eu_json.specs.Members.{but_member}
+use Rattle.eu_json.specs.Tree.{but_member}
 use Rattle.eu_json.proofs.MemberLemmas.{neither}
 use Rattle.eu_json.proofs.OrderLemmas.{IsBelow, MembersInOrder}
 

@@ -11,7 +11,7 @@ use Rattle.serde_json.specs.View.{view, members_view}
 use Rattle.serde_json.specs.Written.{has_float, members_have_float}
 use Rattle.serde_json.proofs.Views.{Entry}
 use Rattle.eu_base.specs.Rest.{IsRest}
-use Rattle.eu_json.specs.Members.{but_member, without}
+use Rattle.eu_json.specs.Tree.{but_member, without}
 
 step : (o : Ordering) (e : Entry) (es rest : List Entry) (ms : Members) → members_view rest ≡ ms → members_view (cond (is_eq o) es (e ∷ rest)) ≡ match_ordering o (member (string_bytes e.0) (view e.1) ms) (members_view es) (member (string_bytes e.0) (view e.1) ms)
 step Equal e es rest ms is = refl

@@ -8,8 +8,8 @@ use Rattle.serde_json.specs.Written.{has_float, members_have_float}
 use Rattle.eu_base.specs.declared.faults.Fault.{Fault}
 use Rattle.eu_base.specs.declared.faults.Fault.TheVariants.{MissingId, MissingHost, MissingIp, MissingCenter, MissingCenterName, NotJson, NotWhole, TooLong}
 use Rattle.eu_base.specs.declared.instances.Instance.{Instance}
-use Rattle.eu_json.specs.Gives.{◌>>=◌}
-use Rattle.eu_json.specs.Members.{text_at, is_blank}
+use Rattle.eu_base.specs.Gives.{◌>>=◌}
+use Rattle.eu_json.specs.Tree.{text_at, is_blank}
 use Rattle.eu_json.specs.Reading.{address_stands, app_stands, center_stands, digits_within, instance_of, interval_in, interval_within, lease_member, name_of, of_body, of_member, of_object, secs_digits, secs_in, secs_within, short, stamp_in}
 use Rattle.eu_json.proofs.KeptLemmas.{Lacks, buts, buts_other, buts_self}
 use Rattle.eu_json.proofs.MemberLemmas.{whole_get, whole_without}
@@ -108,8 +108,8 @@ said_of_object i app moment ms order whole is =
     let own = ok_step (app_stands app (object ms)) _ i address.2 in
     let center = ok_step (center_stands (object ms)) _ i own.2 in
     let id = ok_step (short name.0) _ i center.2 in
-    let dirty = ok_step (stamp_in moment (get (codes "lastDirtyTimestamp") (object ms))) _ i id.2 in
-    let secs = ok_step (secs_in (lease_member (codes "durationInSecs") (object ms))) _ i dirty.2 in
+    let last_dirty = ok_step (stamp_in moment (get (codes "lastDirtyTimestamp") (object ms))) _ i id.2 in
+    let secs = ok_step (secs_in (lease_member (codes "durationInSecs") (object ms))) _ i last_dirty.2 in
     let same = ok_same _ i secs.2 in
     let named : name.0 ≡ i.key.id = short_by (nat_lt 255 (length name.0)) name.0 id.0 id.1 ∙ ap (λ j. j.key.id) same in
     let filled = named_by (text_at (codes "hostName") (object ms)) (text_at (codes "instanceId") (object ms)) name.0 name.1 in

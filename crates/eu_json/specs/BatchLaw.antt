@@ -11,8 +11,9 @@ use Rattle.eu_base.specs.declared.tasks.Action.TheVariants as action
 use Rattle.eu_base.specs.declared.tasks.Task.{Task}
 use Rattle.eu_model.specs.declared.commands.Command.{Command}
 use Rattle.eu_model.specs.declared.commands.Command.TheVariants.{Register, Renew, Cancel, SetStatus, UnsetStatus}
-use Rattle.eu_json.specs.Batch.{batch_of, most_items}
-use Rattle.eu_json.specs.BatchTree.{batch_tree}
+use Rattle.eu_json.specs.Batch.{batch_of, batch_tree}
+use Rattle.eu_base.specs.Limits.{most_sent}
+use Rattle.eu_base.specs.Limits.{longest_name}
 use Rattle.eu_json.specs.Reading.{instance_of}
 
 -- ---- what a task asks its receiver for
@@ -21,10 +22,10 @@ use Rattle.eu_json.specs.Reading.{instance_of}
 -- None where one is needed that isn't there
 abbrev pub command_by : Action → Key → Option Status → Option Instance → Option Command
 command_by action.Register k status (Some i) = Some (Register i true)
-command_by action.Heartbeat k status (Some i) = Some (Renew k (Some i.dirty) (Some i.overridden) true)
+command_by action.Heartbeat k status (Some i) = Some (Renew k (Some i.last_dirty) (Some i.overridden) true)
 command_by action.Cancel k status instance = Some (Cancel k true)
-command_by action.StatusUpdate k (Some status) (Some i) = Some (SetStatus k status (Some i.dirty) true)
-command_by action.DeleteStatusOverride k status (Some i) = Some (UnsetStatus k status (Some i.dirty) true)
+command_by action.StatusUpdate k (Some status) (Some i) = Some (SetStatus k status (Some i.last_dirty) true)
+command_by action.DeleteStatusOverride k status (Some i) = Some (UnsetStatus k status (Some i.last_dirty) true)
 command_by _ k _ _ = None
 
 abbrev pub asked_by : Task → Option Command
@@ -35,14 +36,14 @@ asked_by t = command_by t.action t.key t.status t.instance
 -- names of 1 to 255 bytes, the ASCII letters of the application in capitals
 pub record IsKey (k : Key) : Type 0 where
   pub app_filled : 0 < length k.app
-  pub app_short : length k.app ≤ 255
+  pub app_short : length k.app ≤ longest_name
   pub in_capitals : str_to_ascii_uppercase k.app ≡ k.app
   pub id_filled : 0 < length k.id
-  pub id_short : length k.id ≤ 255
+  pub id_short : length k.id ≤ longest_name
 
 -- the instance is what some text says at some moment, and its stamp is below 2^63
 abbrev pub IsRead : Instance → Type 0
-IsRead i = (i.dirty < 2 ^ 63) × (text : List ℕ) × (moment : ℕ) × (instance_of i.key.app moment text ≡ Ok i)
+IsRead i = (i.last_dirty < 2 ^ 63) × (text : List ℕ) × (moment : ℕ) × (instance_of i.key.app moment text ≡ Ok i)
 
 -- there is an instance, with the task's key, and it is one that was read
 abbrev pub HasInstance : Key → Option Instance → Type 0
@@ -62,7 +63,7 @@ IsSound t = IsKey t.key × HasParts t.action t.key t.status t.instance
 
 -- no more tasks than a batch holds, each with what its action has
 pub record IsBatch (tasks : List Task) : Type 0 where
-  pub few : length tasks ≤ most_items
+  pub few : length tasks ≤ most_sent
   pub sound : AllByRecursion IsSound tasks
 
 -- ---- the law

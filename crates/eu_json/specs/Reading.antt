@@ -6,14 +6,15 @@ use Rattle.serde_json.specs.Data.{Num, unsigned, negative, float, Data, null, bo
 use Rattle.serde_json.specs.Find.{get, as_object, as_str}
 use Rattle.serde_json.specs.Read.{read}
 use Rattle.serde_json.specs.Written.{has_float}
-use Rattle.eu_base.specs.Status.{status_of}
+use Rattle.eu_base.specs.Values.{status_of}
 use Rattle.eu_base.specs.declared.faults.Fault.{Fault}
 use Rattle.eu_base.specs.declared.faults.Fault.TheVariants.{NotJson, NotWhole, MissingId, MissingHost, MissingIp, MissingApp, WrongApp, MissingCenter, MissingCenterName, TooLong, BadStamp, BadDuration}
 use Rattle.eu_base.specs.declared.instances.Instance.{Instance}
 use Rattle.eu_base.specs.declared.statuses.Status.{Status}
 use Rattle.eu_base.specs.declared.statuses.Status.TheVariants.{Up, Unknown}
-use Rattle.eu_json.specs.Gives.{◌>>=◌}
-use Rattle.eu_json.specs.Members.{text_at, is_blank, without}
+use Rattle.eu_base.specs.Limits.{longest_lease, longest_name}
+use Rattle.eu_base.specs.Gives.{◌>>=◌}
+use Rattle.eu_json.specs.Tree.{text_at, is_blank, without}
 
 -- up to so many decimal digits, and at least one
 abbrev pub digits_within : ℕ → List ℕ → Option ℕ
@@ -34,7 +35,7 @@ name_of i =
 
 -- a name has at most 255 bytes
 abbrev pub short : List ℕ → Result (List ℕ) Fault
-short name = if nat_lt 255 (length name) then Err TooLong else Ok name
+short name = if nat_lt longest_name (length name) then Err TooLong else Ok name
 
 -- ---- what must stand there
 
@@ -113,7 +114,7 @@ lease_member name i = option_and_then (get name) (get (codes "leaseInfo") i)
 
 -- 0 gives 90
 abbrev pub secs_within : ℕ → Result ℕ Fault
-secs_within n = if n == 0 then Ok 90 else if nat_le n 2147483 then Ok n else Err BadDuration
+secs_within n = if n == 0 then Ok 90 else if nat_le n longest_lease then Ok n else Err BadDuration
 
 -- and so does what is below 0
 abbrev pub secs_number : Num → Result ℕ Fault
@@ -170,13 +171,13 @@ of_object app moment i = do
   own ← app_stands app i
   center ← center_stands i
   id ← short name
-  dirty ← stamp_in moment (get (codes "lastDirtyTimestamp") i)
+  last_dirty ← stamp_in moment (get (codes "lastDirtyTimestamp") i)
   secs ← secs_in (lease_member (codes "durationInSecs") i)
   Ok (record {
     key = record { app = app; id = id };
     status = status_in Up (get (codes "status") i);
     overridden = status_in Unknown (overridden_at i);
-    dirty = dirty;
+    last_dirty = last_dirty;
     secs = secs;
     interval = interval_in (lease_member (codes "renewalIntervalInSecs") i);
     rest = rest_of i;

@@ -1,13 +1,41 @@
--- The JSON that is written for instances and listings
-use Rattle.std.specs.Prelude.{ℕ, Bool, List, [], ◌∷◌, map, Option, Some, None, if◌then◌else◌, decimal, codes}
-use Rattle.serde_json.specs.Data.{unsigned, Data, null, boolean, number, string, array, object, no_members, member, put}
+-- The trees of what is listed, with the members that the registry adds
+use Rattle.std.specs.Prelude.{ℕ, Bool, true, false, List, [], ◌∷◌, option_and_then, unwrap_or, map, Option, Some, None, if◌then◌else◌, decimal, codes}
+use Rattle.std.specs.Ordering.{nat_cmp, match_ordering}
+use Rattle.std.specs.Cmp.Lexicographic.{slice_cmp}
+use Rattle.serde_json.specs.Data.{Data, null, boolean, number, string, array, object, Members, no_members, member, unsigned, put}
+use Rattle.serde_json.specs.Find.{get, as_str}
 use Rattle.serde_json.specs.View.{items_of}
-use Rattle.eu_base.specs.Key.{name_eq}
-use Rattle.eu_base.specs.Status.{status_name}
+use Rattle.eu_base.specs.Values.{name_eq, status_name}
 use Rattle.eu_base.specs.declared.instances.Instance.{Instance}
 use Rattle.eu_model.specs.declared.views.Listed.{Listed}
 use Rattle.eu_model.specs.declared.views.Times.{Times}
 use Rattle.eu_model.specs.View.{hash_code}
+
+-- ---- members of a JSON object
+
+-- the text of a member; no byte where it is absent or no text
+abbrev pub text_at : List ℕ → Data → List ℕ
+text_at name d = unwrap_or (option_and_then as_str (get name d)) []
+
+abbrev pub is_blank : List ℕ → Bool
+is_blank [] = true
+is_blank (b ∷ bs) = false
+
+-- the members but the one of the name
+abbrev pub but_member : List ℕ → Members → Members
+but_member name no_members = no_members
+but_member name (member l d ms) = match_ordering (slice_cmp nat_cmp name l) (member l d (but_member name ms)) ms (member l d (but_member name ms))
+
+-- an object without the member of the name
+abbrev pub without : List ℕ → Data → Data
+without name null = null
+without name (boolean b) = boolean b
+without name (number n) = number n
+without name (string s) = string s
+without name (array ds) = array ds
+without name (object ms) = object (but_member name ms)
+
+-- ---- the JSON that is written for instances and listings
 
 -- an object with a member set, in its place by the order of the names
 abbrev pub with_member : List ℕ → Data → Data → Data
@@ -45,7 +73,7 @@ abbrev pub instance_tree : Instance → Option Times → Data
 instance_tree i times =
     with_member (codes "app") (string i.key.app)
     (with_member (codes "instanceId") (string i.key.id)
-    (with_member (codes "lastDirtyTimestamp") (string (decimal i.dirty))
+    (with_member (codes "lastDirtyTimestamp") (string (decimal i.last_dirty))
     (with_member (codes "leaseInfo") (lease_tree i times)
     (with_member (codes "overriddenStatus") (string (status_name i.overridden))
     (with_member (codes "status") (string (status_name i.status)) i.rest)))))

@@ -3,22 +3,21 @@ ghost use Rattle.std.specs.Prelude.{◌≡◌, ◌≢◌, [], codes, ok_or, opti
 ghost use Rattle.std.specs.Option.{option_map};
 ghost use Rattle.serde_json.specs.Find.{as_array, get};
 ghost use Rattle.serde_json.specs.View.{items_view, view};
-ghost use Rattle.eu_json.specs.Batch.{action_in, app_within, batch_of, command_of, dirty_in, given, instance_in, items_in, key_in, most_items, name_within, of_item, of_items, of_text, stamp_given, status_given, status_needed};
-ghost use Rattle.eu_json.specs.Gives.{Gives, result_map};
+ghost use Rattle.eu_json.specs.Batch.{action_in, app_within, batch_of, command_of, last_dirty_in, given, instance_in, items_in, key_in, name_within, of_item, of_items, of_text, stamp_given, status_given, status_needed};
+ghost use Rattle.eu_base.specs.Limits.{most_sent};
+ghost use Rattle.eu_base.specs.Gives.{Gives, result_map};
 
 use crate::members::{take, text_at};
 use crate::numbers::stamp_in;
 use crate::read::{of_object, parse};
 use crate::statuses::{status_in, status_known};
 use eu_base::{
-    Action, App, BoxedInstance, Fault, Id, Instance, Key, Moment, Stamp, Status, has_fraction,
+    Action, App, BoxedInstance, Fault, Id, Instance, Key, MOST_SENT, Moment, Stamp, Status,
+    has_fraction,
 };
 use eu_model::Command;
 use serde_json::Value;
 use std::alloc::Global;
-
-/// The most items of a batch.
-const MOST_ITEMS: usize = 250;
 
 /// A member that is there and isn't null.
 fn given(member: Option<&Value>) -> Option<&Value>
@@ -31,8 +30,8 @@ fn given(member: Option<&Value>) -> Option<&Value>
 }
 
 /// The stamp of an item, if one is given. `BadStamp` where it is none.
-fn dirty_in(item: &Value, moment: Moment) -> Result<Option<Stamp>, Fault>
-    ensures { result ≡ dirty_in moment (view item.now) }
+fn last_dirty_in(item: &Value, moment: Moment) -> Result<Option<Stamp>, Fault>
+    ensures { result ≡ last_dirty_in moment (view item.now) }
 {
     let Some(member) = given(item.get("lastDirtyTimestamp")) else {
         return Ok(None);
@@ -135,10 +134,10 @@ fn register_of(alloc: Global, item: Value, key: Key, moment: Moment) -> Result<C
 fn renew_of(item: &Value, key: Key, moment: Moment) -> Result<Command, Fault>
     ensures { Gives result (command_of moment (view item.now) key Action.Heartbeat) }
 {
-    let dirty = dirty_in(item, moment)?;
+    let last_dirty = last_dirty_in(item, moment)?;
     Ok(Command::Renew {
         key,
-        dirty,
+        last_dirty,
         overridden: status_given(item.get("overriddenStatus")),
         replicated: true,
     })
@@ -150,11 +149,11 @@ fn set_status_of(item: &Value, key: Key, moment: Moment) -> Result<Command, Faul
     ensures { Gives result (command_of moment (view item.now) key Action.StatusUpdate) }
 {
     let status = status_needed(item.get("status"))?;
-    let dirty = dirty_in(item, moment)?;
+    let last_dirty = last_dirty_in(item, moment)?;
     Ok(Command::SetStatus {
         key,
         status,
-        dirty,
+        last_dirty,
         replicated: true,
     })
 }
@@ -164,11 +163,11 @@ fn set_status_of(item: &Value, key: Key, moment: Moment) -> Result<Command, Faul
 fn unset_status_of(item: &Value, key: Key, moment: Moment) -> Result<Command, Fault>
     ensures { Gives result (command_of moment (view item.now) key Action.DeleteStatusOverride) }
 {
-    let dirty = dirty_in(item, moment)?;
+    let last_dirty = last_dirty_in(item, moment)?;
     Ok(Command::UnsetStatus {
         key,
         status: status_given(item.get("status")),
-        dirty,
+        last_dirty,
         replicated: true,
     })
 }
@@ -216,7 +215,7 @@ fn array_of(value: Value) -> Option<Vec<Value>>
     }
 }
 
-/// The items of a body. `BadBatch` where its member `replicationList` isn't a list of at most `MOST_ITEMS`.
+/// The items of a body. `BadBatch` where its member `replicationList` isn't a list of at most `MOST_SENT`.
 fn items_in(body: Value) -> Result<Vec<Value>, Fault>
     ensures said { result_map (λ v. items_view v.items) result ≡ items_in (view body) }
     ensures memory { result ≢ Err Fault.OutOfMemory }
@@ -227,7 +226,7 @@ fn items_in(body: Value) -> Result<Vec<Value>, Fault>
     let Some(items) = array_of(list) else {
         return Err(Fault::BadBatch);
     };
-    if items.len() > MOST_ITEMS {
+    if items.len() > MOST_SENT {
         return Err(Fault::BadBatch);
     }
     Ok(items)

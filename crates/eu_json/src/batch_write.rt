@@ -5,7 +5,7 @@ ghost use Rattle.serde_json.specs.Read.{max_depth};
 ghost use Rattle.serde_json.specs.View.{items_view, members_view, view};
 ghost use Rattle.serde_json.specs.Written.{compact_text, has_float, items_have_float, members_have_float};
 ghost use Rattle.eu_json.specs.BatchLaw.{IsBatch, SaysTasks};
-ghost use Rattle.eu_json.specs.BatchTree.{answer_tree, answers_tree, batch_tree, instance_members, task_tree};
+ghost use Rattle.eu_json.specs.Batch.{answer_tree, answers_tree, batch_tree, instance_members, task_tree};
 
 use crate::listings::push;
 use crate::members::{alone, set, set_text};
@@ -25,8 +25,8 @@ fn instance_members(
     ensures whole { IfOk result (λ members. members_have_float (members_view members.entries) ≡ false) }
 {
     let mut members = Map::new(alloc);
-    let dirty = Value::String(instance.dirty.value().to_string(alloc)?);
-    set(alloc, &mut members, "lastDirtyTimestamp", dirty)?;
+    let last_dirty = Value::String(instance.last_dirty.value().to_string(alloc)?);
+    set(alloc, &mut members, "lastDirtyTimestamp", last_dirty)?;
     let overridden = instance.overridden.name();
     set_text(alloc, &mut members, "overriddenStatus", overridden)?;
     let status = status.unwrap_or(instance.status).name();

@@ -1,7 +1,7 @@
 //! What must stand in an instance.
 ghost use Rattle.std.specs.Prelude.{◌≡◌, ◌≢◌, ◌<◌, length, Err, IfOk};
 ghost use Rattle.serde_json.specs.View.{view};
-ghost use Rattle.eu_json.specs.Gives.{result_map};
+ghost use Rattle.eu_base.specs.Gives.{result_map};
 ghost use Rattle.eu_json.specs.Reading.{address_stands, app_stands, center_stands, name_of};
 
 use crate::members::text_at;

@@ -6,8 +6,7 @@ ghost use Rattle.serde_json.specs.Find.{get};
 ghost use Rattle.serde_json.specs.View.{members_view, view};
 ghost use Rattle.serde_json.specs.Written.{has_float, members_have_float};
 ghost use Rattle.eu_base.specs.Rest.{IsRest};
-ghost use Rattle.eu_json.specs.Members.{text_at, without};
-ghost use Rattle.eu_json.specs.Tree.{alone, with_member};
+ghost use Rattle.eu_json.specs.Tree.{text_at, without, alone, with_member};
 
 use serde_json::{Map, Value};
 use std::alloc::{AllocError, Global};

@@ -4,19 +4,16 @@ ghost use Rattle.std.specs.Option.{option_map};
 ghost use Rattle.serde_json.specs.Read.{read};
 ghost use Rattle.serde_json.specs.View.{view};
 ghost use Rattle.eu_base.specs.Rest.{IsRest};
-ghost use Rattle.eu_json.specs.Gives.{Gives, result_map};
+ghost use Rattle.eu_base.specs.Gives.{Gives, result_map};
 ghost use Rattle.eu_json.specs.Reading.{instance_of, lease_member, of_object, rest_of, short};
 
 use crate::checks::{check_address, check_app, check_center, name_of};
 use crate::members::{take, without};
 use crate::numbers::{interval_in, secs_in, stamp_in};
 use crate::statuses::{overridden_at, status_in};
-use eu_base::{App, Fault, Id, Instance, Key, Moment, Rest, Status, has_fraction};
+use eu_base::{App, Fault, Id, Instance, Key, LONGEST_NAME, Moment, Rest, Status, has_fraction};
 use serde_json::Value;
 use std::alloc::{AllocError, Global};
-
-/// The most bytes of a name.
-const LONGEST_NAME: usize = 255;
 
 /// The JSON of a text. `NotJson` where it is none, and `OutOfMemory`, which a text without a byte never is.
 pub fn parse(alloc: Global, text: &str) -> Result<Value, Fault>
@@ -96,7 +93,7 @@ pub fn of_object(
     check_app(&instance, app)?;
     check_center(&instance)?;
     check_len(name)?;
-    let dirty = stamp_in(moment, instance.get("lastDirtyTimestamp"))?;
+    let last_dirty = stamp_in(moment, instance.get("lastDirtyTimestamp"))?;
     let secs = secs_in(lease_member(&instance, "durationInSecs"))?;
     let interval = interval_in(lease_member(&instance, "renewalIntervalInSecs"));
     let status = status_in(Status::Up, instance.get("status"));
@@ -109,7 +106,7 @@ pub fn of_object(
         key,
         status,
         overridden,
-        dirty,
+        last_dirty,
         secs,
         interval,
         rest,

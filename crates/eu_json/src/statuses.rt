@@ -3,7 +3,7 @@ ghost use Rattle.std.specs.Prelude.{◌≡◌};
 ghost use Rattle.std.specs.Option.{option_map};
 ghost use Rattle.std.specs.Str.{str_to_ascii_uppercase};
 ghost use Rattle.serde_json.specs.View.{view};
-ghost use Rattle.eu_base.specs.Status.{status_of};
+ghost use Rattle.eu_base.specs.Values.{status_of};
 ghost use Rattle.eu_json.specs.Reading.{alike, overridden_at, status_in, status_named};
 
 use eu_base::Status;

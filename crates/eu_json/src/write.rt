@@ -62,8 +62,8 @@ pub fn instance_value(
     )?;
     let lease = lease_value(alloc, instance, times)?;
     set(alloc, &mut members, "leaseInfo", lease)?;
-    let dirty = Value::String(instance.dirty.value().to_string(alloc)?);
-    set(alloc, &mut members, "lastDirtyTimestamp", dirty)?;
+    let last_dirty = Value::String(instance.last_dirty.value().to_string(alloc)?);
+    set(alloc, &mut members, "lastDirtyTimestamp", last_dirty)?;
     set_text(alloc, &mut members, "instanceId", instance.key.id.as_str())?;
     set_text(alloc, &mut members, "app", instance.key.app.as_str())?;
     Ok(Value::Object(members))

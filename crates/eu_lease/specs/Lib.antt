@@ -1,1 +1,3 @@
 pub mod Term
+pub mod Meter
+pub mod Threshold

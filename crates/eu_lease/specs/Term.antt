@@ -1,6 +1,7 @@
 -- The moments of a lease, and how long it lasts
 use Rattle.std.specs.Prelude.{ℕ, ◌+◌, ◌*◌, ◌≤◌, ◌^◌, Bool, nat_lt, ◌==◌, if◌then◌else◌}
 use Rattle.eu_base.specs.declared.instances.Instance.{Instance}
+use Rattle.eu_base.specs.Limits.{last_moment, longest_lease}
 use Rattle.eu_model.specs.declared.views.Times.{Times}
 use Rattle.eu_model.specs.declared.views.Listed.{Listed}
 
@@ -44,4 +45,4 @@ listed_with i a = record { instance = i; times = times_of a }
 
 -- no moment is more than a duration past the last one
 abbrev pub IsInRange : Term → Type 0
-IsInRange a = (a.updated ≤ 2 ^ 62 + 2147483000) × (a.secs ≤ 2147483)
+IsInRange a = (a.updated ≤ last_moment + longest_lease * 1000) × (a.secs ≤ longest_lease)

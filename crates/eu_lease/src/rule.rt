@@ -1,6 +1,6 @@
 //! Which status an instance is given.
 ghost use Rattle.std.specs.Prelude.{◌≡◌};
-ghost use Rattle.eu_model.specs.Override.{is_status, rule};
+ghost use Rattle.eu_model.specs.Change.{is_status, rule};
 
 use eu_base::Status;
 

@@ -51,7 +51,7 @@ within_more most read text buffer count fresh w le fits e =
 
 module _ {S X : Type 0} (limits : Limits) (answers : S → X → List ℕ → List ℕ → S → X → Type 0) (refuses : S → X → List ℕ → Type 0) where
   -- before the first read
-  pub stage_start : (s : S) (x : X) (held before : Option (List ℕ)) (run : Run) → run.kept.items ≡ [] → run.number ≡ 0 → run.waiting.items ≡ [] → Stage limits answers s x held before before 0 run s x held
+  pub stage_start : (s : S) (x : X) (held before : Option (List ℕ)) (run : Run) → run.partial.items ≡ [] → run.number ≡ 0 → run.waiting.items ≡ [] → Stage limits answers s x held before before 0 run s x held
   stage_start s x held before run k n w = record {
     read = [];
     text = [];
@@ -129,10 +129,10 @@ module _ {S X : Type 0} (limits : Limits) (answers : S → X → List ℕ → Li
   pub ends_by_read : (s : S) (x : X) (held before left left' : Option (List ℕ)) (taken : ℕ) (run : Run) (t : S) (y : X) (m : Option (List ℕ)) (failed_reader failed : Bool)
       → Stage limits answers s x held before left taken run t y m → Keeps left left' → run.waiting.items ≡ [] → ((read : List ℕ) → length read ≡ taken → (failed_reader ≡ true) ⊎ (limits.text < length read))
       → Answered s x t y before left' failed_reader failed held m (Err Read)
-  ends_by_read s x held before left left' taken run t y m failed_reader failed st kept w why =
+  ends_by_read s x held before left left' taken run t y m failed_reader failed st partial w why =
       let here = st.stands in (
         st.read,
-        Consumes-kept before left left' st.read st.consumed kept,
+        Consumes-kept before left left' st.read st.consumed partial,
         wrote_so held m (λ out. Printed limits answers s x here.lines (out ++ run.waiting.items) t y) (Outcome limits answers refuses s x t y left' failed_reader failed st.read (Err Read)) here.shown
             (λ out p.
             let same : out ++ run.waiting.items ≡ out = rw w (append-nil out) in

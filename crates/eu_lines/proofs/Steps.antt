@@ -46,12 +46,12 @@ module _ {S X : Type 0} (limits : Limits) (answers : S → X → List ℕ → Li
 module _ {S X : Type 0} (limits : Limits) (answers : S → X → List ℕ → List ℕ → S → X → Type 0) (refuses : S → X → List ℕ → Type 0) where
   stops_at : (error : LineError) (s : S) (x : X) (lines : List (List ℕ)) (line out : List ℕ) (failed : Bool) (t : S) (y : X) (x' : X) → (error ≡ line_errors.Bad → IsBad limits refuses t y line) → (error ≡ line_errors.Bad → x' ≡ y)
       → Printed limits answers s x lines out t y → StopsIn limits answers refuses s x (lines ++ line ∷ []) x' failed (fault_at error (length lines + 1)) out
-  stops_at line_errors.Bad s x lines line out failed t y x' bad kept p =
+  stops_at line_errors.Bad s x lines line out failed t y x' bad partial p =
       let k : length lines + 1 - 1 ≡ length lines = omega arith in
       let front : take (length lines) (lines ++ line ∷ []) ≡ lines = take_at lines (line ∷ []) (length lines) refl in
       let here : get_or (lines ++ line ∷ []) (length lines) [] ≡ line = get_or_at lines line [] [] (length lines) refl in
-      (omega arith, omega (arith, length-append lines (line ∷ [])), t, rw (k, front, kept refl) p, rw (k, here, kept refl) (bad refl))
-  stops_at line_errors.OutOfMemory s x lines line out failed t y x' bad kept p =
+      (omega arith, omega (arith, length-append lines (line ∷ [])), t, rw (k, front, partial refl) p, rw (k, here, partial refl) (bad refl))
+  stops_at line_errors.OutOfMemory s x lines line out failed t y x' bad partial p =
       let front : take (length lines) (lines ++ line ∷ []) ≡ lines = take_at lines (line ∷ []) (length lines) refl in
       (length lines, omega (arith, length-append lines (line ∷ [])), t, y, rw front p)
 
@@ -59,9 +59,9 @@ module _ {S X : Type 0} (limits : Limits) (answers : S → X → List ℕ → Li
   pub stopped_line : (error : LineError) (s : S) (x : X) (held : Option (List ℕ)) (lines : List (List ℕ)) (line waiting : List ℕ) (number : ℕ) (failed : Bool) (t : S) (y : X) (x' : X) (m n : Option (List ℕ))
       → Shown limits answers s x held lines waiting t y m → number ≡ length lines → (error ≡ line_errors.Bad → IsBad limits refuses t y line) → (error ≡ line_errors.Bad → x' ≡ y) → Appends m n waiting
       → Stopped limits answers refuses s x held (lines ++ line ∷ []) x' n failed (fault_at error (number + 1))
-  stopped_line error s x held lines line waiting number failed t y x' m n p e bad kept a =
+  stopped_line error s x held lines line waiting number failed t y x' m n p e bad partial a =
       wrote_more held m n waiting (λ out. Printed limits answers s x lines (out ++ waiting) t y) (StopsIn limits answers refuses s x (lines ++ line ∷ []) x' failed (fault_at error (number + 1))) p a
-      (λ out h. rw e (stops_at error s x lines line (out ++ waiting) failed t y x' bad kept h))
+      (λ out h. rw e (stops_at error s x lines line (out ++ waiting) failed t y x' bad partial h))
 
   -- what waits can't be written
   pub stopped_writing : (s : S) (x : X) (held : Option (List ℕ)) (lines : List (List ℕ)) (waiting : List ℕ) (k : ℕ) (failed : Bool) (t : S) (y : X) (x' : X) (m n : Option (List ℕ))
@@ -142,7 +142,7 @@ module _ {S X : Type 0} (limits : Limits) (answers : S → X → List ℕ → Li
   -- the next line is answered
   stands_line : (s : S) (x : X) (held : Option (List ℕ)) (text part : List ℕ) (run run' : Run) (t : S) (y : X) (s' : S) (x' : X) (m n : Option (List ℕ))
       (st : Stands limits answers s x held text run t y m) → HasNoEnd part → Shown limits answers s x held (st.lines ++ (st.tail ++ part) ∷ []) run'.waiting.items s' x' n
-      → run'.kept.items ≡ [] → run'.number ≡ run.number + 1 → Stands limits answers s x held (text ++ (part ++ 10 ∷ [])) run' s' x' n
+      → run'.partial.items ≡ [] → run'.number ≡ run.number + 1 → Stands limits answers s x held (text ++ (part ++ 10 ∷ [])) run' s' x' n
   stands_line s x held text part run run' t y s' x' m n st h p k c =
       let line = st.tail ++ part in
       record {
@@ -160,7 +160,7 @@ module _ {S X : Type 0} (limits : Limits) (answers : S → X → List ℕ → Li
 
   -- the rest is kept, and what waited is written
   stands_rest : (s : S) (x : X) (held : Option (List ℕ)) (text rest : List ℕ) (run run' : Run) (t : S) (y : X) (m n : Option (List ℕ))
-      (st : Stands limits answers s x held text run t y m) → HasNoEnd rest → ((line : List ℕ) → IsKept limits.line run.kept.items line → IsKept limits.line run'.kept.items (line ++ rest))
+      (st : Stands limits answers s x held text run t y m) → HasNoEnd rest → ((line : List ℕ) → IsKept limits.line run.partial.items line → IsKept limits.line run'.partial.items (line ++ rest))
       → run'.number ≡ run.number → Appends m n run.waiting.items → run'.waiting.items ≡ [] → Stands limits answers s x held (text ++ rest) run' t y n
   stands_rest s x held text rest run run' t y m n st h k c a e = record {
     given = st.given;
@@ -191,12 +191,12 @@ module _ {S X : Type 0} (limits : Limits) (answers : S → X → List ℕ → Li
 
   pub stands_line_in : (s : S) (x : X) (held : Option (List ℕ)) (text done part : List ℕ) (run run' : Run) (t : S) (y : X) (s' : S) (x' : X) (m n : Option (List ℕ)) → HasNoEnd part
       → (st : Stands limits answers s x held (text ++ done) run t y m) → Shown limits answers s x held (st.lines ++ (st.tail ++ part) ∷ []) run'.waiting.items s' x' n
-      → run'.kept.items ≡ [] → run'.number ≡ run.number + 1 → Stands limits answers s x held (text ++ (done ++ (part ++ 10 ∷ []))) run' s' x' n
+      → run'.partial.items ≡ [] → run'.number ≡ run.number + 1 → Stands limits answers s x held (text ++ (done ++ (part ++ 10 ∷ []))) run' s' x' n
   stands_line_in s x held text done part run run' t y s' x' m n h st p k c =
       subst (λ (bytes : List ℕ). Stands limits answers s x held bytes run' s' x' n) (append_assoc text done (part ++ 10 ∷ [])) (stands_line s x held (text ++ done) part run run' t y s' x' m n st h p k c)
 
   pub stands_rest_in : (s : S) (x : X) (held : Option (List ℕ)) (text done rest chunk : List ℕ) (run run' : Run) (t : S) (y : X) (m n : Option (List ℕ)) → chunk ≡ done ++ rest → HasNoEnd rest
-      → (st : Stands limits answers s x held (text ++ done) run t y m) → ((line : List ℕ) → IsKept limits.line run.kept.items line → IsKept limits.line run'.kept.items (line ++ rest))
+      → (st : Stands limits answers s x held (text ++ done) run t y m) → ((line : List ℕ) → IsKept limits.line run.partial.items line → IsKept limits.line run'.partial.items (line ++ rest))
       → run'.number ≡ run.number → Appends m n run.waiting.items → run'.waiting.items ≡ [] → Stands limits answers s x held (text ++ chunk) run' t y n
   stands_rest_in s x held text done rest chunk run run' t y m n e h st k c a w =
       let same : (text ++ done) ++ rest ≡ text ++ chunk = rw e (append_assoc text done rest) in

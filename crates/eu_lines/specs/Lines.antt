@@ -37,4 +37,4 @@ IsJudged most left read given =
 
 -- What is kept of a line: all of it, or of one that is too long more than a line may have.
 abbrev pub IsKept : ℕ → List ℕ → List ℕ → Type 0
-IsKept longest kept line = ((kept ≡ line) × (length line ≤ longest)) ⊎ ((longest < length kept) × (longest < length line))
+IsKept longest partial line = ((partial ≡ line) × (length line ≤ longest)) ⊎ ((longest < length partial) × (longest < length line))

@@ -19,7 +19,7 @@ module _ {S X : Type 0} (limits : Limits) (answers : S → X → List ℕ → Li
     pub whole : text ≡ given ++ tail
     pub ends : IsWhole given
     pub unended : HasNoEnd tail
-    pub keeps : IsKept limits.line run.kept.items tail
+    pub keeps : IsKept limits.line run.partial.items tail
     pub cuts : (more : List ℕ) → lines_of (given ++ more) ≡ lines ++ lines_of more
     pub counts : run.number ≡ length lines
     pub shown : Shown s x held lines run.waiting.items s' x' holds
@@ -27,7 +27,7 @@ module _ {S X : Type 0} (limits : Limits) (answers : S → X → List ℕ → Li
   -- From one place to the next one line is answered: what was kept of it, and then this part.
   abbrev pub Adds : Run → S → X → Option (List ℕ) → List ℕ → Run → S → X → Option (List ℕ) → Type 0
   Adds run t y m part run' s' x' n =
-      (s : S) (x : X) (held : Option (List ℕ)) (lines : List (List ℕ)) (line : List ℕ) → Shown s x held lines run.waiting.items t y m → IsKept limits.line run.kept.items line
+      (s : S) (x : X) (held : Option (List ℕ)) (lines : List (List ℕ)) (line : List ℕ) → Shown s x held lines run.waiting.items t y m → IsKept limits.line run.partial.items line
       → Shown s x held (lines ++ (line ++ part) ∷ []) run'.waiting.items s' x' n
 
   -- From one place to the next these bytes are taken.
@@ -48,7 +48,7 @@ module _ {S X : Type 0} (limits : Limits) (answers : S → X → List ℕ → Li
   -- From one place a script stops with a fault, at the latest in the line that ends with this part, with context x'.
   abbrev pub StopsAdding : Run → S → X → Option (List ℕ) → List ℕ → X → Option (List ℕ) → Bool → ScriptFault → Type 0
   StopsAdding run t y m part x' n failed fault =
-      (s : S) (x : X) (held : Option (List ℕ)) (lines : List (List ℕ)) (line : List ℕ) → Shown limits answers s x held lines run.waiting.items t y m → IsKept limits.line run.kept.items line → run.number ≡ length lines
+      (s : S) (x : X) (held : Option (List ℕ)) (lines : List (List ℕ)) (line : List ℕ) → Shown limits answers s x held lines run.waiting.items t y m → IsKept limits.line run.partial.items line → run.number ≡ length lines
       → Stopped s x held (lines ++ (line ++ part) ∷ []) x' n failed fault
 
   -- From one place a script stops with a fault within these bytes, with context x'.

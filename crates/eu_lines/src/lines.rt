@@ -17,12 +17,12 @@ pub fn cut(text: &[u8]) -> Option<(&[u8], &[u8])>
 }
 
 /// Adds a part of a line to what is kept of it: of a line of more than so many bytes its front alone.
-pub fn keep(kept: &mut Vec<u8>, longest: usize, part: &[u8]) -> Result<(), AllocError>
+pub fn keep(partial: &mut Vec<u8>, longest: usize, part: &[u8]) -> Result<(), AllocError>
     requires { longest < 2 ^ 62 }
-    ensures ok { OnOk result ((line : List ℕ) → IsKept longest kept.old.items line → IsKept longest kept.new.items (line ++ part.now)) }
-    ensures few { vec_len kept.old ≤ longest + 1 → vec_len kept.new ≤ longest + 1 }
-    ensures err { OnErr result (kept.new.items ≡ kept.old.items) }
+    ensures ok { OnOk result ((line : List ℕ) → IsKept longest partial.old.items line → IsKept longest partial.new.items (line ++ part.now)) }
+    ensures few { vec_len partial.old ≤ longest + 1 → vec_len partial.new ≤ longest + 1 }
+    ensures err { OnErr result (partial.new.items ≡ partial.old.items) }
 {
-    let room = (longest + 1).saturating_sub(kept.len());
-    kept.extend_from_slice(&part[..part.len().min(room)])
+    let room = (longest + 1).saturating_sub(partial.len());
+    partial.extend_from_slice(&part[..part.len().min(room)])
 }

@@ -18,7 +18,7 @@ const BLOCK: usize = 65_536;
 #[derive(Drop)]
 pub struct Run {
     /// The line that hasn't ended: all of it, or of one that is too long more than a line may have.
-    kept: Vec<u8>,
+    partial: Vec<u8>,
     /// How many lines were answered.
     number: u64,
     /// Room for what one line prints.
@@ -30,12 +30,12 @@ pub struct Run {
 impl Run {
     /// At the start of a script.
     pub fn new(alloc: Global) -> Run
-        ensures kept { result.kept.items ≡ [] }
+        ensures kept { result.partial.items ≡ [] }
         ensures number { result.number ≡ 0 }
         ensures waiting { result.waiting.items ≡ [] }
     {
         Run {
-            kept: Vec::new(alloc),
+            partial: Vec::new(alloc),
             number: 0,
             one: String::new(alloc),
             waiting: Vec::new(alloc),
@@ -81,15 +81,15 @@ fn answer_part<X, D: Answerer<X>>(
 ) -> Result<(), LineError>
     requires room { run.old.number < 2 ^ 63 }
     requires bounded { limits.line < 2 ^ 62 }
-    ensures ok { OnOk result ((line : List ℕ) → IsKept limits.line run.old.kept.items line
+    ensures ok { OnOk result ((line : List ℕ) → IsKept limits.line run.old.partial.items line
         → ((out : List ℕ) × Prints limits D.answers desk.old context.old (line ++ part.now) out desk.new context.new × (run.new.waiting.items ≡ run.old.waiting.items ++ out))) }
-    ensures kept { OnOk result (run.new.kept.items ≡ []) }
+    ensures kept { OnOk result (run.new.partial.items ≡ []) }
     ensures number { OnOk result (run.new.number ≡ run.old.number + 1) }
-    ensures bad { result ≡ Err LineError.Bad → (line : List ℕ) → IsKept limits.line run.old.kept.items line → IsBad limits D.refuses desk.old context.old (line ++ part.now) }
+    ensures bad { result ≡ Err LineError.Bad → (line : List ℕ) → IsKept limits.line run.old.partial.items line → IsBad limits D.refuses desk.old context.old (line ++ part.now) }
     ensures same_context { result ≡ Err LineError.Bad → context.new ≡ context.old }
     ensures err { OnErr result ((run.new.waiting.items ≡ run.old.waiting.items) × (run.new.number ≡ run.old.number)) }
 {
-    if run.kept.is_empty() {
+    if run.partial.is_empty() {
         answer_line(
             alloc,
             limits,
@@ -100,8 +100,8 @@ fn answer_part<X, D: Answerer<X>>(
             &mut run.waiting,
         )?;
     } else {
-        keep(&mut run.kept, limits.line, part)?;
-        let line = run.kept.as_slice();
+        keep(&mut run.partial, limits.line, part)?;
+        let line = run.partial.as_slice();
         answer_line(
             alloc,
             limits,
@@ -111,7 +111,7 @@ fn answer_part<X, D: Answerer<X>>(
             &mut run.one,
             &mut run.waiting,
         )?;
-        run.kept.clear();
+        run.partial.clear();
     }
     run.number += 1;
     Ok(())
@@ -157,7 +157,7 @@ pub fn take_line<W: Sink, X, D: Answerer<X>>(
     requires room { run.old.number < 2 ^ 63 }
     requires bounded { limits.line < 2 ^ 62 }
     ensures ok { OnOk result (Adds limits D.answers run.old desk.old context.old (W.contents writer.old) part.now run.new desk.new context.new (W.contents writer.new)) }
-    ensures kept { OnOk result (run.new.kept.items ≡ []) }
+    ensures kept { OnOk result (run.new.partial.items ≡ []) }
     ensures number { OnOk result (run.new.number ≡ run.old.number + 1) }
     ensures err { IfErr result (StopsAdding limits D.answers D.refuses run.old desk.old context.old (W.contents writer.old) part.now context.new (W.contents writer.new) (W.failed writer.new)) }
     ensures sound { OnOk result (W.failed writer.new ≡ W.failed writer.old) }
@@ -199,9 +199,9 @@ pub fn take_chunk<W: Sink, X, D: Answerer<X>>(
         take_line(alloc, limits, run, desk, context, writer, part)?;
         rest = after;
     }
-    let kept = keep(&mut run.kept, limits.line, rest);
+    let partial = keep(&mut run.partial, limits.line, rest);
     write_out(writer, &mut run.waiting)?;
-    Ok(kept?)
+    Ok(partial?)
 }
 
 /// Answers the last line, at the end of the text, and writes and flushes what it prints.

@@ -2,7 +2,7 @@
 use Rattle.std.proofs.Common.{◌≡◌, ℕ, ◌+◌, ◌≤◌, List, [], ◌∷◌, ◌++◌, length, refl, sym, ap, ◌∙◌, subst, true, false, arith}
 use Rattle.std.specs.Prelude.{Bool, Ok}
 use Rattle.std.specs.FinMap.{len}
-use Rattle.eu_base.specs.Key.{key_cmp}
+use Rattle.eu_base.specs.Values.{key_cmp}
 use Rattle.eu_model.specs.declared.commands.Command.{Command}
 use Rattle.eu_model.specs.declared.commands.Command.TheVariants.{Register, Renew, Adopt, Drain, Landed, Lost}
 use Rattle.eu_model.specs.declared.commands.Entry.{Entry}
@@ -12,9 +12,8 @@ use Rattle.eu_model.specs.declared.tallies.Tally.{Tally}
 use Rattle.eu_model.specs.Delta.{counted_by, added_by, removed_by, delta, plus, tally_of}
 use Rattle.eu_model.specs.Machine.{Machine}
 use Rattle.eu_model.specs.Plain.{listed}
-use Rattle.eu_model.specs.Server.{Server, PlainServer, ServerStep, plain_server}
-use Rattle.eu_model.specs.ServerAnswers.{ServerAnswers, IsServerAnswer}
-use Rattle.eu_model.specs.Runs.{Runs, IsNumbered}
+use Rattle.eu_model.specs.Server.{Server, PlainServer, ServerStep, plain_server, Runs, IsNumbered}
+use Rattle.eu_model.specs.Answers.{ServerAnswers, IsServerAnswer}
 use Rattle.eu_model.specs.Step.{Step}
 use Rattle.eu_model.proofs.HeldLemmas.{leases_are_accounted}
 use Rattle.eu_model.proofs.MapLemmas.{len-map_values}
@@ -54,16 +53,16 @@ runs_push p es q e new runs answers =
     }
 
 pub counted_at_most_one : (c : Command) (r : Reply) → counted_by c r ≤ 1
-counted_at_most_one (Renew k dirty overridden replicated) (Registered fresh) = omega (arith)
-counted_at_most_one (Renew k dirty overridden replicated) Done = omega (arith)
-counted_at_most_one (Renew k dirty overridden replicated) NotFound = omega (arith)
-counted_at_most_one (Renew k dirty overridden replicated) Stale = omega (arith)
-counted_at_most_one (Renew k dirty overridden replicated) (Conflict i) = omega (arith)
-counted_at_most_one (Renew k dirty overridden replicated) (Last n) = omega (arith)
-counted_at_most_one (Renew k dirty overridden replicated) (Expected n) = omega (arith)
-counted_at_most_one (Renew k dirty overridden replicated) (Evicted victims) = omega (arith)
-counted_at_most_one (Renew k dirty overridden replicated) (Batch tasks) = omega (arith)
-counted_at_most_one (Renew k dirty overridden replicated) Settled = omega (arith)
+counted_at_most_one (Renew k last_dirty overridden replicated) (Registered fresh) = omega (arith)
+counted_at_most_one (Renew k last_dirty overridden replicated) Done = omega (arith)
+counted_at_most_one (Renew k last_dirty overridden replicated) NotFound = omega (arith)
+counted_at_most_one (Renew k last_dirty overridden replicated) Stale = omega (arith)
+counted_at_most_one (Renew k last_dirty overridden replicated) (Conflict i) = omega (arith)
+counted_at_most_one (Renew k last_dirty overridden replicated) (Last n) = omega (arith)
+counted_at_most_one (Renew k last_dirty overridden replicated) (Expected n) = omega (arith)
+counted_at_most_one (Renew k last_dirty overridden replicated) (Evicted victims) = omega (arith)
+counted_at_most_one (Renew k last_dirty overridden replicated) (Batch tasks) = omega (arith)
+counted_at_most_one (Renew k last_dirty overridden replicated) Settled = omega (arith)
 counted_at_most_one c r = omega (arith)
 
 joined_at_most_one : (c : Command) (fresh : Bool) → added_by c (Registered fresh) ≤ 1

@@ -5,18 +5,14 @@ use Rattle.std.specs.Option.{option_map}
 use Rattle.std.specs.FinMap.{FinMap, get, len, contains_key}
 use Rattle.eu_base.specs.declared.faults.Fault.TheVariants.{Full, Exhausted}
 use Rattle.eu_base.specs.declared.names.Key.{Key}
-use Rattle.eu_base.specs.Key.{key_cmp}
+use Rattle.eu_base.specs.Values.{key_cmp}
 use Rattle.eu_base.proofs.KeyLemmas.{keys_total, keys_exact}
 use Rattle.eu_model.specs.declared.views.Listed.{Listed}
-use Rattle.eu_model.specs.Record.{Record}
-use Rattle.eu_model.specs.Marks.{since, last}
-use Rattle.eu_model.specs.Maps.{map_values}
-use Rattle.eu_model.specs.Machine.{Machine}
+use Rattle.eu_model.specs.Machine.{Record, since, last, map_values, Machine}
 use Rattle.eu_model.specs.Change.{Change}
-use Rattle.eu_model.specs.Step.{changed, marked}
-use Rattle.eu_model.specs.Faults.{join_fault}
+use Rattle.eu_model.specs.Step.{changed, marked, join_fault}
 use Rattle.eu_model.specs.Plain.{Plain, listed, plain}
-use Rattle.eu_model.specs.Kept.{kept, after, kept_join_fault}
+use Rattle.eu_model.specs.PlainSteps.{plain_change, after, plain_join_fault}
 use Rattle.eu_model.proofs.MarkLemmas.{since_renewal, last_renewal}
 use Rattle.eu_model.proofs.MapLemmas.{get-map_values, len-map_values, map_values-with_value}
 use Rattle.eu_model.proofs.AnswerLemmas.{IsKept}
@@ -29,16 +25,16 @@ since-marked : (counted : Bool) (s : Machine) → since (marked counted s.marks)
 since-marked true s = since_renewal s.marks
 since-marked false s = refl
 
--- what is kept of a changed machine is changed alike
-plain-changed : (s : Machine) (k : Key) (change : Change Record) → plain (changed s k change) ≡ after (plain s) k (kept change)
+-- the plain form of a changed machine is changed alike
+plain-changed : (s : Machine) (k : Key) (change : Change Record) → plain (changed s k change) ≡ after (plain s) k (plain_change change)
 plain-changed s k change =
     let leases = map_values-with_value keys_total keys_exact listed s.leases k change.lease in
     let lasts = last-marked change.counted s in
     let sinces = since-marked change.counted s in
-    λ i. record (after (plain s) k (kept change)) { leases = leases i; last = lasts i; since = sinces i }
+    λ i. record (after (plain s) k (plain_change change)) { leases = leases i; last = lasts i; since = sinces i }
 
 -- so a step on the lease at a key is kept, if its change is
-pub change_is_kept : (k : Key) (change : Machine → Change Record) (kept_change : Plain → Change Listed) → ((s : Machine) → kept (change s) ≡ kept_change (plain s))
+pub change_is_kept : (k : Key) (change : Machine → Change Record) (kept_change : Plain → Change Listed) → ((s : Machine) → plain_change (change s) ≡ kept_change (plain s))
     → IsKept (λ s. changed s k (change s)) (λ s. (change s).reply) (λ p. after p k (kept_change p)) (λ p. (kept_change p).reply)
 change_is_kept k change kept_change e = record {
   nexts = λ s. plain-changed s k (change s) ∙ ap (after (plain s) k) (e s);
@@ -52,7 +48,7 @@ is_some-map f (Some x) = refl
 contains-listed : (m : FinMap key_cmp Record) (k : Key) → contains_key (map_values listed m) k ≡ contains_key m k
 contains-listed m k = ap is_some (get-map_values key_cmp listed m k) ∙ is_some-map listed (get m k)
 
-pub join_fault-kept : (s : Machine) (k : Key) → join_fault s k ≡ kept_join_fault (plain s) k
+pub join_fault-kept : (s : Machine) (k : Key) → join_fault s k ≡ plain_join_fault (plain s) k
 join_fault-kept s k =
     ap (λ b. cond b None (cond (len s.leases == 65536) (Some Full) (cond (s.expected == 2 ^ 40) (Some Exhausted) None))) (sym (contains-listed s.leases k))
     ∙ ap (λ n. cond (contains_key (map_values listed s.leases) k) None (cond (n == 65536) (Some Full) (cond (s.expected == 2 ^ 40) (Some Exhausted) None))) (sym (len-map_values key_cmp listed s.leases))

@@ -1,4 +1,4 @@
--- A command other than an eviction pass leads to one reply and one plain form
+-- A command other than an eviction leads to one reply and one plain form
 use Rattle.std.proofs.Common.{◌≡◌, ℕ, sym, ap, ◌∙◌}
 use Rattle.std.specs.Prelude.{Ok}
 use Rattle.eu_model.specs.declared.commands.Command.{Command}
@@ -16,14 +16,14 @@ pub some_step : (c : Command) (t : ℕ) (p q : Plain) (r : Reply) → Answers p 
 unfolding Answers IsAnswer
 some_step c t p q r a = let m = raise p in let x = a m.0 m.1 in (m.0, x.1.0, m.1, x.1.1, x.1.2)
 
-module _ (c : Command) (t : ℕ) (next : Machine → Machine) (reply : Machine → Reply) (kept_next : Plain → Plain) (kept_reply : Plain → Reply) (k : IsKept next reply kept_next kept_reply)
+module _ (c : Command) (t : ℕ) (next : Machine → Machine) (reply : Machine → Reply) (plain_next : Plain → Plain) (plain_reply : Plain → Reply) (k : IsKept next reply plain_next plain_reply)
     (steps : (s s' : Machine) (r : Reply) → Step s c t r s' → (r ≡ reply s) × (s' ≡ next s)) (p q : Plain) (r : Reply) (a : Answers p c t (Ok r) q) where
-  pub reply_is : r ≡ kept_reply p
+  pub reply_is : r ≡ plain_reply p
   reply_is =
       let x = some_step c t p q r a in
-      (steps x.0 x.1 r x.3).0 ∙ k.replies x.0 ∙ ap kept_reply x.2
+      (steps x.0 x.1 r x.3).0 ∙ k.replies x.0 ∙ ap plain_reply x.2
 
-  pub next_is : q ≡ kept_next p
+  pub next_is : q ≡ plain_next p
   next_is =
       let x = some_step c t p q r a in
-      sym x.4 ∙ ap plain (steps x.0 x.1 r x.3).1 ∙ k.nexts x.0 ∙ ap kept_next x.2
+      sym x.4 ∙ ap plain (steps x.0 x.1 r x.3).1 ∙ k.nexts x.0 ∙ ap plain_next x.2

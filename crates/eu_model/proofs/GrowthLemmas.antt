@@ -8,21 +8,17 @@ use Rattle.eu_base.specs.declared.instances.Instance.{Instance}
 use Rattle.eu_base.specs.declared.names.Key.{Key}
 use Rattle.eu_base.specs.declared.statuses.Status.{Status}
 use Rattle.eu_base.specs.declared.statuses.Status.TheVariants.{Unknown}
-use Rattle.eu_base.specs.Key.{key_cmp, key_eq}
+use Rattle.eu_base.specs.Values.{key_cmp, key_eq}
 use Rattle.eu_base.proofs.KeyLemmas.{keys_total, key_eq-ties, key_eq-Decides}
 use Rattle.eu_model.specs.declared.commands.Command.{Command}
-use Rattle.eu_model.specs.declared.commands.Command.TheVariants.{Register, Renew, Cancel, SetStatus, UnsetStatus, Adopt, Roll, Update, Reconfigure, Evict, Drain, Landed, Lost}
+use Rattle.eu_model.specs.declared.commands.Command.TheVariants.{Register, Renew, Cancel, SetStatus, UnsetStatus, Adopt, EndMinute, Update, Reconfigure, Evict, Drain, Landed, Lost}
 use Rattle.eu_model.specs.declared.commands.Reply.{Reply}
 use Rattle.eu_model.specs.declared.commands.Reply.TheVariants.{Done, NotFound, Stale, Conflict}
-use Rattle.eu_model.specs.Record.{Record, newest, duration, is_expired, renewed}
-use Rattle.eu_model.specs.Record.Kind.{Fresh, Renewed}
-use Rattle.eu_model.specs.Change.{newer, row_after, under_row, joined, uncounted, renew, renew_as, renew_reply, brought, stamped, set_status, unset_status, in_status, out_of_override, cancel, told, overridden_by}
-use Rattle.eu_model.specs.Machine.{seen, permits}
-use Rattle.eu_model.specs.Maps.{with_value, without}
-use Rattle.eu_model.specs.Override.{rule, is_status}
+use Rattle.eu_model.specs.Machine.{Record, newest, duration, is_expired, renewed, seen, permits, with_value, without, Machine}
+use Rattle.eu_model.specs.Machine.Kind.{Fresh, Renewed}
+use Rattle.eu_model.specs.Change.{newer, row_after, under_row, joined, uncounted, renew, renew_as, renew_reply, row_of_peer, stamped, set_status, unset_status, in_status, out_of_override, cancel, row_of, overridden_by, rule, is_status}
 use Rattle.eu_model.specs.Server.{Server, ServerStep}
 use Rattle.eu_model.specs.Step.{Step}
-use Rattle.eu_model.specs.Machine.{Machine}
 use Rattle.eu_model.specs.History.{is_found, registers, renews, ends, duration_by}
 use Rattle.eu_model.proofs.RecordLemmas.{newest_snoc}
 
@@ -63,7 +59,7 @@ secs_under (Some row) i = refl
 
 secs_newer : (held : Option Instance) (n : Instance) → duration (newer held n) ≡ duration n
 secs_newer None n = refl
-secs_newer (Some h) n = elim (nat_lt n.dirty h.dirty) as (λ b. duration (cond b (record h { secs = n.secs }) n) ≡ duration n) [ true ↦ refl | false ↦ refl ]
+secs_newer (Some h) n = elim (nat_lt n.last_dirty h.last_dirty) as (λ b. duration (cond b (record h { secs = n.secs }) n) ≡ duration n) [ true ↦ refl | false ↦ refl ]
 
 secs_joined : (held : Option Instance) (row : Option Status) (n : Instance) (replicated : Bool) → duration (joined held row n replicated) ≡ duration n
 secs_joined held row n replicated = secs_under (row_after row (newer held n).overridden) (newer held n) ∙ secs_newer held n
@@ -94,59 +90,59 @@ renews_at c t m k q v true (r, r', old, new, at, long) =
       | false ↦ λ is e. e
     ] refl (get_with m q v k)
 
-pub found_reply : (dirty : Option ℕ) (i : Instance) (replicated : Bool) → is_found (renew_reply dirty i replicated) ≡ true
+pub found_reply : (last_dirty : Option ℕ) (i : Instance) (replicated : Bool) → is_found (renew_reply last_dirty i replicated) ≡ true
 found_reply None i replicated = refl
 found_reply (Some d) i replicated =
-    elim (nat_lt i.dirty d) as (λ b. is_found (cond b Stale (cond (nat_lt d i.dirty && replicated) (Conflict i) Done)) ≡ true) [
+    elim (nat_lt i.last_dirty d) as (λ b. is_found (cond b Stale (cond (nat_lt d i.last_dirty && replicated) (Conflict i) Done)) ≡ true) [
       | true ↦ refl
-      | false ↦ elim (nat_lt d i.dirty && replicated) as (λ b. is_found (cond b (Conflict i) Done) ≡ true) [ true ↦ refl | false ↦ refl ]
+      | false ↦ elim (nat_lt d i.last_dirty && replicated) as (λ b. is_found (cond b (Conflict i) Done) ≡ true) [ true ↦ refl | false ↦ refl ]
     ]
 
 renewed_at : (r : Record) (t : ℕ) → newest (renewed r t).touches ≡ record { at = t; kind = Renewed }
 renewed_at r t = newest_snoc r.touches (record { at = t; kind = Renewed })
 
-renew_renews : (held : Option Record) (row : Option Status) (expected : ℕ) (dirty : Option ℕ) (overridden : Option Status) (replicated : Bool) (t : ℕ)
-    → Renews (is_found (renew held row expected dirty overridden replicated t).reply) t held (renew held row expected dirty overridden replicated t).lease
-renew_renews None row expected dirty overridden replicated t = refl
-renew_renews (Some r) row expected dirty overridden replicated t =
+renew_renews : (held : Option Record) (row : Option Status) (expected : ℕ) (last_dirty : Option ℕ) (overridden : Option Status) (replicated : Bool) (t : ℕ)
+    → Renews (is_found (renew held row expected last_dirty overridden replicated t).reply) t held (renew held row expected last_dirty overridden replicated t).lease
+renew_renews None row expected last_dirty overridden replicated t = refl
+renew_renews (Some r) row expected last_dirty overridden replicated t =
     let status = rule r.instance.status row (Some r.instance.status) replicated in
     let i : Instance = record r.instance { status = status } in
-    let new_row = brought (renew_reply dirty i replicated) replicated overridden row in
-    let as_renewed : Renews true t (Some r) (renew_as r row expected dirty overridden replicated t status).lease =
+    let new_row = row_of_peer (renew_reply last_dirty i replicated) replicated overridden row in
+    let as_renewed : Renews true t (Some r) (renew_as r row expected last_dirty overridden replicated t status).lease =
     (r, record (renewed r t) { instance = under_row new_row i }, refl, refl, renewed_at r t, secs_under new_row i) in
-    elim (is_status status Unknown) as (λ b. Renews (is_found (cond b (uncounted (Some r) row expected NotFound) (renew_as r row expected dirty overridden replicated t status)).reply) t (Some r) (cond b (uncounted (Some r) row expected NotFound) (renew_as r row expected dirty overridden replicated t status)).lease) [
+    elim (is_status status Unknown) as (λ b. Renews (is_found (cond b (uncounted (Some r) row expected NotFound) (renew_as r row expected last_dirty overridden replicated t status)).reply) t (Some r) (cond b (uncounted (Some r) row expected NotFound) (renew_as r row expected last_dirty overridden replicated t status)).lease) [
       | true ↦ refl
-      | false ↦ subst (λ b. Renews b t (Some r) (renew_as r row expected dirty overridden replicated t status).lease) (sym (found_reply dirty i replicated)) as_renewed
+      | false ↦ subst (λ b. Renews b t (Some r) (renew_as r row expected last_dirty overridden replicated t status).lease) (sym (found_reply last_dirty i replicated)) as_renewed
     ]
 
-secs_stamped : (dirty : Option ℕ) (i : Instance) → duration (stamped dirty i) ≡ duration i
+secs_stamped : (last_dirty : Option ℕ) (i : Instance) → duration (stamped last_dirty i) ≡ duration i
 secs_stamped None i = refl
-secs_stamped (Some d) i = elim (nat_lt i.dirty d) as (λ b. duration (cond b (record i { dirty = d }) i) ≡ duration i) [ true ↦ refl | false ↦ refl ]
+secs_stamped (Some d) i = elim (nat_lt i.last_dirty d) as (λ b. duration (cond b (record i { last_dirty = d }) i) ≡ duration i) [ true ↦ refl | false ↦ refl ]
 
-set_renews : (permitted : Bool) (held : Option Record) (row : Option Status) (expected : ℕ) (status : Status) (dirty : Option ℕ) (t : ℕ)
-    → Renews (is_found (set_status (seen permitted t held) held row expected status dirty t).reply) t held (set_status (seen permitted t held) held row expected status dirty t).lease
-set_renews permitted None row expected status dirty t = refl
-set_renews permitted (Some r) row expected status dirty t =
-    elim (permitted && is_expired r t 0) as (λ b. Renews (is_found (set_status (cond b None (Some r)) (Some r) row expected status dirty t).reply) t (Some r) (set_status (cond b None (Some r)) (Some r) row expected status dirty t).lease) [
+set_renews : (permitted : Bool) (held : Option Record) (row : Option Status) (expected : ℕ) (status : Status) (last_dirty : Option ℕ) (t : ℕ)
+    → Renews (is_found (set_status (seen permitted t held) held row expected status last_dirty t).reply) t held (set_status (seen permitted t held) held row expected status last_dirty t).lease
+set_renews permitted None row expected status last_dirty t = refl
+set_renews permitted (Some r) row expected status last_dirty t =
+    elim (permitted && is_expired r t 0) as (λ b. Renews (is_found (set_status (cond b None (Some r)) (Some r) row expected status last_dirty t).reply) t (Some r) (set_status (cond b None (Some r)) (Some r) row expected status last_dirty t).lease) [
       | true ↦ refl
-      | false ↦ elim (is_status r.instance.status status) as (λ b. Renews (is_found (cond b (uncounted (Some (renewed r t)) row expected Done) (uncounted (Some (in_status r status dirty t)) (Some status) expected Done)).reply) t (Some r) (cond b (uncounted (Some (renewed r t)) row expected Done) (uncounted (Some (in_status r status dirty t)) (Some status) expected Done)).lease) [
+      | false ↦ elim (is_status r.instance.status status) as (λ b. Renews (is_found (cond b (uncounted (Some (renewed r t)) row expected Done) (uncounted (Some (in_status r status last_dirty t)) (Some status) expected Done)).reply) t (Some r) (cond b (uncounted (Some (renewed r t)) row expected Done) (uncounted (Some (in_status r status last_dirty t)) (Some status) expected Done)).lease) [
         | true ↦ (r, renewed r t, refl, refl, renewed_at r t, refl)
-        | false ↦ (r, in_status r status dirty t, refl, refl, renewed_at r t, secs_stamped dirty (record r.instance { status = status; overridden = status }))
+        | false ↦ (r, in_status r status last_dirty t, refl, refl, renewed_at r t, secs_stamped last_dirty (record r.instance { status = status; overridden = status }))
       ]
     ]
 
-unset_renews : (permitted : Bool) (held : Option Record) (row : Option Status) (expected : ℕ) (suggested : Option Status) (dirty : Option ℕ) (t : ℕ)
-    → Renews (is_found (unset_status (seen permitted t held) held row expected suggested dirty t).reply) t held (unset_status (seen permitted t held) held row expected suggested dirty t).lease
-unset_renews permitted None row expected suggested dirty t = refl
-unset_renews permitted (Some r) None expected suggested dirty t =
-    elim (permitted && is_expired r t 0) as (λ b. Renews (is_found (unset_status (cond b None (Some r)) (Some r) None expected suggested dirty t).reply) t (Some r) (unset_status (cond b None (Some r)) (Some r) None expected suggested dirty t).lease) [
+unset_renews : (permitted : Bool) (held : Option Record) (row : Option Status) (expected : ℕ) (suggested : Option Status) (last_dirty : Option ℕ) (t : ℕ)
+    → Renews (is_found (unset_status (seen permitted t held) held row expected suggested last_dirty t).reply) t held (unset_status (seen permitted t held) held row expected suggested last_dirty t).lease
+unset_renews permitted None row expected suggested last_dirty t = refl
+unset_renews permitted (Some r) None expected suggested last_dirty t =
+    elim (permitted && is_expired r t 0) as (λ b. Renews (is_found (unset_status (cond b None (Some r)) (Some r) None expected suggested last_dirty t).reply) t (Some r) (unset_status (cond b None (Some r)) (Some r) None expected suggested last_dirty t).lease) [
       | true ↦ refl
       | false ↦ (r, renewed r t, refl, refl, renewed_at r t, refl)
     ]
-unset_renews permitted (Some r) (Some row) expected suggested dirty t =
-    elim (permitted && is_expired r t 0) as (λ b. Renews (is_found (unset_status (cond b None (Some r)) (Some r) (Some row) expected suggested dirty t).reply) t (Some r) (unset_status (cond b None (Some r)) (Some r) (Some row) expected suggested dirty t).lease) [
+unset_renews permitted (Some r) (Some row) expected suggested last_dirty t =
+    elim (permitted && is_expired r t 0) as (λ b. Renews (is_found (unset_status (cond b None (Some r)) (Some r) (Some row) expected suggested last_dirty t).reply) t (Some r) (unset_status (cond b None (Some r)) (Some r) (Some row) expected suggested last_dirty t).lease) [
       | true ↦ refl
-      | false ↦ (r, out_of_override r suggested dirty t, refl, refl, renewed_at r t, secs_stamped dirty _)
+      | false ↦ (r, out_of_override r suggested last_dirty t, refl, refl, renewed_at r t, secs_stamped last_dirty _)
     ]
 
 -- ---- ends
@@ -184,36 +180,36 @@ pub step_goes : (s : Machine) (c : Command) (t : ℕ) (reply : Reply) (new : Mac
 step_goes s (Register n replicated) t reply new step k =
     let before = option_map (λ (r : Record). r.instance) (get s.leases n.key) in
     subst (λ x. Goes k (Register n replicated) t reply (get s.leases k) (get x.leases k)) (sym step.1)
-    (registers_at (Register n replicated) t s.leases k n.key _ refl (secs_joined before (get s.rows n.key.id) n replicated))
+    (registers_at (Register n replicated) t s.leases k n.key _ refl (secs_joined before (get s.overrides n.key.id) n replicated))
 step_goes s (Adopt n) t reply new step k =
-    let before = option_map (λ (r : Record). r.instance) (option_map (overridden_by (told n.overridden)) (get s.leases n.key)) in
+    let before = option_map (λ (r : Record). r.instance) (option_map (overridden_by (row_of n.overridden)) (get s.leases n.key)) in
     subst (λ x. Goes k (Adopt n) t reply (get s.leases k) (get x.leases k)) (sym step.1)
-    (registers_at (Adopt n) t s.leases k n.key _ refl (secs_joined before (option_or (told n.overridden) (get s.rows n.key.id)) n true))
-step_goes s (Renew q dirty overridden replicated) t reply new step k =
-    let c = Renew q dirty overridden replicated in
-    let change = renew (get s.leases q) (get s.rows q.id) s.expected dirty overridden replicated t in
+    (registers_at (Adopt n) t s.leases k n.key _ refl (secs_joined before (option_or (row_of n.overridden) (get s.overrides n.key.id)) n true))
+step_goes s (Renew q last_dirty overridden replicated) t reply new step k =
+    let c = Renew q last_dirty overridden replicated in
+    let change = renew (get s.leases q) (get s.overrides q.id) s.expected last_dirty overridden replicated t in
     subst (λ x. Goes k c t reply (get s.leases k) (get x.leases k)) (sym step.1)
     (subst (λ a. Goes k c t a (get s.leases k) (get (with_value s.leases q change.lease) k)) (sym step.0)
-    (renews_at c t s.leases k q change.lease (is_found change.reply) (renew_renews (get s.leases q) (get s.rows q.id) s.expected dirty overridden replicated t)))
-step_goes s (SetStatus q status dirty replicated) t reply new step k =
-    let c = SetStatus q status dirty replicated in
-    let change = set_status (seen (permits s) t (get s.leases q)) (get s.leases q) (get s.rows q.id) s.expected status dirty t in
+    (renews_at c t s.leases k q change.lease (is_found change.reply) (renew_renews (get s.leases q) (get s.overrides q.id) s.expected last_dirty overridden replicated t)))
+step_goes s (SetStatus q status last_dirty replicated) t reply new step k =
+    let c = SetStatus q status last_dirty replicated in
+    let change = set_status (seen (permits s) t (get s.leases q)) (get s.leases q) (get s.overrides q.id) s.expected status last_dirty t in
     subst (λ x. Goes k c t reply (get s.leases k) (get x.leases k)) (sym step.1)
     (subst (λ a. Goes k c t a (get s.leases k) (get (with_value s.leases q change.lease) k)) (sym step.0)
-    (renews_at c t s.leases k q change.lease (is_found change.reply) (set_renews (permits s) (get s.leases q) (get s.rows q.id) s.expected status dirty t)))
-step_goes s (UnsetStatus q suggested dirty replicated) t reply new step k =
-    let c = UnsetStatus q suggested dirty replicated in
-    let change = unset_status (seen (permits s) t (get s.leases q)) (get s.leases q) (get s.rows q.id) s.expected suggested dirty t in
+    (renews_at c t s.leases k q change.lease (is_found change.reply) (set_renews (permits s) (get s.leases q) (get s.overrides q.id) s.expected status last_dirty t)))
+step_goes s (UnsetStatus q suggested last_dirty replicated) t reply new step k =
+    let c = UnsetStatus q suggested last_dirty replicated in
+    let change = unset_status (seen (permits s) t (get s.leases q)) (get s.leases q) (get s.overrides q.id) s.expected suggested last_dirty t in
     subst (λ x. Goes k c t reply (get s.leases k) (get x.leases k)) (sym step.1)
     (subst (λ a. Goes k c t a (get s.leases k) (get (with_value s.leases q change.lease) k)) (sym step.0)
-    (renews_at c t s.leases k q change.lease (is_found change.reply) (unset_renews (permits s) (get s.leases q) (get s.rows q.id) s.expected suggested dirty t)))
+    (renews_at c t s.leases k q change.lease (is_found change.reply) (unset_renews (permits s) (get s.leases q) (get s.overrides q.id) s.expected suggested last_dirty t)))
 step_goes s (Cancel q replicated) t reply new step k =
     let c = Cancel q replicated in
     let change = cancel (get s.leases q) s.expected in
     subst (λ x. Goes k c t reply (get s.leases k) (get x.leases k)) (sym step.1)
     (subst (λ a. Goes k c t a (get s.leases k) (get (with_value s.leases q change.lease) k)) (sym step.0)
     (cancels_at c t s.leases k q s.expected (get s.leases q) refl))
-step_goes s Roll t reply new step k = ap (λ m. get m.leases k) step.1
+step_goes s EndMinute t reply new step k = ap (λ m. get m.leases k) step.1
 step_goes s Update t reply new step k = ap (λ m. get m.leases k) step.1
 step_goes s (Reconfigure config) t reply new step k = ap (λ m. get m.leases k) step.1
 step_goes s (Drain peer) t reply new step k = absurd step

@@ -12,18 +12,15 @@ use Rattle.eu_base.specs.declared.instances.Instance.{Instance}
 use Rattle.eu_base.specs.declared.names.Key.{Key}
 use Rattle.eu_base.specs.declared.statuses.Status.{Status}
 use Rattle.eu_base.specs.declared.statuses.Status.TheVariants.{Unknown}
-use Rattle.eu_base.specs.Key.{key_cmp, key_eq}
+use Rattle.eu_base.specs.Values.{key_cmp, key_eq}
 use Rattle.eu_base.proofs.KeyLemmas.{keys_total, key_eq-ties, key_eq-flips}
 use Rattle.eu_model.specs.declared.commands.Command.TheVariants.{Register, Renew, Cancel, SetStatus, UnsetStatus, Adopt, Evict, Drain, Landed, Lost}
 use Rattle.eu_model.specs.declared.commands.Reply.TheVariants.{Registered, Done, NotFound}
-use Rattle.eu_model.specs.Change.{uncounted, renew, renew_as, set_status, unset_status, in_status, cancel, told, overridden_by}
+use Rattle.eu_model.specs.Change.{uncounted, renew, renew_as, set_status, unset_status, in_status, cancel, row_of, overridden_by, rule, is_status}
 use Rattle.eu_model.specs.Delta.{added_by, removed_by}
 use Rattle.eu_model.specs.Law.{LeasesAreAccounted}
-use Rattle.eu_model.specs.Machine.{Machine, seen, permits}
-use Rattle.eu_model.specs.Maps.{with_value, without}
-use Rattle.eu_model.specs.Override.{rule, is_status}
-use Rattle.eu_model.specs.Record.{Record, is_expired, renewed}
-use Rattle.eu_model.proofs.PassLemmas.{victims_have_expired}
+use Rattle.eu_model.specs.Machine.{Machine, seen, permits, with_value, without, Record, is_expired, renewed}
+use Rattle.eu_model.proofs.EvictionLemmas.{victims_have_expired}
 
 -- ---- how many leases a map holds
 
@@ -64,29 +61,29 @@ module _ {X : Type 0} where
 
 -- ---- the steps
 
-renew_holds : (held : Option Record) (row : Option Status) (expected : ℕ) (dirty : Option ℕ) (overridden : Option Status) (replicated : Bool) (t : ℕ)
-    → is_some (renew held row expected dirty overridden replicated t).lease ≡ is_some held
-renew_holds None row expected dirty overridden replicated t = refl
-renew_holds (Some r) row expected dirty overridden replicated t =
+renew_holds : (held : Option Record) (row : Option Status) (expected : ℕ) (last_dirty : Option ℕ) (overridden : Option Status) (replicated : Bool) (t : ℕ)
+    → is_some (renew held row expected last_dirty overridden replicated t).lease ≡ is_some held
+renew_holds None row expected last_dirty overridden replicated t = refl
+renew_holds (Some r) row expected last_dirty overridden replicated t =
     let status = rule r.instance.status row (Some r.instance.status) replicated in
-    elim (is_status status Unknown) as (λ b. is_some (cond b (uncounted (Some r) row expected NotFound) (renew_as r row expected dirty overridden replicated t status)).lease ≡ true) [ true ↦ refl | false ↦ refl ]
+    elim (is_status status Unknown) as (λ b. is_some (cond b (uncounted (Some r) row expected NotFound) (renew_as r row expected last_dirty overridden replicated t status)).lease ≡ true) [ true ↦ refl | false ↦ refl ]
 
-set_holds : (permitted : Bool) (held : Option Record) (row : Option Status) (expected : ℕ) (status : Status) (dirty : Option ℕ) (t : ℕ)
-    → is_some (set_status (seen permitted t held) held row expected status dirty t).lease ≡ is_some held
-set_holds permitted None row expected status dirty t = refl
-set_holds permitted (Some r) row expected status dirty t =
-    elim (permitted && is_expired r t 0) as (λ b. is_some (set_status (cond b None (Some r)) (Some r) row expected status dirty t).lease ≡ true) [
+set_holds : (permitted : Bool) (held : Option Record) (row : Option Status) (expected : ℕ) (status : Status) (last_dirty : Option ℕ) (t : ℕ)
+    → is_some (set_status (seen permitted t held) held row expected status last_dirty t).lease ≡ is_some held
+set_holds permitted None row expected status last_dirty t = refl
+set_holds permitted (Some r) row expected status last_dirty t =
+    elim (permitted && is_expired r t 0) as (λ b. is_some (set_status (cond b None (Some r)) (Some r) row expected status last_dirty t).lease ≡ true) [
       | true ↦ refl
-      | false ↦ elim (is_status r.instance.status status) as (λ b. is_some (cond b (uncounted (Some (renewed r t)) row expected Done) (uncounted (Some (in_status r status dirty t)) (Some status) expected Done)).lease ≡ true) [ true ↦ refl | false ↦ refl ]
+      | false ↦ elim (is_status r.instance.status status) as (λ b. is_some (cond b (uncounted (Some (renewed r t)) row expected Done) (uncounted (Some (in_status r status last_dirty t)) (Some status) expected Done)).lease ≡ true) [ true ↦ refl | false ↦ refl ]
     ]
 
-unset_holds : (permitted : Bool) (held : Option Record) (row : Option Status) (expected : ℕ) (suggested : Option Status) (dirty : Option ℕ) (t : ℕ)
-    → is_some (unset_status (seen permitted t held) held row expected suggested dirty t).lease ≡ is_some held
-unset_holds permitted None row expected suggested dirty t = refl
-unset_holds permitted (Some r) None expected suggested dirty t =
-    elim (permitted && is_expired r t 0) as (λ b. is_some (unset_status (cond b None (Some r)) (Some r) None expected suggested dirty t).lease ≡ true) [ true ↦ refl | false ↦ refl ]
-unset_holds permitted (Some r) (Some row) expected suggested dirty t =
-    elim (permitted && is_expired r t 0) as (λ b. is_some (unset_status (cond b None (Some r)) (Some r) (Some row) expected suggested dirty t).lease ≡ true) [ true ↦ refl | false ↦ refl ]
+unset_holds : (permitted : Bool) (held : Option Record) (row : Option Status) (expected : ℕ) (suggested : Option Status) (last_dirty : Option ℕ) (t : ℕ)
+    → is_some (unset_status (seen permitted t held) held row expected suggested last_dirty t).lease ≡ is_some held
+unset_holds permitted None row expected suggested last_dirty t = refl
+unset_holds permitted (Some r) None expected suggested last_dirty t =
+    elim (permitted && is_expired r t 0) as (λ b. is_some (unset_status (cond b None (Some r)) (Some r) None expected suggested last_dirty t).lease ≡ true) [ true ↦ refl | false ↦ refl ]
+unset_holds permitted (Some r) (Some row) expected suggested last_dirty t =
+    elim (permitted && is_expired r t 0) as (λ b. is_some (unset_status (cond b None (Some r)) (Some r) (Some row) expected suggested last_dirty t).lease ≡ true) [ true ↦ refl | false ↦ refl ]
 
 abbrev came : Bool → ℕ
 came held = cond held 0 1
@@ -119,23 +116,23 @@ leases_are_accounted s (Register n replicated) t reply new step =
     ∙ ap (λ x. len s.leases + x) (sym (registered n replicated (is_some held))) ∙ ap (λ r. len s.leases + added_by (Register n replicated) r) (sym step.0)
 leases_are_accounted s (Adopt n) t reply new step =
     let held = get s.leases n.key in
-    let before = option_map (overridden_by (told n.overridden)) held in
+    let before = option_map (overridden_by (row_of n.overridden)) held in
     ap (λ m. len m.leases + 0) step.1 ∙ joins s.leases n.key _ held refl
-    ∙ ap (λ b. len s.leases + came b) (sym (same_held (overridden_by (told n.overridden)) held))
+    ∙ ap (λ b. len s.leases + came b) (sym (same_held (overridden_by (row_of n.overridden)) held))
     ∙ ap (λ x. len s.leases + x) (sym (adopted n (is_some before))) ∙ ap (λ r. len s.leases + added_by (Adopt n) r) (sym step.0)
-leases_are_accounted s (Renew k dirty overridden replicated) t reply new step =
+leases_are_accounted s (Renew k last_dirty overridden replicated) t reply new step =
     let held = get s.leases k in
-    omega (arith, ap (λ m. len m.leases) step.1 ∙ stays s.leases k held _ refl (renew_holds held (get s.rows k.id) s.expected dirty overridden replicated t))
+    omega (arith, ap (λ m. len m.leases) step.1 ∙ stays s.leases k held _ refl (renew_holds held (get s.overrides k.id) s.expected last_dirty overridden replicated t))
 leases_are_accounted s (Cancel k replicated) t reply new step =
     let held = get s.leases k in
     ap (λ m. len m.leases + removed_by (Cancel k replicated) reply) step.1
     ∙ ap (λ r. len (with_value s.leases k (cancel held s.expected).lease) + removed_by (Cancel k replicated) r) step.0 ∙ cancels s k replicated held refl
-leases_are_accounted s (SetStatus k status dirty replicated) t reply new step =
+leases_are_accounted s (SetStatus k status last_dirty replicated) t reply new step =
     let held = get s.leases k in
-    omega (arith, ap (λ m. len m.leases) step.1 ∙ stays s.leases k held _ refl (set_holds (permits s) held (get s.rows k.id) s.expected status dirty t))
-leases_are_accounted s (UnsetStatus k suggested dirty replicated) t reply new step =
+    omega (arith, ap (λ m. len m.leases) step.1 ∙ stays s.leases k held _ refl (set_holds (permits s) held (get s.overrides k.id) s.expected status last_dirty t))
+leases_are_accounted s (UnsetStatus k suggested last_dirty replicated) t reply new step =
     let held = get s.leases k in
-    omega (arith, ap (λ m. len m.leases) step.1 ∙ stays s.leases k held _ refl (unset_holds (permits s) held (get s.rows k.id) s.expected suggested dirty t))
+    omega (arith, ap (λ m. len m.leases) step.1 ∙ stays s.leases k held _ refl (unset_holds (permits s) held (get s.overrides k.id) s.expected suggested last_dirty t))
 leases_are_accounted s Evict t reply new step =
     let victims = step.0 in
     let held = λ (i : ℕ) (d : Key) (lt : i < length victims). ap is_some (victims_have_expired s t victims new (victims, refl, step.2, step.3) (get_or victims i d) (Contains-get_or victims i d lt)).1 in

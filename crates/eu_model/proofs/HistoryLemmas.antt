@@ -11,22 +11,19 @@ use Rattle.eu_base.specs.declared.names.Key.{Key}
 use Rattle.eu_base.specs.declared.settings.Config.{Config}
 use Rattle.eu_base.specs.declared.statuses.Status.{Status}
 use Rattle.eu_base.specs.declared.statuses.Status.TheVariants.{Unknown}
-use Rattle.eu_base.specs.Key.{key_cmp}
+use Rattle.eu_base.specs.Values.{key_cmp}
 use Rattle.eu_model.specs.declared.commands.Command.{Command}
-use Rattle.eu_model.specs.declared.commands.Command.TheVariants.{Register, Renew, Cancel, SetStatus, UnsetStatus, Adopt, Roll, Update, Reconfigure, Evict, Drain, Landed, Lost}
+use Rattle.eu_model.specs.declared.commands.Command.TheVariants.{Register, Renew, Cancel, SetStatus, UnsetStatus, Adopt, EndMinute, Update, Reconfigure, Evict, Drain, Landed, Lost}
 use Rattle.eu_model.specs.declared.commands.Entry.{Entry}
 use Rattle.eu_model.specs.declared.commands.Reply.{Reply}
 use Rattle.eu_model.specs.declared.commands.Reply.TheVariants.{Done, NotFound, Expected}
-use Rattle.eu_model.specs.Record.{Record, Kind, newest, duration, durations, is_expired, renewed}
-use Rattle.eu_model.specs.Record.Kind.{Fresh, Renewed}
-use Rattle.eu_model.specs.Marks.{Mark, since, last}
-use Rattle.eu_model.specs.Marks.Mark.{Minute}
-use Rattle.eu_model.specs.Change.{uncounted, register, adopt, renew, renew_as, set_status, unset_status, in_status, cancel}
-use Rattle.eu_model.specs.Machine.{Machine, opening, seen, permits}
-use Rattle.eu_model.specs.Override.{rule, is_status}
+use Rattle.eu_model.specs.Machine.{Record, Kind, newest, duration, durations, is_expired, renewed, Mark, since, last, Machine, opening, seen, permits}
+use Rattle.eu_model.specs.Machine.Kind.{Fresh, Renewed}
+use Rattle.eu_model.specs.Machine.Mark.{Minute}
+use Rattle.eu_model.specs.Change.{uncounted, register, adopt, renew, renew_as, set_status, unset_status, in_status, cancel, rule, is_status}
 use Rattle.eu_model.specs.Step.{Step, marked}
 use Rattle.eu_model.specs.Server.{Server, ServerStep, Run, opened}
-use Rattle.eu_model.specs.History.{is_found, registers, renews, ends, newest_where, newest_touch, newest_registration, duration_by, durations_after, lasts_from, is_counted, ends_minute, renewals_since, renewals_of_last_minute, set_by, settings, expected_then, expected_by, is_pass, previous_pass}
+use Rattle.eu_model.specs.History.{is_found, registers, renews, ends, newest_where, newest_touch, newest_registration, duration_by, durations_after, lasts_from, is_counted, ends_minute, renewals_since, renewals_of_last_minute, set_by, settings, expected_then, expected_by, is_evict, previous_eviction}
 use Rattle.eu_model.specs.RunLaw.{IsAsSaid, LeasesAreAsSaid, NumbersAreAsSaid, UpdatesAreAsSaid}
 use Rattle.eu_model.proofs.MarkLemmas.{since_push, before_push, since_renewal, since_minute, last_renewal, last_minute, none_since, none_last}
 use Rattle.eu_model.proofs.GrowthLemmas.{GoesBy, Goes, server_goes, found_reply}
@@ -87,27 +84,27 @@ said_push k es e old new said goes =
 abbrev marks_after : Command → Reply → List Mark → List Mark
 marks_after c reply marks = cond (ends_minute c) (marks ++ (Minute ∷ [])) (marked (is_counted c reply) marks)
 
-renew_counts : (held : Option Record) (row : Option Status) (expected : ℕ) (dirty : Option ℕ) (overridden : Option Status) (replicated : Bool) (t : ℕ)
-    → (renew held row expected dirty overridden replicated t).counted ≡ is_found (renew held row expected dirty overridden replicated t).reply
-renew_counts None row expected dirty overridden replicated t = refl
-renew_counts (Some r) row expected dirty overridden replicated t =
+renew_counts : (held : Option Record) (row : Option Status) (expected : ℕ) (last_dirty : Option ℕ) (overridden : Option Status) (replicated : Bool) (t : ℕ)
+    → (renew held row expected last_dirty overridden replicated t).counted ≡ is_found (renew held row expected last_dirty overridden replicated t).reply
+renew_counts None row expected last_dirty overridden replicated t = refl
+renew_counts (Some r) row expected last_dirty overridden replicated t =
     let status = rule r.instance.status row (Some r.instance.status) replicated in
-    elim (is_status status Unknown) as (λ b. (cond b (uncounted (Some r) row expected NotFound) (renew_as r row expected dirty overridden replicated t status)).counted ≡ is_found (cond b (uncounted (Some r) row expected NotFound) (renew_as r row expected dirty overridden replicated t status)).reply) [
+    elim (is_status status Unknown) as (λ b. (cond b (uncounted (Some r) row expected NotFound) (renew_as r row expected last_dirty overridden replicated t status)).counted ≡ is_found (cond b (uncounted (Some r) row expected NotFound) (renew_as r row expected last_dirty overridden replicated t status)).reply) [
       | true ↦ refl
-      | false ↦ sym (found_reply dirty (record r.instance { status = status }) replicated)
+      | false ↦ sym (found_reply last_dirty (record r.instance { status = status }) replicated)
     ]
 
-set_counts : (visible held : Option Record) (row : Option Status) (expected : ℕ) (status : Status) (dirty : Option ℕ) (t : ℕ)
-    → (set_status visible held row expected status dirty t).counted ≡ false
-set_counts None held row expected status dirty t = refl
-set_counts (Some r) held row expected status dirty t =
-    elim (is_status r.instance.status status) as (λ b. (cond b (uncounted (Some (renewed r t)) row expected Done) (uncounted (Some (in_status r status dirty t)) (Some status) expected Done)).counted ≡ false) [ true ↦ refl | false ↦ refl ]
+set_counts : (visible held : Option Record) (row : Option Status) (expected : ℕ) (status : Status) (last_dirty : Option ℕ) (t : ℕ)
+    → (set_status visible held row expected status last_dirty t).counted ≡ false
+set_counts None held row expected status last_dirty t = refl
+set_counts (Some r) held row expected status last_dirty t =
+    elim (is_status r.instance.status status) as (λ b. (cond b (uncounted (Some (renewed r t)) row expected Done) (uncounted (Some (in_status r status last_dirty t)) (Some status) expected Done)).counted ≡ false) [ true ↦ refl | false ↦ refl ]
 
-unset_counts : (visible held : Option Record) (row : Option Status) (expected : ℕ) (suggested : Option Status) (dirty : Option ℕ) (t : ℕ)
-    → (unset_status visible held row expected suggested dirty t).counted ≡ false
-unset_counts None held row expected suggested dirty t = refl
-unset_counts (Some r) held None expected suggested dirty t = refl
-unset_counts (Some r) held (Some row) expected suggested dirty t = refl
+unset_counts : (visible held : Option Record) (row : Option Status) (expected : ℕ) (suggested : Option Status) (last_dirty : Option ℕ) (t : ℕ)
+    → (unset_status visible held row expected suggested last_dirty t).counted ≡ false
+unset_counts None held row expected suggested last_dirty t = refl
+unset_counts (Some r) held None expected suggested last_dirty t = refl
+unset_counts (Some r) held (Some row) expected suggested last_dirty t = refl
 
 cancel_counts : (held : Option Record) (expected : ℕ) → (cancel held expected).counted ≡ false
 cancel_counts None expected = refl
@@ -128,51 +125,51 @@ cancel_expects : (k : Key) (replicated : Bool) (held : Option Record) (expected 
 cancel_expects k replicated None expected = refl
 cancel_expects k replicated (Some r) expected = refl
 
-renew_expects : (held : Option Record) (row : Option Status) (expected : ℕ) (dirty : Option ℕ) (overridden : Option Status) (replicated : Bool) (t : ℕ)
-    → (renew held row expected dirty overridden replicated t).expected ≡ expected
-renew_expects None row expected dirty overridden replicated t = refl
-renew_expects (Some r) row expected dirty overridden replicated t =
+renew_expects : (held : Option Record) (row : Option Status) (expected : ℕ) (last_dirty : Option ℕ) (overridden : Option Status) (replicated : Bool) (t : ℕ)
+    → (renew held row expected last_dirty overridden replicated t).expected ≡ expected
+renew_expects None row expected last_dirty overridden replicated t = refl
+renew_expects (Some r) row expected last_dirty overridden replicated t =
     let status = rule r.instance.status row (Some r.instance.status) replicated in
-    elim (is_status status Unknown) as (λ b. (cond b (uncounted (Some r) row expected NotFound) (renew_as r row expected dirty overridden replicated t status)).expected ≡ expected) [ true ↦ refl | false ↦ refl ]
+    elim (is_status status Unknown) as (λ b. (cond b (uncounted (Some r) row expected NotFound) (renew_as r row expected last_dirty overridden replicated t status)).expected ≡ expected) [ true ↦ refl | false ↦ refl ]
 
-set_expects : (visible held : Option Record) (row : Option Status) (expected : ℕ) (status : Status) (dirty : Option ℕ) (t : ℕ)
-    → (set_status visible held row expected status dirty t).expected ≡ expected
-set_expects None held row expected status dirty t = refl
-set_expects (Some r) held row expected status dirty t =
-    elim (is_status r.instance.status status) as (λ b. (cond b (uncounted (Some (renewed r t)) row expected Done) (uncounted (Some (in_status r status dirty t)) (Some status) expected Done)).expected ≡ expected) [ true ↦ refl | false ↦ refl ]
+set_expects : (visible held : Option Record) (row : Option Status) (expected : ℕ) (status : Status) (last_dirty : Option ℕ) (t : ℕ)
+    → (set_status visible held row expected status last_dirty t).expected ≡ expected
+set_expects None held row expected status last_dirty t = refl
+set_expects (Some r) held row expected status last_dirty t =
+    elim (is_status r.instance.status status) as (λ b. (cond b (uncounted (Some (renewed r t)) row expected Done) (uncounted (Some (in_status r status last_dirty t)) (Some status) expected Done)).expected ≡ expected) [ true ↦ refl | false ↦ refl ]
 
-unset_expects : (visible held : Option Record) (row : Option Status) (expected : ℕ) (suggested : Option Status) (dirty : Option ℕ) (t : ℕ)
-    → (unset_status visible held row expected suggested dirty t).expected ≡ expected
-unset_expects None held row expected suggested dirty t = refl
-unset_expects (Some r) held None expected suggested dirty t = refl
-unset_expects (Some r) held (Some row) expected suggested dirty t = refl
+unset_expects : (visible held : Option Record) (row : Option Status) (expected : ℕ) (suggested : Option Status) (last_dirty : Option ℕ) (t : ℕ)
+    → (unset_status visible held row expected suggested last_dirty t).expected ≡ expected
+unset_expects None held row expected suggested last_dirty t = refl
+unset_expects (Some r) held None expected suggested last_dirty t = refl
+unset_expects (Some r) held (Some row) expected suggested last_dirty t = refl
 
--- what a step leaves of the settings, the number expected, the marks and the pass before
+-- what a step leaves of the settings, the number expected, the marks and the eviction before
 pub record Leaves (c : Command) (t : ℕ) (reply : Reply) (old new : Machine) : Type 0 where
   pub config : new.config ≡ unwrap_or (set_by c) old.config
   pub expected : new.expected ≡ expected_then old.expected c reply
   pub marks : new.marks ≡ marks_after c reply old.marks
-  pub previous : new.previous ≡ cond (is_pass c) (Some t) old.previous
+  pub previous : new.previous ≡ cond (is_evict c) (Some t) old.previous
 
 step_leaves : (s : Machine) (c : Command) (t : ℕ) (reply : Reply) (new : Machine) → Step s c t reply new → Leaves c t reply s new
-step_leaves s (Register n replicated) t reply new step = record { config = ap (λ m. m.config) step.1; expected = ap (λ m. m.expected) step.1 ∙ register_expects n replicated (get s.leases n.key) (get s.rows n.key.id) s.expected t ∙ ap (expected_then s.expected (Register n replicated)) (sym step.0); marks = ap (λ m. m.marks) step.1; previous = ap (λ m. m.previous) step.1 }
-step_leaves s (Adopt n) t reply new step = record { config = ap (λ m. m.config) step.1; expected = ap (λ m. m.expected) step.1 ∙ adopt_expects n (get s.leases n.key) (get s.rows n.key.id) s.expected t ∙ ap (expected_then s.expected (Adopt n)) (sym step.0); marks = ap (λ m. m.marks) step.1; previous = ap (λ m. m.previous) step.1 }
-step_leaves s (Renew k dirty overridden replicated) t reply new step = record {
+step_leaves s (Register n replicated) t reply new step = record { config = ap (λ m. m.config) step.1; expected = ap (λ m. m.expected) step.1 ∙ register_expects n replicated (get s.leases n.key) (get s.overrides n.key.id) s.expected t ∙ ap (expected_then s.expected (Register n replicated)) (sym step.0); marks = ap (λ m. m.marks) step.1; previous = ap (λ m. m.previous) step.1 }
+step_leaves s (Adopt n) t reply new step = record { config = ap (λ m. m.config) step.1; expected = ap (λ m. m.expected) step.1 ∙ adopt_expects n (get s.leases n.key) (get s.overrides n.key.id) s.expected t ∙ ap (expected_then s.expected (Adopt n)) (sym step.0); marks = ap (λ m. m.marks) step.1; previous = ap (λ m. m.previous) step.1 }
+step_leaves s (Renew k last_dirty overridden replicated) t reply new step = record {
   config = ap (λ m. m.config) step.1;
-  expected = ap (λ m. m.expected) step.1 ∙ renew_expects (get s.leases k) (get s.rows k.id) s.expected dirty overridden replicated t;
-  marks = ap (λ m. m.marks) step.1 ∙ ap (λ b. marked b s.marks) (renew_counts (get s.leases k) (get s.rows k.id) s.expected dirty overridden replicated t ∙ ap is_found (sym step.0));
+  expected = ap (λ m. m.expected) step.1 ∙ renew_expects (get s.leases k) (get s.overrides k.id) s.expected last_dirty overridden replicated t;
+  marks = ap (λ m. m.marks) step.1 ∙ ap (λ b. marked b s.marks) (renew_counts (get s.leases k) (get s.overrides k.id) s.expected last_dirty overridden replicated t ∙ ap is_found (sym step.0));
   previous = ap (λ m. m.previous) step.1;
 }
-step_leaves s (SetStatus k status dirty replicated) t reply new step = record {
+step_leaves s (SetStatus k status last_dirty replicated) t reply new step = record {
   config = ap (λ m. m.config) step.1;
-  expected = ap (λ m. m.expected) step.1 ∙ set_expects (seen (permits s) t (get s.leases k)) (get s.leases k) (get s.rows k.id) s.expected status dirty t;
-  marks = ap (λ m. m.marks) step.1 ∙ ap (λ b. marked b s.marks) (set_counts (seen (permits s) t (get s.leases k)) (get s.leases k) (get s.rows k.id) s.expected status dirty t);
+  expected = ap (λ m. m.expected) step.1 ∙ set_expects (seen (permits s) t (get s.leases k)) (get s.leases k) (get s.overrides k.id) s.expected status last_dirty t;
+  marks = ap (λ m. m.marks) step.1 ∙ ap (λ b. marked b s.marks) (set_counts (seen (permits s) t (get s.leases k)) (get s.leases k) (get s.overrides k.id) s.expected status last_dirty t);
   previous = ap (λ m. m.previous) step.1;
 }
-step_leaves s (UnsetStatus k suggested dirty replicated) t reply new step = record {
+step_leaves s (UnsetStatus k suggested last_dirty replicated) t reply new step = record {
   config = ap (λ m. m.config) step.1;
-  expected = ap (λ m. m.expected) step.1 ∙ unset_expects (seen (permits s) t (get s.leases k)) (get s.leases k) (get s.rows k.id) s.expected suggested dirty t;
-  marks = ap (λ m. m.marks) step.1 ∙ ap (λ b. marked b s.marks) (unset_counts (seen (permits s) t (get s.leases k)) (get s.leases k) (get s.rows k.id) s.expected suggested dirty t);
+  expected = ap (λ m. m.expected) step.1 ∙ unset_expects (seen (permits s) t (get s.leases k)) (get s.leases k) (get s.overrides k.id) s.expected suggested last_dirty t;
+  marks = ap (λ m. m.marks) step.1 ∙ ap (λ b. marked b s.marks) (unset_counts (seen (permits s) t (get s.leases k)) (get s.leases k) (get s.overrides k.id) s.expected suggested last_dirty t);
   previous = ap (λ m. m.previous) step.1;
 }
 step_leaves s (Cancel k replicated) t reply new step = record {
@@ -181,7 +178,7 @@ step_leaves s (Cancel k replicated) t reply new step = record {
   marks = ap (λ m. m.marks) step.1 ∙ ap (λ b. marked b s.marks) (cancel_counts (get s.leases k) s.expected);
   previous = ap (λ m. m.previous) step.1;
 }
-step_leaves s Roll t reply new step = record { config = ap (λ m. m.config) step.1; expected = ap (λ m. m.expected) step.1; marks = ap (λ m. m.marks) step.1; previous = ap (λ m. m.previous) step.1 }
+step_leaves s EndMinute t reply new step = record { config = ap (λ m. m.config) step.1; expected = ap (λ m. m.expected) step.1; marks = ap (λ m. m.marks) step.1; previous = ap (λ m. m.previous) step.1 }
 step_leaves s (Reconfigure config) t reply new step = record { config = ap (λ m. m.config) step.1; expected = ap (λ m. m.expected) step.1; marks = ap (λ m. m.marks) step.1; previous = ap (λ m. m.previous) step.1 }
 step_leaves s Update t reply new step = record { config = ap (λ m. m.config) step.1; expected = ap (λ m. m.expected) step.1 ∙ ap (expected_then s.expected Update) (sym step.0); marks = ap (λ m. m.marks) step.1; previous = ap (λ m. m.previous) step.1 }
 step_leaves s Evict t reply new step = record { config = ap (λ m. m.config) step.3; expected = ap (λ m. m.expected) step.3 ∙ ap (expected_then s.expected Evict) (sym step.1); marks = ap (λ m. m.marks) step.3; previous = ap (λ m. m.previous) step.3 }
@@ -223,7 +220,7 @@ pub record Tells (opened_with : Config) (opened_for : ℕ) (es : List Entry) (s 
   pub leases : (k : Key) → Said k es (get s.leases k)
   pub since : since s.marks ≡ renewals_since es
   pub last : last s.marks ≡ renewals_of_last_minute es
-  pub previous : s.previous ≡ previous_pass es
+  pub previous : s.previous ≡ previous_eviction es
 
 settings-cond : (config : Config) (c : Command) (e : Entry) (o : Option Entry) → e.command ≡ c
     → option_map_or (λ (x : Entry). unwrap_or (set_by x.command) config) (cond (is_some (set_by c)) (Some e) o) config
@@ -255,7 +252,7 @@ module _ (config : Config) (expected : ℕ) where
       let c = e.command in
       let left = server_leaves s c e.moment e.reply new step in
       let newest_set = newest_where (λ x. is_some (set_by x.command)) es in
-      let newest_pass = newest_where (λ x. is_pass x.command) es in
+      let newest_eviction = newest_where (λ x. is_evict x.command) es in
       record {
         config = left.config ∙ ap (unwrap_or (set_by c)) told.config
             ∙ sym (ap (λ o. option_map_or (λ (x : Entry). unwrap_or (set_by x.command) config) o config) (newest_push (λ x. is_some (set_by x.command)) es e) ∙ settings-cond config c e newest_set refl);
@@ -265,8 +262,8 @@ module _ (config : Config) (expected : ℕ) where
             ∙ ap (λ n. cond (ends_minute c) 0 (n + cond (is_counted c e.reply) 1 0)) told.since ∙ sym (since_pushed es e);
         last = ap last left.marks ∙ last_after (ends_minute c) (is_counted c e.reply) s.machine.marks
             ∙ (λ i. cond (ends_minute c) (told.since i) (told.last i)) ∙ sym (last_pushed es e);
-        previous = left.previous ∙ ap (cond (is_pass c) (Some e.moment)) told.previous
-            ∙ sym (ap (option_map (λ x. x.moment)) (newest_push (λ x. is_pass x.command) es e) ∙ option_map-cond (is_pass c) e newest_pass);
+        previous = left.previous ∙ ap (cond (is_evict c) (Some e.moment)) told.previous
+            ∙ sym (ap (option_map (λ x. x.moment)) (newest_push (λ x. is_evict x.command) es e) ∙ option_map-cond (is_evict c) e newest_eviction);
       }
 
   tells_on : (past es : List Entry) (s new : Server) → Tells config expected past s.machine → Run s es new → Tells config expected (past ++ es) new.machine

@@ -13,11 +13,11 @@ pub mod ListingLemmas
 pub mod StatusLemmas
 pub mod AdoptLemmas
 pub mod EvictLemmas
-pub mod PassLemmas
+pub mod EvictionLemmas
 pub mod RunLemmas
 pub mod GrowthLemmas
 pub mod HistoryLemmas
-pub mod PassRunLemmas
+pub mod EvictionRunLemmas
 pub mod SilentLemmas
 pub mod RaiseLemmas
 pub mod HeldLemmas
@@ -27,3 +27,4 @@ pub mod DeterminedLemmas
 pub mod ServerLemmas
 pub mod ServedLemmas
 pub mod Crossing
+pub mod ChainLemmas

@@ -1,16 +1,15 @@
--- What is listed depends on what is kept alone
+-- What is listed depends on the plain form alone
 use Rattle.std.proofs.Common.{◌≡◌, ℕ, Bool, true, false, List, [], ◌∷◌, map, filter, refl, sym, ap, ◌∙◌}
 use Rattle.std.specs.Prelude.{cond, Option}
 use Rattle.std.specs.FinMap.{entries}
 use Rattle.eu_base.specs.declared.names.Key.{Key}
-use Rattle.eu_base.specs.Key.{key_cmp}
+use Rattle.eu_base.specs.Values.{key_cmp}
 use Rattle.eu_model.specs.declared.views.Listed.{Listed}
-use Rattle.eu_model.specs.Record.{Record}
-use Rattle.eu_model.specs.Machine.{Machine}
+use Rattle.eu_model.specs.Machine.{Record, Machine}
 use Rattle.eu_model.specs.Plain.{Plain, plain, listed}
 use Rattle.eu_model.specs.View.{is_of, listing}
 use Rattle.eu_model.specs.Answers.{Shows}
-use Rattle.eu_model.specs.Kept.{kept_listing}
+use Rattle.eu_model.specs.PlainSteps.{plain_listing}
 use Rattle.eu_model.proofs.MapLemmas.{entries-map_values}
 
 -- what passes a test on its key, as it is kept
@@ -25,10 +24,10 @@ passing-kept p (e ∷ es) =
       | false ↦ passing-kept p es
     ]
 
-pub listing-kept : (app : Option (List ℕ)) (s : Machine) → listing app s ≡ kept_listing app (plain s)
+pub listing-kept : (app : Option (List ℕ)) (s : Machine) → listing app s ≡ plain_listing app (plain s)
 listing-kept app s =
     passing-kept (is_of app) (entries s.leases)
     ∙ ap (λ (es : List (Key × Listed)). map (λ (e : Key × Listed). e.1) (filter (λ (e : Key × Listed). is_of app e.0) es)) (sym (entries-map_values key_cmp listed s.leases))
 
-pub listing_shown : (app : Option (List ℕ)) (p : Plain) → Shows p (listing app) (kept_listing app p)
-listing_shown app p s e = ap (kept_listing app) (sym e) ∙ sym (listing-kept app s)
+pub listing_shown : (app : Option (List ℕ)) (p : Plain) → Shows p (listing app) (plain_listing app p)
+listing_shown app p s e = ap (plain_listing app) (sym e) ∙ sym (listing-kept app s)

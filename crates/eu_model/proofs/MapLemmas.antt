@@ -8,7 +8,7 @@ use Rattle.std.specs.Cmp.{IsTotalOrder}
 use Rattle.std.proofs.lemmas.List.{length-map}
 use Rattle.std.specs.FinMap.{FinMap, IsAntisymmetric, find, is_sorted, empty, entries, entries_sorted, get, insert, remove, len, get-empty, entries-from_sorted, get-entries, len-entries, get-insert, get-remove, same_map}
 use Rattle.std.specs.FinMap.Entries.{below_all}
-use Rattle.eu_model.specs.Maps.{map_values, with_value}
+use Rattle.eu_model.specs.Machine.{map_values, with_value}
 
 module _ {K X Y : Type 0} (R : K → K → Ordering) (f : X → Y) where
   below_all-map : (x : K) (es : List (K × X)) → below_all R x (map (λ e. (e.0, f e.1)) es) ≡ below_all R x es

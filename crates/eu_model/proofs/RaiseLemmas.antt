@@ -3,15 +3,13 @@ use Rattle.std.proofs.Common.{◌≡◌, ℕ, zero, suc, ◌+◌, List, [], ◌�
 use Rattle.std.specs.Prelude.{Option, Some, None}
 use Rattle.std.specs.Option.{option_map}
 use Rattle.std.specs.FinMap.{FinMap, get, same_map}
-use Rattle.eu_base.specs.Key.{key_cmp}
+use Rattle.eu_base.specs.Values.{key_cmp}
 use Rattle.eu_base.proofs.KeyLemmas.{keys_total, keys_exact}
 use Rattle.eu_model.specs.declared.views.Listed.{Listed}
-use Rattle.eu_model.specs.Marks.{Mark, since, last}
-use Rattle.eu_model.specs.Marks.Mark.{Renewal, Minute}
-use Rattle.eu_model.specs.Maps.{map_values}
-use Rattle.eu_model.specs.Machine.{Machine}
+use Rattle.eu_model.specs.Machine.{Mark, since, last, map_values, Machine}
+use Rattle.eu_model.specs.Machine.Mark.{Renewal, Minute}
 use Rattle.eu_model.specs.Plain.{Plain, plain, listed}
-use Rattle.eu_model.specs.Kept.{raised}
+use Rattle.eu_model.specs.PlainSteps.{raised}
 use Rattle.eu_model.proofs.MarkLemmas.{since_renewal, since_minute, last_renewal, last_minute, none_since}
 use Rattle.eu_model.proofs.MapLemmas.{get-map_values}
 
@@ -53,8 +51,8 @@ leases_back m = same_map keys_total keys_exact _ _ (λ q.
 
 pub raise : (p : Plain) → (s : Machine) × (plain s ≡ p)
 raise p =
-    let s : Machine = record { config = p.config; leases = map_values raised p.leases; rows = p.rows; expected = p.expected; marks = marks_of p.last p.since; previous = p.previous } in
+    let s : Machine = record { config = p.config; leases = map_values raised p.leases; overrides = p.overrides; expected = p.expected; marks = marks_of p.last p.since; previous = p.previous } in
     let e1 = leases_back p.leases in
     let e2 = last_of p.last p.since in
     let e3 = since_of p.last p.since in
-    (s, λ i. record { config = p.config; leases = e1 i; rows = p.rows; expected = p.expected; last = e2 i; since = e3 i; previous = p.previous })
+    (s, λ i. record { config = p.config; leases = e1 i; overrides = p.overrides; expected = p.expected; last = e2 i; since = e3 i; previous = p.previous })

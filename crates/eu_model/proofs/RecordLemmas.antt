@@ -2,10 +2,10 @@
 use Rattle.std.proofs.Common.{◌≡◌, ℕ, ◌+◌, List, [], ◌∷◌, ◌++◌, refl, sym, ap, ◌∙◌}
 use Rattle.eu_base.specs.declared.instances.Instance.{Instance}
 use Rattle.eu_model.specs.declared.views.Listed.{Listed}
-use Rattle.eu_model.specs.Record.{Touch, Record, newest_from, newest, duration, renewed}
-use Rattle.eu_model.specs.Record.Kind.{Fresh, Renewed}
+use Rattle.eu_model.specs.Machine.{Touch, Record, newest_from, newest, duration, renewed}
+use Rattle.eu_model.specs.Machine.Kind.{Fresh, Renewed}
 use Rattle.eu_model.specs.Plain.{listed, update_of}
-use Rattle.eu_model.specs.Kept.{raised}
+use Rattle.eu_model.specs.PlainSteps.{raised}
 
 newest_from_snoc : (u : Touch) (ts : List Touch) (t : Touch) → newest_from u (ts ++ (t ∷ [])) ≡ t
 newest_from_snoc u [] t = refl

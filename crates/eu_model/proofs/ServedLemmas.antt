@@ -8,12 +8,10 @@ use Rattle.eu_model.specs.declared.commands.Command.TheVariants.{Drain, Landed, 
 use Rattle.eu_model.specs.declared.commands.Reply.{Reply}
 use Rattle.eu_model.specs.declared.commands.Reply.TheVariants.{Batch, Settled}
 use Rattle.eu_model.specs.declared.queues.Queue.{Queue}
-use Rattle.eu_model.specs.Answers.{Answers, IsAnswer, IsRefusal}
+use Rattle.eu_model.specs.Answers.{Answers, IsAnswer, IsRefusal, ServerAnswers, IsServerAnswer}
 use Rattle.eu_model.specs.Plain.{Plain, held_under}
-use Rattle.eu_model.specs.Queue.{drained, drain_fault, landed, landed_fault, lost, lost_fault}
-use Rattle.eu_model.specs.Faults.{fault}
-use Rattle.eu_model.specs.Server.{Server, PlainServer, plain_server, instance_at, key_of, is_for_peers, task_for, with_task, queue_fault, server_fault, TurnsQueue, ServerStep}
-use Rattle.eu_model.specs.ServerAnswers.{ServerAnswers, IsServerAnswer}
+use Rattle.eu_model.specs.Server.{drained, drain_fault, landed, landed_fault, lost, lost_fault, Server, PlainServer, plain_server, instance_at, key_of, is_for_peers, task_for, with_task, queue_fault, server_fault, TurnsQueue, ServerStep}
+use Rattle.eu_model.specs.Step.{fault}
 use Rattle.eu_model.proofs.ServerLemmas.{MachineStep, instance-kept}
 
 abbrev pub server : Plain → List Queue → PlainServer

@@ -1,4 +1,4 @@
--- What a server does depends on what is kept of its machine, and on its queues; what peers and timers do queues nothing
+-- What a server does depends on the plain form of its machine, and on its queues; what peers and timers do queues nothing
 use Rattle.std.proofs.Common.{◌≡◌, ℕ, false, List, map, Option, Some, None, refl, sym, ap, ◌∙◌}
 use Rattle.std.specs.Prelude.{slice_get, slice_set}
 use Rattle.std.specs.Option.{option_map}
@@ -9,15 +9,12 @@ use Rattle.eu_base.specs.declared.names.Key.{Key}
 use Rattle.eu_model.specs.declared.commands.Command.{Command}
 use Rattle.eu_model.specs.declared.commands.Command.TheVariants.{Register, Renew, Cancel, SetStatus, UnsetStatus, Drain, Landed, Lost}
 use Rattle.eu_model.specs.declared.commands.Reply.{Reply}
-use Rattle.eu_model.specs.Machine.{Machine}
+use Rattle.eu_model.specs.Machine.{Machine, Record}
 use Rattle.eu_model.specs.Plain.{plain, listed, held_under}
 use Rattle.eu_model.specs.declared.queues.Queue.{Queue}
-use Rattle.eu_model.specs.Queue.{drained, drain_fault, landed, landed_fault, lost, lost_fault}
-use Rattle.eu_model.specs.Record.{Record}
-use Rattle.eu_model.specs.Faults.{fault}
-use Rattle.eu_model.specs.Server.{Server, plain_server, instance_at, key_of, task_for, with_task, queue_fault, TurnsQueue}
+use Rattle.eu_model.specs.Server.{drained, drain_fault, landed, landed_fault, lost, lost_fault, Server, plain_server, instance_at, key_of, task_for, with_task, queue_fault, TurnsQueue}
+use Rattle.eu_model.specs.Step.{fault, Step}
 use Rattle.eu_model.specs.ServerLaw.{NothingIsQueued, ServersStepAlike, ServersFaultAlike}
-use Rattle.eu_model.specs.Step.{Step}
 use Rattle.eu_model.proofs.ChangedLemmas.{held_of}
 use Rattle.eu_model.proofs.LawLemmas.{steps_alike, faults_alike}
 
@@ -85,10 +82,10 @@ no_task qs = map-id qs
 
 pub nothing_is_queued : NothingIsQueued
 nothing_is_queued s (Register n false) t reply new step e = cc
-nothing_is_queued s (Renew k dirty overridden false) t reply new step e = cc
+nothing_is_queued s (Renew k last_dirty overridden false) t reply new step e = cc
 nothing_is_queued s (Cancel k false) t reply new step e = cc
-nothing_is_queued s (SetStatus k status dirty false) t reply new step e = cc
-nothing_is_queued s (UnsetStatus k suggested dirty false) t reply new step e = cc
+nothing_is_queued s (SetStatus k status last_dirty false) t reply new step e = cc
+nothing_is_queued s (UnsetStatus k suggested last_dirty false) t reply new step e = cc
 nothing_is_queued s (Drain peer) t reply new step e = cc
 nothing_is_queued s (Landed peer codes) t reply new step e = cc
 nothing_is_queued s (Lost peer) t reply new step e = cc

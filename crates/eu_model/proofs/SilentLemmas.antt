@@ -9,25 +9,23 @@ use Rattle.std.proofs.lemmas.List.Sums.{sum_by-cons, sum_by-append, count_by-le-
 use Rattle.std.proofs.lemmas.List.Elements.{All-head, All-tail, All-contains, Contains-get_or}
 use Rattle.std.proofs.lemmas.Map.Keys.{IsDistinct-head, IsDistinct-tail}
 use Rattle.eu_base.specs.declared.names.Key.{Key}
-use Rattle.eu_base.specs.Key.{key_cmp, key_eq}
+use Rattle.eu_base.specs.Values.{key_cmp, key_eq}
 use Rattle.eu_base.proofs.KeyLemmas.{key_eq-ties, key_eq-flips, key_eq-Decides}
 use Rattle.eu_model.specs.declared.commands.Command.{Command}
 use Rattle.eu_model.specs.declared.commands.Command.TheVariants.{Evict}
 use Rattle.eu_model.specs.declared.commands.Entry.{Entry}
 use Rattle.eu_model.specs.declared.commands.Reply.{Reply}
-use Rattle.eu_model.specs.Record.{Record, newest, duration, durations}
-use Rattle.eu_model.specs.Machine.{Machine}
-use Rattle.eu_model.specs.Maps.{without}
-use Rattle.eu_model.specs.Evict.{extra_time, due, AreVictims}
+use Rattle.eu_model.specs.Machine.{Record, newest, duration, durations, Machine, without}
+use Rattle.eu_model.specs.Step.{extra_time, due, AreVictims}
 use Rattle.eu_model.specs.View.{counts}
 use Rattle.eu_model.specs.Server.{Server, ServerStep, Run}
-use Rattle.eu_model.specs.History.{registers, renews, ends, touches, evicted_by, all_evicted, evicted_beside, is_pass, allows, most}
+use Rattle.eu_model.specs.History.{registers, renews, ends, touches, evicted_by, all_evicted, evicted_beside, is_evict, allows, most}
 use Rattle.eu_model.specs.RunLaw.{may_evict, all_may_evict, WhoIsSilentGoes}
 use Rattle.eu_model.proofs.GrowthLemmas.{GoesBy, get_with, get_without, held_at, server_goes}
 use Rattle.eu_model.proofs.HeldLemmas.{apart}
 use Rattle.eu_model.proofs.HistoryLemmas.{server_leaves}
-use Rattle.eu_model.proofs.PassLemmas.{due_expired, expired_due}
-use Rattle.eu_model.proofs.PassRunLemmas.{some_of}
+use Rattle.eu_model.proofs.EvictionLemmas.{due_expired, expired_due}
+use Rattle.eu_model.proofs.EvictionRunLemmas.{some_of}
 
 -- ---- counts
 
@@ -172,11 +170,11 @@ module _ (ks : List Key) (s : Server) (e : Entry) (new : Server) (step : ServerS
     | inr same ↦ silent k inside r (sym same ∙ at)
   ]
 
--- ---- a pass
+-- ---- an eviction
 
-pass_is : (c : Command) → is_pass c ≡ true → c ≡ Evict
-pass_is Evict is = refl
-pass_is c is = absurd (true≢false (sym is))
+evict_is : (c : Command) → is_evict c ≡ true → c ≡ Evict
+evict_is Evict is = refl
+evict_is c is = absurd (true≢false (sym is))
 
 abbrev beside : List Key → List Key → ℕ
 beside ks vs = count_by (λ k. not (list_any (key_eq k) ks)) vs
@@ -188,7 +186,7 @@ any_of v [] inside = absurd (omega (arith, inside.1))
 any_of v (k ∷ ks) (zero, lt, at) = ap (λ b. b || list_any (key_eq v) ks) ((key_eq-Decides v k).1 (sym at))
 any_of v (k ∷ ks) (suc i, lt, at) = ap (λ b. key_eq v k || b) (any_of v ks (i, omega (arith, lt), at)) ∙ elim (key_eq v k) as (λ b. (b || true) ≡ true) [ true ↦ refl | false ↦ refl ]
 
--- whatever a pass takes was held
+-- whatever an eviction takes was held
 module _ (s : Machine) (t : ℕ) (vs : List Key) (are : AreVictims s t vs) where
   victims_held : (i : ℕ) (d : Key) → i < length vs → is_some (get s.leases (get_or vs i d)) ≡ true
   victims_held i d lt = ap is_some (due_expired s t (get_or vs i d) (All-contains (Contains (due s t)) vs (get_or vs i d) are.expired (Contains-get_or vs i d lt))).1
@@ -203,11 +201,11 @@ module _ (s : Machine) (t : ℕ) (vs : List Key) (are : AreVictims s t vs) where
       count_none (λ k. is_some (get (without s.leases vs) k)) (due s t)
       (omega (arith, enough, taken (due s t), among, count_by-le-length (λ k. is_some (get s.leases k)) (due s t)))
 
-  -- as many others and these go together as the pass takes
+  -- as many others and these go together as the eviction takes
   beside_taken : (ks : List Key) → left (without s.leases vs) ks + length vs ≤ left s.leases ks + beside ks vs
   beside_taken ks = omega (arith, taken ks, count_both (λ v. list_any (key_eq v) ks) vs)
 
--- the leases are gone, or as many went by a pass as it may evict, or others in their place
+-- the leases are gone, or as many went by an eviction as it may take, or others in their place
 abbrev Clears : List Key → Server → Server → List Key → ℕ → Type 0
 Clears ks s new others may = (left new.machine.leases ks ≡ 0) ⊎ (left new.machine.leases ks + may ≤ left s.machine.leases ks + beside ks others)
 
@@ -216,19 +214,19 @@ module _ (ks : List Key) (s : Server) (t : ℕ) (reply : Reply) (new : Server) (
   abbrev vs : List Key
   vs = step.0.0
 
-  after_pass : (k : Key) → get new.machine.leases k ≡ get (without s.machine.leases vs) k
-  after_pass k = ap (λ (m : Machine). get m.leases k) step.0.3
+  after_eviction : (k : Key) → get new.machine.leases k ≡ get (without s.machine.leases vs) k
+  after_eviction k = ap (λ (m : Machine). get m.leases k) step.0.3
 
   gone_all : length (due s.machine t) ≤ length vs → left new.machine.leases ks ≡ 0
   gone_all enough = count_zero (λ k. is_some (get new.machine.leases k)) ks (λ k inside.
-      ap is_some (after_pass k ∙ get_without s.machine.leases vs k)
+      ap is_some (after_eviction k ∙ get_without s.machine.leases vs k)
       ∙ elim (is_some (get s.machine.leases k)) as (λ b. is_some (get s.machine.leases k) ≡ b → is_some (cond (list_any (key_eq k) vs) None (get s.machine.leases k)) ≡ false) [
         | true ↦ λ held. sym (ap is_some (get_without s.machine.leases vs k)) ∙ all_taken s.machine t vs step.0.2 enough k (late k inside held)
         | false ↦ λ none. ap (λ o. is_some (cond (list_any (key_eq k) vs) None o)) (none_of (get s.machine.leases k) none) ∙ elim (list_any (key_eq k) vs) as (λ b. is_some (cond b None (let o : Option Record = None in o)) ≡ false) [ true ↦ refl | false ↦ refl ]
       ] refl)
 
-  pass_clears : Clears ks s new (evicted_by Evict reply) (may_evict s)
-  pass_clears =
+  eviction_clears : Clears ks s new (evicted_by Evict reply) (may_evict s)
+  eviction_clears =
       let m = s.machine in
       let many = length (due m t) in
       let share = most m.config (len m.leases) in
@@ -256,7 +254,7 @@ gone_stays ks (e ∷ es) s end run quiet none =
 beside_cons : (ks : List Key) (e : Entry) (es : List Entry) → evicted_beside ks (e ∷ es) ≡ beside ks (evicted_by e.command e.reply) + evicted_beside ks es
 beside_cons ks e es = sum_by-append (λ k. one (not (list_any (key_eq k) ks))) (evicted_by e.command e.reply) (all_evicted es)
 
--- all of the leases are gone, or as many went as the passes may evict, or others in their place
+-- all of the leases are gone, or as many went as the evictions may take, or others in their place
 abbrev Cleared : List Key → List Entry → Server → Server → ℕ → Type 0
 Cleared ks es s end may = (left end.machine.leases ks ≡ 0) ⊎ (left end.machine.leases ks + may ≤ left s.machine.leases ks + evicted_beside ks es)
 
@@ -267,20 +265,20 @@ cleared_on ks e es s new end may rest run quiet (inl gone) later = inl (gone_sta
 cleared_on ks e es s new end may rest run quiet (inr few) (inl gone) = inl gone
 cleared_on ks e es s new end may rest run quiet (inr few) (inr later) = inr (omega (arith, few, later, beside_cons ks e es))
 
--- what one step clears, pass or not
+-- what one step clears, eviction or not
 step_clears : (ks : List Key) (s : Server) (e : Entry) (new : Server) → ServerStep s e.command e.moment e.reply new → Quiet ks e
-    → (is_pass e.command ≡ true → (k : Key) → Contains ks k → is_some (get s.machine.leases k) ≡ true → Contains (due s.machine e.moment) k)
-    → Clears ks s new (evicted_by e.command e.reply) (cond (is_pass e.command) (may_evict s) 0)
+    → (is_evict e.command ≡ true → (k : Key) → Contains ks k → is_some (get s.machine.leases k) ≡ true → Contains (due s.machine e.moment) k)
+    → Clears ks s new (evicted_by e.command e.reply) (cond (is_evict e.command) (may_evict s) 0)
 step_clears ks s e new step quiet late =
-    elim (is_pass e.command) as (λ b. is_pass e.command ≡ b → Clears ks s new (evicted_by e.command e.reply) (cond b (may_evict s) 0)) [
+    elim (is_evict e.command) as (λ b. is_evict e.command ≡ b → Clears ks s new (evicted_by e.command e.reply) (cond b (may_evict s) 0)) [
       | true ↦ λ is.
-          let evicts = pass_is e.command is in
+          let evicts = evict_is e.command is in
           subst (λ c. Clears ks s new (evicted_by c e.reply) (may_evict s)) (sym evicts)
-          (pass_clears ks s e.moment e.reply new (subst (λ c. ServerStep s c e.moment e.reply new) evicts step) (late is))
+          (eviction_clears ks s e.moment e.reply new (subst (λ c. ServerStep s c e.moment e.reply new) evicts step) (late is))
       | false ↦ λ is. inr (omega (arith, fewer ks s e new step quiet))
     ] refl
 
--- whoever is silent since a moment is due at each pass that comes no earlier, and finds a pass before it that did not either
+-- whoever is silent since a moment is due at each eviction that comes no earlier, and finds an eviction before it that did not either
 silent_due : (ks : List Key) (s : Server) (bound t previous : ℕ) → Silent ks bound s → s.machine.previous ≡ Some previous → bound ≤ previous → bound ≤ t
     → (k : Key) → Contains ks k → is_some (get s.machine.leases k) ≡ true → Contains (due s.machine t) k
 silent_due ks s bound t previous silent at late later k inside held =
@@ -291,14 +289,14 @@ silent_due ks s bound t previous silent at late later k inside held =
     expired_due s.machine t k r lease.1 (lt-ltb (reach r + extra) t (omega (arith, silent k inside r lease.1, little, late, later)))
 
 abbrev Later : ℕ → Entry → Type 0
-Later bound e = is_pass e.command ≡ true → bound ≤ e.moment
+Later bound e = is_evict e.command ≡ true → bound ≤ e.moment
 
--- the pass before, after a step
+-- the eviction before, after a step
 previous_on : (s : Server) (e : Entry) (new : Server) (bound previous : ℕ) → ServerStep s e.command e.moment e.reply new → Later bound e → s.machine.previous ≡ Some previous → bound ≤ previous
     → (p : ℕ) × (new.machine.previous ≡ Some p) × (bound ≤ p)
 previous_on s e new bound previous step later at late =
     let left = (server_leaves s e.command e.moment e.reply new step).previous in
-    elim (is_pass e.command) as (λ b. is_pass e.command ≡ b → new.machine.previous ≡ cond b (Some e.moment) s.machine.previous → (p : ℕ) × (new.machine.previous ≡ Some p) × (bound ≤ p)) [
+    elim (is_evict e.command) as (λ b. is_evict e.command ≡ b → new.machine.previous ≡ cond b (Some e.moment) s.machine.previous → (p : ℕ) × (new.machine.previous ≡ Some p) × (bound ≤ p)) [
       | true ↦ λ is now. (e.moment, now, later is)
       | false ↦ λ is now. (previous, now ∙ at, late)
     ] refl left
@@ -314,7 +312,7 @@ clearing ks bound (e ∷ es) s end run quiet late silent previous at before =
     let late_first = All-head (Later bound) e es late in
     let next = previous_on s e new bound previous step late_first at before in
     let clears = step_clears ks s e new step quiet_first (λ is. silent_due ks s bound e.moment previous silent at before (late_first is)) in
-    cleared_on ks e es s new end (cond (is_pass e.command) (may_evict s) 0) (all_may_evict es new end run.3) run.3 quiet_rest clears
+    cleared_on ks e es s new end (cond (is_evict e.command) (may_evict s) 0) (all_may_evict es new end run.3) run.3 quiet_rest clears
     (clearing ks bound es new end run.3 quiet_rest (All-tail (Later bound) e es late) (silent_on ks s e new step quiet_first bound silent) next.0 next.1 next.2)
 
 due_silent : (s : Server) (t : ℕ) → Silent (due s.machine t) t s
@@ -325,9 +323,9 @@ due_silent s t k inside r at =
     let past = ltb-true (reach expired.0 + extra) t expired.2 in
     omega (arith, past, ap reach same)
 
--- a pass touches nothing
-pass_quiet : (ks : List Key) (e : Entry) → is_pass e.command ≡ true → Quiet ks e
-pass_quiet ks e is k inside = ap (λ c. touches k c e.reply) (pass_is e.command is)
+-- an eviction touches nothing
+eviction_quiet : (ks : List Key) (e : Entry) → is_evict e.command ≡ true → Quiet ks e
+eviction_quiet ks e is k inside = ap (λ c. touches k c e.reply) (evict_is e.command is)
 
 pub who_is_silent_goes : WhoIsSilentGoes
 who_is_silent_goes config expected peers es s begun pass later end run ks is within quiet late enough k inside =
@@ -335,10 +333,10 @@ who_is_silent_goes config expected peers es s begun pass later end run ks is wit
     let step = run.2 in
     let t = pass.moment in
     let silent = λ (q : Key) (in_ks : Contains ks q). due_silent s t q (within q in_ks) in
-    let clears = step_clears ks s pass new step (pass_quiet ks pass is) (λ _ q in_ks held. within q in_ks) in
+    let clears = step_clears ks s pass new step (eviction_quiet ks pass is) (λ _ q in_ks held. within q in_ks) in
     let now = (server_leaves s pass.command t pass.reply new step).previous ∙ ap (λ b. cond b (Some t) s.machine.previous) is in
-    let rest = clearing ks t later new end run.3 quiet late (silent_on ks s pass new step (pass_quiet ks pass is) t silent) t now (omega arith) in
-    let none : left end.machine.leases ks ≡ 0 = elim (cleared_on ks pass later s new end (cond (is_pass pass.command) (may_evict s) 0) (all_may_evict later new end run.3) run.3 quiet clears rest) [
+    let rest = clearing ks t later new end run.3 quiet late (silent_on ks s pass new step (eviction_quiet ks pass is) t silent) t now (omega arith) in
+    let none : left end.machine.leases ks ≡ 0 = elim (cleared_on ks pass later s new end (cond (is_evict pass.command) (may_evict s) 0) (all_may_evict later new end run.3) run.3 quiet clears rest) [
       | inl gone ↦ gone
       | inr few ↦ omega (arith, few, enough, count_by-le-length (λ q. is_some (get s.machine.leases q)) ks)
     ] in

@@ -9,9 +9,9 @@ use Rattle.eu_model.specs.declared.tallies.Tally.{Tally}
 
 -- a renewal that found its lease
 abbrev pub counted_by : Command → Reply → ℕ
-counted_by (Renew k dirty overridden replicated) Done = 1
-counted_by (Renew k dirty overridden replicated) Stale = 1
-counted_by (Renew k dirty overridden replicated) (Conflict i) = 1
+counted_by (Renew k last_dirty overridden replicated) Done = 1
+counted_by (Renew k last_dirty overridden replicated) Stale = 1
+counted_by (Renew k last_dirty overridden replicated) (Conflict i) = 1
 counted_by _ _ = 0
 
 -- a lease that came

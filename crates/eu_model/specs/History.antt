@@ -1,14 +1,14 @@
 -- What the entries of a run say: who holds a lease and until when, the settings, how many are expected, the last minute's renewals, and what
--- a pass may do. Newest means last in the list, also where moments go back
+-- an eviction may do. Newest means last in the list, also where moments go back
 use Rattle.std.specs.Prelude.{ℕ, ◌+◌, ◌-◌, ◌*◌, ◌/◌, Bool, true, false, ◌&&◌, ◌||◌, not, nat_lt, if◌then◌else◌, List, [], ◌∷◌, ◌++◌, reverse, length, count_by, Option, Some, None, is_some, unwrap_or}
 use Rattle.std.specs.List.{find, list_any, after_last, before_last}
 use Rattle.std.specs.Option.{option_map, option_map_or}
 use Rattle.eu_base.specs.declared.instances.Instance.{Instance}
 use Rattle.eu_base.specs.declared.names.Key.{Key}
 use Rattle.eu_base.specs.declared.settings.Config.{Config}
-use Rattle.eu_base.specs.Key.{key_eq}
+use Rattle.eu_base.specs.Values.{key_eq}
 use Rattle.eu_model.specs.declared.commands.Command.{Command}
-use Rattle.eu_model.specs.declared.commands.Command.TheVariants.{Register, Renew, Cancel, SetStatus, UnsetStatus, Adopt, Roll, Update, Reconfigure, Evict}
+use Rattle.eu_model.specs.declared.commands.Command.TheVariants.{Register, Renew, Cancel, SetStatus, UnsetStatus, Adopt, EndMinute, Update, Reconfigure, Evict}
 use Rattle.eu_model.specs.declared.commands.Entry.{Entry}
 use Rattle.eu_model.specs.declared.commands.Reply.{Reply}
 use Rattle.eu_model.specs.declared.commands.Reply.TheVariants.{Registered, Done, NotFound, Expected, Evicted}
@@ -28,17 +28,17 @@ is_found _ = true
 
 -- the key of the lease that is renewed: by a heartbeat, or by a status that is set or unset, unless it was answered that nothing was found
 abbrev pub renewed_by : Command → Reply → Option Key
-renewed_by (Renew k dirty overridden replicated) reply = if is_found reply then Some k else None
-renewed_by (SetStatus k status dirty replicated) reply = if is_found reply then Some k else None
-renewed_by (UnsetStatus k suggested dirty replicated) reply = if is_found reply then Some k else None
+renewed_by (Renew k last_dirty overridden replicated) reply = if is_found reply then Some k else None
+renewed_by (SetStatus k status last_dirty replicated) reply = if is_found reply then Some k else None
+renewed_by (UnsetStatus k suggested last_dirty replicated) reply = if is_found reply then Some k else None
 renewed_by _ _ = None
 
--- the keys of the leases that a pass evicts
+-- the keys of the leases that an eviction takes
 abbrev pub evicted_by : Command → Reply → List Key
 evicted_by Evict (Evicted victims) = victims
 evicted_by _ _ = []
 
--- the keys of the leases that go: by a cancel that found its lease, or by a pass
+-- the keys of the leases that go: by a cancel that found its lease, or by an eviction
 abbrev pub ended_by : Command → Reply → List Key
 ended_by (Cancel k replicated) reply = if is_found reply then k ∷ [] else []
 ended_by c reply = evicted_by c reply
@@ -93,11 +93,11 @@ lasts_until k es = lasts_from k (newest_touch k es) (newest_registration k es)
 
 -- a heartbeat is counted, unless it was answered that nothing was found
 abbrev pub is_counted : Command → Reply → Bool
-is_counted (Renew k dirty overridden replicated) reply = is_found reply
+is_counted (Renew k last_dirty overridden replicated) reply = is_found reply
 is_counted _ _ = false
 
 abbrev pub ends_minute : Command → Bool
-ends_minute Roll = true
+ends_minute EndMinute = true
 ends_minute _ = false
 
 -- the heartbeats counted since the last end of a minute, or all where none has ended
@@ -120,7 +120,7 @@ abbrev pub settings : Config → List Entry → Config
 settings config es = option_map_or (λ e. unwrap_or (set_by e.command) config) (newest_where (λ e. is_some (set_by e.command)) es) config
 
 -- One more client is expected for each lease that comes, where any were expected; one fewer for a cancel that found its lease, and for each
--- victim of a pass, but never fewer than none; and as many as an update answers
+-- victim of an eviction, but never fewer than none; and as many as an update answers
 abbrev pub expected_then : ℕ → Command → Reply → ℕ
 expected_then n (Register i replicated) (Registered true) = if nat_lt 0 n then n + 1 else n
 expected_then n (Adopt i) (Registered true) = if nat_lt 0 n then n + 1 else n
@@ -134,33 +134,33 @@ abbrev pub expected_by : ℕ → List Entry → ℕ
 expected_by n [] = n
 expected_by n (e ∷ es) = expected_by (expected_then n e.command e.reply) es
 
--- ---- passes
+-- ---- evictions
 
--- the heartbeats that are wanted in a minute, more than which permit a pass: one in each interval of so many seconds, cut to the percentage
+-- the heartbeats that are wanted in a minute, more than which permit an eviction: one in each interval of so many seconds, cut to the percentage
 abbrev pub wanted : Config → ℕ → ℕ
 wanted c expected = expected * 60 * c.percent / (c.interval * 100)
 
--- whether a pass is permitted: self-preservation is off, or heartbeats are wanted, and more were counted in the last minute
+-- whether an eviction is permitted: self-preservation is off, or heartbeats are wanted, and more were counted in the last minute
 abbrev pub allows : Config → ℕ → ℕ → Bool
 allows c expected renewals = not c.preservation || (nat_lt 0 (wanted c expected) && nat_lt (wanted c expected) renewals)
 
--- how many of so many leases a pass may take: all but the percentage
+-- how many of so many leases an eviction may take: all but the percentage
 abbrev pub most : Config → ℕ → ℕ
 most c held = held - held * c.percent / 100
 
-abbrev pub is_pass : Command → Bool
-is_pass Evict = true
-is_pass _ = false
+abbrev pub is_evict : Command → Bool
+is_evict Evict = true
+is_evict _ = false
 
--- the moment of the newest pass
-abbrev pub previous_pass : List Entry → Option ℕ
-previous_pass es = option_map (λ e. e.moment) (newest_where (λ e. is_pass e.command) es)
+-- the moment of the newest eviction
+abbrev pub previous_eviction : List Entry → Option ℕ
+previous_eviction es = option_map (λ e. e.moment) (newest_where (λ e. is_evict e.command) es)
 
--- the time that a pass grants beyond: what it comes later than one eviction interval after the pass before; the first grants none
+-- the time that an eviction grants beyond: what it comes later than one eviction interval after the eviction before; the first grants none
 abbrev pub granted : Config → List Entry → ℕ → ℕ
-granted c es t = option_map_or (λ previous. t - previous - c.evict_ms) (previous_pass es) 0
+granted c es t = option_map_or (λ previous. t - previous - c.evict_ms) (previous_eviction es) 0
 
--- whether a lease is held, and has expired for a pass that comes now
+-- whether a lease is held, and has expired for an eviction that comes now
 abbrev pub is_due : Config → List Entry → ℕ → Key → Bool
 is_due c es t k = is_held k es && option_map_or (λ until. nat_lt (until + granted c es t) t) (lasts_until k es) false
 

@@ -1,4 +1,4 @@
--- Nothing but the plain form decides what may happen next, and what is so of every eviction pass
+-- Nothing but the plain form decides what may happen next, and what is so of every eviction
 use Rattle.std.specs.Prelude.{◌≡◌, ℕ, ◌+◌, ◌≤◌, true, Some, List, [], length, Contains}
 use Rattle.std.specs.FinMap.{get, len}
 use Rattle.eu_base.specs.declared.names.Key.{Key}
@@ -7,14 +7,9 @@ use Rattle.eu_model.specs.declared.commands.Command.TheVariants.{Evict}
 use Rattle.eu_model.specs.declared.commands.Reply.{Reply}
 use Rattle.eu_model.specs.declared.commands.Reply.TheVariants.{Evicted}
 use Rattle.eu_model.specs.declared.views.Query.{Query}
-use Rattle.eu_model.specs.Record.{Record, is_expired}
-use Rattle.eu_model.specs.Marks.{last}
-use Rattle.eu_model.specs.Meter.{threshold, share}
-use Rattle.eu_model.specs.Machine.{Machine}
+use Rattle.eu_model.specs.Machine.{Record, is_expired, last, threshold, share, Machine}
 use Rattle.eu_model.specs.Delta.{added_by, removed_by}
-use Rattle.eu_model.specs.Evict.{extra_time}
-use Rattle.eu_model.specs.Step.{Step}
-use Rattle.eu_model.specs.Faults.{fault}
+use Rattle.eu_model.specs.Step.{extra_time, Step, fault}
 use Rattle.eu_model.specs.View.{view}
 use Rattle.eu_model.specs.Plain.{plain, Plain}
 
@@ -36,17 +31,17 @@ ViewsAlike = (s s' : Machine) (q : Query) (t : ℕ) → plain s ≡ plain s' →
 abbrev pub EachIsHeld : Type 0
 EachIsHeld = (p : Plain) → (s : Machine) × (plain s ≡ p)
 
--- ---- passes
+-- ---- evictions
 
--- whoever a pass evicts held a lease that had expired, with the extra time that the pass grants
+-- whoever an eviction takes held a lease that had expired, with the extra time that the eviction grants
 abbrev pub VictimsHaveExpired : Type 0
 VictimsHaveExpired =
     (s : Machine) (t : ℕ) (victims : List Key) (new : Machine) → Step s Evict t (Evicted victims) new → (k : Key) → Contains victims k
     → (r : Record) × (get s.leases k ≡ Some r) × (is_expired r t (extra_time s.config s.previous t) ≡ true)
 
--- no pass evicts more than the share of the leases that are held
-abbrev pub PassesKeepTheShare : Type 0
-PassesKeepTheShare =
+-- no eviction takes more than the share of the leases that are held
+abbrev pub EvictionsKeepTheShare : Type 0
+EvictionsKeepTheShare =
     (s : Machine) (t : ℕ) (victims : List Key) (new : Machine) → Step s Evict t (Evicted victims) new → length victims ≤ share s.config (len s.leases)
 
 -- while self-preservation is on and the last minute's renewals are at most the threshold, nobody is evicted

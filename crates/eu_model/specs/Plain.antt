@@ -6,19 +6,16 @@ use Rattle.eu_base.specs.declared.instances.Instance.{Instance}
 use Rattle.eu_base.specs.declared.names.Key.{Key}
 use Rattle.eu_base.specs.declared.settings.Config.{Config}
 use Rattle.eu_base.specs.declared.statuses.Status.{Status}
-use Rattle.eu_base.specs.Key.{name_cmp, key_cmp}
+use Rattle.eu_base.specs.Values.{name_cmp, key_cmp}
 use Rattle.eu_model.specs.declared.views.Listed.{Listed}
-use Rattle.eu_model.specs.Maps.{map_values}
-use Rattle.eu_model.specs.Record.{Kind, Touch, Record, newest, duration}
-use Rattle.eu_model.specs.Record.Kind.{Fresh, Renewed}
-use Rattle.eu_model.specs.Marks.{last, since}
-use Rattle.eu_model.specs.Machine.{Machine}
+use Rattle.eu_model.specs.Machine.{map_values, Kind, Touch, Record, newest, duration, last, since, Machine}
+use Rattle.eu_model.specs.Machine.Kind.{Fresh, Renewed}
 
 -- the marks as the renewals of the last whole minute and those since
 pub record Plain : Type 0 where
   pub config : Config
   pub leases : FinMap key_cmp Listed
-  pub rows : FinMap name_cmp Status
+  pub overrides : FinMap name_cmp Status
   pub expected : ℕ
   pub last : ℕ
   pub since : ℕ
@@ -44,7 +41,7 @@ abbrev pub plain : Machine → Plain
 plain s = record {
   config = s.config;
   leases = map_values listed s.leases;
-  rows = s.rows;
+  overrides = s.overrides;
   expected = s.expected;
   last = last s.marks;
   since = since s.marks;
@@ -52,10 +49,10 @@ plain s = record {
 }
 
 -- the instance that is held under a key
-abbrev pub kept_instance : Plain → Key → Option Instance
-kept_instance p k = option_map (λ l. l.instance) (get p.leases k)
+abbrev pub plain_instance : Plain → Key → Option Instance
+plain_instance p k = option_map (λ l. l.instance) (get p.leases k)
 
 -- the same, where a key is named
 abbrev pub held_under : Plain → Option Key → Option Instance
 held_under p None = None
-held_under p (Some k) = kept_instance p k
+held_under p (Some k) = plain_instance p k

@@ -5,16 +5,16 @@ use Rattle.std.specs.List.{IsDistinct}
 use Rattle.std.specs.FinMap.{get, len}
 use Rattle.eu_base.specs.declared.names.Key.{Key}
 use Rattle.eu_base.specs.declared.settings.Config.{Config}
-use Rattle.eu_base.specs.Key.{key_eq}
+use Rattle.eu_base.specs.Values.{key_eq}
 use Rattle.eu_model.specs.declared.commands.Command.TheVariants.{Update, Evict}
 use Rattle.eu_model.specs.declared.commands.Entry.{Entry}
 use Rattle.eu_model.specs.declared.commands.Reply.{Reply}
 use Rattle.eu_model.specs.declared.commands.Reply.TheVariants.{Expected, Evicted}
-use Rattle.eu_model.specs.Record.{Record, is_expired}
-use Rattle.eu_model.specs.Evict.{due}
+use Rattle.eu_model.specs.Machine.{Record, is_expired}
+use Rattle.eu_model.specs.Step.{due}
 use Rattle.eu_model.specs.View.{counts}
 use Rattle.eu_model.specs.Server.{Server, ServerStep, server_fault, Run, opened}
-use Rattle.eu_model.specs.History.{touches, is_held, lasts_until, renewals_of_last_minute, settings, expected_by, wanted, allows, most, is_pass, granted, is_due, evicted_beside}
+use Rattle.eu_model.specs.History.{touches, is_held, lasts_until, renewals_of_last_minute, settings, expected_by, wanted, allows, most, is_evict, granted, is_due, evicted_beside}
 
 -- ---- what is held is what the entries say
 
@@ -29,7 +29,7 @@ LeasesAreAsSaid =
     (config : Config) (expected peers : ℕ) (es : List Entry) (s : Server) → Run (opened config expected peers) es s
     → (k : Key) → IsAsSaid (get s.machine.leases k) k es
 
--- the settings, the number expected and the last minute's renewals, by which passes are permitted
+-- the settings, the number expected and the last minute's renewals, by which evictions are permitted
 pub record CountsAreAsSaid (config : Config) (expected : ℕ) (es : List Entry) (s : Server) : Type 0 where
   pub set : s.machine.config ≡ settings config es
   pub clients : s.machine.expected ≡ expected_by expected es
@@ -49,16 +49,16 @@ UpdatesAreAsSaid =
     → reply ≡ Expected (if nat_lt ((settings config es).percent * expected_by expected es) (len s.machine.leases * 100) || not (settings config es).preservation
     then len s.machine.leases else expected_by expected es)
 
--- the leases that are due for a pass are those that the entries say, each once
+-- the leases that are due for an eviction are those that the entries say, each once
 abbrev pub DueAreAsSaid : Type 0
 DueAreAsSaid =
     (config : Config) (expected peers : ℕ) (es : List Entry) (s : Server) → Run (opened config expected peers) es s
     → (t : ℕ) → IsDistinct key_eq (due s.machine t) × ((k : Key) → Contains (due s.machine t) k ↔ (is_due (settings config es) es t k ≡ true))
 
--- ---- each pass
+-- ---- each eviction
 
--- Whom a pass evicts was silent: the newest entry that touched the lease lies further back than its duration, or twice that where
--- the entry renewed it, and the time that the pass grants beyond. So who sends heartbeats is kept
+-- Whom an eviction takes was silent: the newest entry that touched the lease lies further back than its duration, or twice that where
+-- the entry renewed it, and the time that the eviction grants beyond. So who sends heartbeats is kept
 abbrev pub WhoRenewsIsKept : Type 0
 WhoRenewsIsKept =
     (config : Config) (expected peers : ℕ) (es : List Entry) (s : Server) (t : ℕ) (victims : List Key) (new : Server)
@@ -66,9 +66,9 @@ WhoRenewsIsKept =
     → (k : Key) → Contains victims k
     → (until : ℕ) × (lasts_until k es ≡ Some until) × (until + granted (settings config es) es t < t)
 
--- a pass may always be made: it isn't refused, and has some victims
-abbrev pub PassesAreNeverRefused : Type 0
-PassesAreNeverRefused =
+-- an eviction may always be made: it isn't refused, and has some victims
+abbrev pub EvictionsAreNeverRefused : Type 0
+EvictionsAreNeverRefused =
     (s : Server) (t : ℕ) → (server_fault s Evict t ≡ None) × ((victims : List Key) × (new : Server) × ServerStep s Evict t (Evicted victims) new)
 
 -- it takes distinct leases, that are due: as many as are due, up to its share, where it is permitted, and else none
@@ -79,8 +79,8 @@ pub record TakesItsNumber (config : Config) (expected : ℕ) (es : List Entry) (
       ≡ (if allows (settings config es) (expected_by expected es) (renewals_of_last_minute es)
       then min (length (due s.machine t)) (most (settings config es) (len s.machine.leases)) else 0)
 
-abbrev pub PassesTakeTheirNumber : Type 0
-PassesTakeTheirNumber =
+abbrev pub EvictionsTakeTheirNumber : Type 0
+EvictionsTakeTheirNumber =
     (config : Config) (expected peers : ℕ) (es : List Entry) (s : Server) (t : ℕ) (victims : List Key) (new : Server)
     → Run (opened config expected peers) es s → ServerStep s Evict t (Evicted victims) new → TakesItsNumber config expected es s t victims
 
@@ -91,26 +91,26 @@ PreservationKeepsAll =
     → Run (opened config expected peers) es s → ServerStep s Evict t (Evicted victims) new
     → (settings config es).preservation ≡ true → renewals_of_last_minute es ≤ wanted (settings config es) (expected_by expected es) → victims ≡ []
 
--- ---- passes that follow one another
+-- ---- evictions that follow one another
 
--- how many a pass may evict here: its share where it is permitted, and else none
+-- how many an eviction may take here: its share where it is permitted, and else none
 abbrev pub may_evict : Server → ℕ
 may_evict s = if allows s.machine.config s.machine.expected (counts s.machine).last then most s.machine.config (len s.machine.leases) else 0
 
--- how many the passes of a run may evict together
+-- how many the evictions of a run may take together
 abbrev pub all_may_evict : (es : List Entry) (s end : Server) → Run s es end → ℕ
 all_may_evict [] s end run = 0
-all_may_evict (e ∷ es) s end run = (if is_pass e.command then may_evict s else 0) + all_may_evict es run.0 end run.3
+all_may_evict (e ∷ es) s end run = (if is_evict e.command then may_evict s else 0) + all_may_evict es run.0 end run.3
 
--- Who is silent goes. Take some leases that are due at a pass, and let the run go on: nothing touches them, and no pass comes before the
--- moment of that first one. Once all its passes together might have evicted as many leases as these, and as many more as the times
--- that they evicted others, none of them is held
+-- Who is silent goes. Take some leases that are due at an eviction, and let the run go on: nothing touches them, and no eviction comes
+-- before the moment of that first one. Once all its evictions together might have taken as many leases as these, and as many more as
+-- the times that they took others, none of them is held
 abbrev pub WhoIsSilentGoes : Type 0
 WhoIsSilentGoes =
     (config : Config) (expected peers : ℕ) (es : List Entry) (s : Server) → Run (opened config expected peers) es s
     → (pass : Entry) (later : List Entry) (end : Server) (run : Run s (pass ∷ later) end) (ks : List Key)
-    → is_pass pass.command ≡ true → ((k : Key) → Contains ks k → Contains (due s.machine pass.moment) k)
+    → is_evict pass.command ≡ true → ((k : Key) → Contains ks k → Contains (due s.machine pass.moment) k)
     → All (λ e. (k : Key) → Contains ks k → touches k e.command e.reply ≡ false) later
-    → All (λ e. is_pass e.command ≡ true → pass.moment ≤ e.moment) later
+    → All (λ e. is_evict e.command ≡ true → pass.moment ≤ e.moment) later
     → length ks + evicted_beside ks (pass ∷ later) ≤ all_may_evict (pass ∷ later) s end run
     → (k : Key) → Contains ks k → get end.machine.leases k ≡ None

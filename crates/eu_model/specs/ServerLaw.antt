@@ -1,23 +1,21 @@
 -- What is so of a server with its peers
 use Rattle.std.specs.Prelude.{◌≡◌, ℕ, Bool, true, false}
 use Rattle.eu_model.specs.declared.commands.Command.{Command}
-use Rattle.eu_model.specs.declared.commands.Command.TheVariants.{Register, Renew, Cancel, SetStatus, UnsetStatus, Adopt, Roll, Update, Reconfigure, Evict}
+use Rattle.eu_model.specs.declared.commands.Command.TheVariants.{Register, Renew, Cancel, SetStatus, UnsetStatus, Drain, Landed, Lost}
 use Rattle.eu_model.specs.declared.commands.Reply.{Reply}
 use Rattle.eu_model.specs.Server.{Server, PlainServer, ServerStep, server_fault, plain_server}
 
 -- a peer sent it, or it is an adoption, a timer's command or a change of the settings
 abbrev pub tells_no_peer : Command → Bool
 tells_no_peer (Register n replicated) = replicated
-tells_no_peer (Renew k dirty overridden replicated) = replicated
+tells_no_peer (Renew k last_dirty overridden replicated) = replicated
 tells_no_peer (Cancel k replicated) = replicated
-tells_no_peer (SetStatus k status dirty replicated) = replicated
-tells_no_peer (UnsetStatus k suggested dirty replicated) = replicated
-tells_no_peer (Adopt n) = true
-tells_no_peer Roll = true
-tells_no_peer Update = true
-tells_no_peer (Reconfigure config) = true
-tells_no_peer Evict = true
-tells_no_peer _ = false
+tells_no_peer (SetStatus k status last_dirty replicated) = replicated
+tells_no_peer (UnsetStatus k suggested last_dirty replicated) = replicated
+tells_no_peer (Drain peer) = false
+tells_no_peer (Landed peer codes) = false
+tells_no_peer (Lost peer) = false
+tells_no_peer _ = true
 
 -- such a step queues nothing
 abbrev pub NothingIsQueued : Type 0

@@ -10,7 +10,7 @@ abbrev pub plain_of_state : State → Plain
 plain_of_state s = record {
   config = s.config;
   leases = from_entries (map (λ l. (l.instance.key, l)) s.leases);
-  rows = from_entries s.rows;
+  overrides = from_entries s.overrides;
   expected = s.expected;
   last = s.last;
   since = s.since;

@@ -6,18 +6,15 @@ use Rattle.std.specs.Fmt.{decimal}
 use Rattle.eu_base.specs.declared.names.Key.{Key}
 use Rattle.eu_base.specs.declared.statuses.Status.{Status}
 use Rattle.eu_base.specs.declared.statuses.Status.TheVariants.{Up, Down, Starting, OutOfService, Unknown}
-use Rattle.eu_base.specs.Key.{name_eq}
-use Rattle.eu_base.specs.Status.{status_name}
+use Rattle.eu_base.specs.Values.{name_eq, status_name}
 use Rattle.eu_model.specs.declared.views.Counts.{Counts}
 use Rattle.eu_model.specs.declared.views.Listed.{Listed}
 use Rattle.eu_model.specs.declared.views.Query.{Query}
 use Rattle.eu_model.specs.declared.views.Query.TheVariants as asked
 use Rattle.eu_model.specs.declared.views.View.{View}
 use Rattle.eu_model.specs.declared.views.View.TheVariants as seen
-use Rattle.eu_model.specs.Marks.{last}
-use Rattle.eu_model.specs.Meter.{threshold}
-use Rattle.eu_model.specs.Override.{is_status}
-use Rattle.eu_model.specs.Machine.{Machine, permits, visible}
+use Rattle.eu_model.specs.Machine.{last, threshold, Machine, permits, visible}
+use Rattle.eu_model.specs.Change.{is_status}
 use Rattle.eu_model.specs.Plain.{listed}
 
 abbrev pub counts : Machine → Counts

@@ -2,8 +2,7 @@
 ghost use Rattle.std.specs.Prelude.{◌≡◌, ◌↔◌, true, IfOk, IsOk, IsTrue};
 ghost use Rattle.eu_model.specs.Owned.{names_nothing, owns_nothing};
 
-use crate::{Keys, Tasks};
-use eu_base::{BoxedInstance, Codes, Config, Instance, Key, Moment, Stamp, Status};
+use eu_base::{BoxedInstance, Codes, Config, Instance, Key, Keys, Moment, Stamp, Status, Tasks};
 use std::alloc::{AllocError, Global};
 
 /// What changes a registry, or a server with peers. Each is one step of the lease machine, but for `Drain`, `Landed` and `Lost`, which
@@ -22,7 +21,7 @@ pub enum Command {
         /// The lease.
         key: Key,
         /// The stamp that the sender knows the instance by.
-        dirty: Option<Stamp>,
+        last_dirty: Option<Stamp>,
         /// The overridden status that the sender knows.
         overridden: Option<Status>,
         /// Whether a peer sends it.
@@ -42,7 +41,7 @@ pub enum Command {
         /// The status.
         status: Status,
         /// The stamp of the change.
-        dirty: Option<Stamp>,
+        last_dirty: Option<Stamp>,
         /// Whether a peer sends it.
         replicated: bool,
     },
@@ -53,7 +52,7 @@ pub enum Command {
         /// The status that the instance may have now; `Unknown` where none is given.
         status: Option<Status>,
         /// The stamp of the change.
-        dirty: Option<Stamp>,
+        last_dirty: Option<Stamp>,
         /// Whether a peer sends it.
         replicated: bool,
     },
@@ -63,7 +62,7 @@ pub enum Command {
         instance: BoxedInstance,
     },
     /// A minute ends (`MeasuredRate`'s timer).
-    Roll,
+    EndMinute,
     /// The number of clients is counted anew (`PeerAwareInstanceRegistryImpl.updateRenewalThreshold`).
     Update,
     /// An operator changes the settings while the registry runs (Eureka reads its `EurekaServerConfig` from properties, which may
@@ -72,7 +71,7 @@ pub enum Command {
         /// The settings from now on.
         config: Config,
     },
-    /// An eviction pass (`AbstractInstanceRegistry.evict`).
+    /// An eviction (`AbstractInstanceRegistry.evict`).
     Evict,
     /// The next tasks that wait for a peer go in flight to it, as one batch (`TaskExecutors` in Eureka).
     Drain {
@@ -105,25 +104,25 @@ impl Command {
             } => is_register(other, instance, *replicated),
             Command::Renew {
                 key,
-                dirty,
+                last_dirty,
                 overridden,
                 replicated,
-            } => is_renew(other, key, *dirty, *overridden, *replicated),
+            } => is_renew(other, key, *last_dirty, *overridden, *replicated),
             Command::Cancel { key, replicated } => is_cancel(other, key, *replicated),
             Command::SetStatus {
                 key,
                 status,
-                dirty,
+                last_dirty,
                 replicated,
-            } => is_set_status(other, key, *status, *dirty, *replicated),
+            } => is_set_status(other, key, *status, *last_dirty, *replicated),
             Command::UnsetStatus {
                 key,
                 status,
-                dirty,
+                last_dirty,
                 replicated,
-            } => is_unset_status(other, key, *status, *dirty, *replicated),
+            } => is_unset_status(other, key, *status, *last_dirty, *replicated),
             Command::Adopt { instance } => is_adopt(other, instance),
-            Command::Roll => matches!(other, Command::Roll),
+            Command::EndMinute => matches!(other, Command::EndMinute),
             Command::Update => matches!(other, Command::Update),
             Command::Reconfigure { config } => is_reconfigure(other, config),
             Command::Evict => matches!(other, Command::Evict),
@@ -147,25 +146,25 @@ impl Command {
             } => copy_register(alloc, instance, *replicated),
             Command::Renew {
                 key,
-                dirty,
+                last_dirty,
                 overridden,
                 replicated,
-            } => copy_renew(alloc, key, *dirty, *overridden, *replicated),
+            } => copy_renew(alloc, key, *last_dirty, *overridden, *replicated),
             Command::Cancel { key, replicated } => copy_cancel(alloc, key, *replicated),
             Command::SetStatus {
                 key,
                 status,
-                dirty,
+                last_dirty,
                 replicated,
-            } => copy_set_status(alloc, key, *status, *dirty, *replicated),
+            } => copy_set_status(alloc, key, *status, *last_dirty, *replicated),
             Command::UnsetStatus {
                 key,
                 status,
-                dirty,
+                last_dirty,
                 replicated,
-            } => copy_unset_status(alloc, key, *status, *dirty, *replicated),
+            } => copy_unset_status(alloc, key, *status, *last_dirty, *replicated),
             Command::Adopt { instance } => copy_adopt(alloc, instance),
-            Command::Roll => Ok(Command::Roll),
+            Command::EndMinute => Ok(Command::EndMinute),
             Command::Update => Ok(Command::Update),
             Command::Reconfigure { config } => Ok(Command::Reconfigure { config: *config }),
             Command::Evict => Ok(Command::Evict),
@@ -204,19 +203,22 @@ fn is_register(command: &Command, instance: &Instance, replicated: bool) -> bool
 fn is_renew(
     command: &Command,
     key: &Key,
-    dirty: Option<Stamp>,
+    last_dirty: Option<Stamp>,
     overridden: Option<Status>,
     replicated: bool,
 ) -> bool
-    ensures { IsTrue result ↔ (command.now ≡ Command.Renew key.now dirty overridden replicated) }
+    ensures { IsTrue result ↔ (command.now ≡ Command.Renew key.now last_dirty overridden replicated) }
 {
     match command {
         Command::Renew {
             key: theirs,
-            dirty: stamp,
+            last_dirty: stamp,
             overridden: status,
             replicated: so,
-        } => theirs == key && is_stamp(*stamp, dirty) && *status == overridden && *so == replicated,
+        } => theirs == key
+            && is_stamp(*stamp, last_dirty)
+            && *status == overridden
+            && *so == replicated,
         _ => false,
     }
 }
@@ -239,18 +241,18 @@ fn is_set_status(
     command: &Command,
     key: &Key,
     status: Status,
-    dirty: Option<Stamp>,
+    last_dirty: Option<Stamp>,
     replicated: bool,
 ) -> bool
-    ensures { IsTrue result ↔ (command.now ≡ Command.SetStatus key.now status dirty replicated) }
+    ensures { IsTrue result ↔ (command.now ≡ Command.SetStatus key.now status last_dirty replicated) }
 {
     match command {
         Command::SetStatus {
             key: theirs,
             status: set,
-            dirty: stamp,
+            last_dirty: stamp,
             replicated: so,
-        } => theirs == key && *set == status && is_stamp(*stamp, dirty) && *so == replicated,
+        } => theirs == key && *set == status && is_stamp(*stamp, last_dirty) && *so == replicated,
         _ => false,
     }
 }
@@ -260,18 +262,18 @@ fn is_unset_status(
     command: &Command,
     key: &Key,
     status: Option<Status>,
-    dirty: Option<Stamp>,
+    last_dirty: Option<Stamp>,
     replicated: bool,
 ) -> bool
-    ensures { IsTrue result ↔ (command.now ≡ Command.UnsetStatus key.now status dirty replicated) }
+    ensures { IsTrue result ↔ (command.now ≡ Command.UnsetStatus key.now status last_dirty replicated) }
 {
     match command {
         Command::UnsetStatus {
             key: theirs,
             status: left,
-            dirty: stamp,
+            last_dirty: stamp,
             replicated: so,
-        } => theirs == key && *left == status && is_stamp(*stamp, dirty) && *so == replicated,
+        } => theirs == key && *left == status && is_stamp(*stamp, last_dirty) && *so == replicated,
         _ => false,
     }
 }
@@ -328,16 +330,16 @@ fn copy_register(
 fn copy_renew(
     alloc: Global,
     key: &Key,
-    dirty: Option<Stamp>,
+    last_dirty: Option<Stamp>,
     overridden: Option<Status>,
     replicated: bool,
 ) -> Result<Command, AllocError>
-    ensures { IfOk result (λ c. c ≡ Command.Renew key.now dirty overridden replicated) }
+    ensures { IfOk result (λ c. c ≡ Command.Renew key.now last_dirty overridden replicated) }
 {
     let key = key.copy(alloc)?;
     Ok(Command::Renew {
         key,
-        dirty,
+        last_dirty,
         overridden,
         replicated,
     })
@@ -356,16 +358,16 @@ fn copy_set_status(
     alloc: Global,
     key: &Key,
     status: Status,
-    dirty: Option<Stamp>,
+    last_dirty: Option<Stamp>,
     replicated: bool,
 ) -> Result<Command, AllocError>
-    ensures { IfOk result (λ c. c ≡ Command.SetStatus key.now status dirty replicated) }
+    ensures { IfOk result (λ c. c ≡ Command.SetStatus key.now status last_dirty replicated) }
 {
     let key = key.copy(alloc)?;
     Ok(Command::SetStatus {
         key,
         status,
-        dirty,
+        last_dirty,
         replicated,
     })
 }
@@ -375,16 +377,16 @@ fn copy_unset_status(
     alloc: Global,
     key: &Key,
     status: Option<Status>,
-    dirty: Option<Stamp>,
+    last_dirty: Option<Stamp>,
     replicated: bool,
 ) -> Result<Command, AllocError>
-    ensures { IfOk result (λ c. c ≡ Command.UnsetStatus key.now status dirty replicated) }
+    ensures { IfOk result (λ c. c ≡ Command.UnsetStatus key.now status last_dirty replicated) }
 {
     let key = key.copy(alloc)?;
     Ok(Command::UnsetStatus {
         key,
         status,
-        dirty,
+        last_dirty,
         replicated,
     })
 }
@@ -425,7 +427,7 @@ pub enum Reply {
     Last(u64),
     /// The number of clients that are expected now.
     Expected(u64),
-    /// The leases that a pass took out.
+    /// The leases that an eviction took out.
     Evicted(Keys),
     /// The tasks that are in flight now.
     Batch(Tasks),
@@ -486,7 +488,7 @@ impl Reply {
 /// A command that was accepted, with its reply.
 #[derive(Debug, Drop)]
 pub struct Entry {
-    /// The number of who asked; it means nothing to the registry, and is no eviction pass.
+    /// The number of who asked; it means nothing to the registry.
     pub pass: u64,
     /// The number of the step, from 0.
     pub number: u64,

@@ -1,7 +1,6 @@
 //! What is seen of a registry.
 
-use crate::Listing;
-use eu_base::{App, Instance, Key};
+use eu_base::{App, Instance, Items, Key};
 
 /// What may be asked of a registry without changing it.
 #[derive(Debug, Drop)]
@@ -56,6 +55,9 @@ pub struct Times {
     /// When its instance was first up; 0 where it never was.
     pub up: u64,
 }
+
+/// Held leases, in their order.
+pub type Listing = Items<Listed>;
 
 /// A held lease, as it is listed.
 #[derive(Debug, Drop)]

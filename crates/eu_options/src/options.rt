@@ -59,11 +59,11 @@ fn seed_option<'a>(alloc: Global) -> Arg<'a>
         .value_name("N")
         .value_parser(value_parser!(u64))
         .help(
-            "Draws the victims of a pass by a generator with this seed; without it, the first are taken",
+            "Draws the victims of an eviction by a generator with this seed; without it, the first are taken",
         )
 }
 
-/// The options that say how a registry is set, and how the victims of a pass are drawn.
+/// The options that say how a registry is set, and how the victims of an eviction are drawn.
 fn with_settings<'a>(alloc: Global, command: Command<'a>) -> Result<Command<'a>, AllocError>
     ensures app { IfOk result (λ c. (switch : _) × IsSwitchParser switch × (app_of c ≡ with_options (app_of command.entry) switch)) }
     ensures local { (out-Command command.entry).has_globals ≡ false → IfOk result (λ c. (out-Command c).has_globals ≡ false) }
@@ -89,7 +89,7 @@ fn with_settings<'a>(alloc: Global, command: Command<'a>) -> Result<Command<'a>,
     )
     .help("The time between two renewals of a client");
     let evict_ms = option(alloc, "evict-ms", "MS", value_parser!(u32), "60000").help(
-        "The time between two eviction passes",
+        "The time between two evictions",
     );
     command
         .arg(preservation)?

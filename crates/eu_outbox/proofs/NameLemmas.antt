@@ -14,8 +14,7 @@ use Rattle.eu_base.specs.declared.tasks.Action.{Action}
 use Rattle.eu_base.specs.declared.tasks.Action.TheVariants.{Register, Heartbeat, Cancel, StatusUpdate, DeleteStatusOverride}
 use Rattle.eu_base.specs.declared.tasks.Task.{Task}
 use Rattle.eu_base.specs.declared.tasks.TaskName.{TaskName}
-use Rattle.eu_base.specs.Action.{place_of_action, is_action, same_name}
-use Rattle.eu_base.specs.Key.{key_cmp, key_eq}
+use Rattle.eu_base.specs.Values.{place_of_action, is_action, same_name, key_cmp, key_eq}
 use Rattle.eu_base.proofs.KeyLemmas.{keys_exact, key_eq-ties, key_eq-flips}
 
 pub first_true : (a b : Bool) → (a && b) ≡ true → a ≡ true

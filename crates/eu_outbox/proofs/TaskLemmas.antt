@@ -12,10 +12,9 @@ use Rattle.eu_base.specs.declared.faults.Fault.{Fault}
 use Rattle.eu_base.specs.declared.faults.Fault.TheVariants.{Busy, EmptyBatch}
 use Rattle.eu_base.specs.declared.tasks.Task.{Task}
 use Rattle.eu_base.specs.declared.tasks.TaskName.{TaskName}
-use Rattle.eu_base.specs.Action.{is_action, same_name}
-use Rattle.eu_base.specs.Key.{key_eq}
+use Rattle.eu_base.specs.Values.{is_action, same_name, key_eq}
 use Rattle.eu_model.specs.declared.queues.Queue.{Queue}
-use Rattle.eu_model.specs.Queue.{waits, is_old, live, bounded, put, drain_fault}
+use Rattle.eu_model.specs.Server.{waits, is_old, live, bounded, put, drain_fault}
 use Rattle.eu_outbox.specs.Steps.{IsApart, gave, gave_all, named, placed}
 use Rattle.eu_outbox.proofs.NameLemmas.{first_false, second_false, name_of, same_named, same_name-flips, reverse-push, list_any-reverse, map-reverse}
 

@@ -3,9 +3,8 @@ use Rattle.std.specs.Prelude.{◌≡◌, ℕ, Bool, false, ◌&&◌, ◌||◌, L
 use Rattle.std.specs.Borrow.{Bor}
 use Rattle.eu_base.specs.declared.tasks.Task.{Task}
 use Rattle.eu_base.specs.declared.tasks.TaskName.{TaskName}
-use Rattle.eu_base.specs.Action.{is_action, same_name}
-use Rattle.eu_base.specs.Key.{key_eq}
-use Rattle.eu_model.specs.Queue.{waits, is_old}
+use Rattle.eu_base.specs.Values.{is_action, same_name, key_eq}
+use Rattle.eu_model.specs.Server.{waits, is_old}
 use Rattle.eu_outbox.specs.declared.line.Waiting.{Waiting}
 
 -- the task that an entry stands for

@@ -4,5 +4,4 @@
 mod line;
 mod outbox;
 
-pub use line::{MOST_SENT, MOST_WAITING};
 pub use outbox::Outbox;

@@ -3,23 +3,14 @@ ghost use Rattle.std.specs.Prelude.{◌≡◌, ◌+◌, ◌-◌, ◌==◌, ◌<�
 ghost use Rattle.std.specs.List.{list_any};
 ghost use Rattle.std.specs.Option.{option_map};
 ghost use Rattle.indexmap.specs.IndexMap.{spare};
-ghost use Rattle.eu_model.specs.Queue.{bounded, live, put, is_old};
+ghost use Rattle.eu_model.specs.Server.{bounded, live, put, is_old};
 ghost use Rattle.eu_outbox.specs.Steps.{IsApart, gave, gave_all, in_line, named, placed, task_of, task_shown};
 
-use eu_base::{Instance, Moment, Status, Task, TaskName};
+use eu_base::{Instance, MOST_SENT, MOST_WAITING, Moment, Status, TASK_AGE, Task, TaskName};
 use indexmap::IndexMap;
 use std::alloc::{AllocError, Global};
 use std::marker::Model;
 use std::mem;
-
-/// The most tasks that wait.
-pub const MOST_WAITING: usize = 10_000;
-
-/// The most tasks of a batch.
-pub const MOST_SENT: usize = 250;
-
-/// A task is sent within so many milliseconds, or not at all.
-const TASK_AGE: u64 = 30_000;
 
 /// A task that waits, but for its name.
 #[derive(Debug, Drop)]
@@ -91,7 +82,7 @@ impl Line {
     /// Puts a task in the place of the one of its name, else last; where 10,000 wait, the first is dropped then.
     pub(crate) fn put(&mut self, name: TaskName, waiting: Waiting)
         requires room { 0 < self.old.room }
-        requires few { length self.old.tasks ≤ 10000 }
+        requires few { length self.old.tasks ≤ MOST_WAITING }
         ensures tasks { self.new.tasks ≡ put (task_of (name, waiting)) self.old.tasks }
         ensures room { self.old.room ≤ self.new.room + 1 }
     {
@@ -169,9 +160,9 @@ impl Line {
 
     /// Moves the first tasks, 250 at most, to the end of others.
     pub(crate) fn send(&mut self, batch: &mut Vec<Task>)
-        requires { vec_len batch.old + 250 ≤ vec_capacity batch.old }
-        ensures tasks { self.new.tasks ≡ drop 250 self.old.tasks }
-        ensures batch { batch.new.items ≡ batch.old.items ++ take 250 self.old.tasks }
+        requires { vec_len batch.old + MOST_SENT ≤ vec_capacity batch.old }
+        ensures tasks { self.new.tasks ≡ drop MOST_SENT self.old.tasks }
+        ensures batch { batch.new.items ≡ batch.old.items ++ take MOST_SENT self.old.tasks }
     {
         for _ in 0..MOST_SENT {
             let Some(task) = self.take_first() else {
@@ -231,7 +222,7 @@ impl Line {
 
     /// Copies of the first tasks that aren't too old at the moment, 250 at most. `AllocError` where no memory is left.
     pub(crate) fn batch(&self, alloc: Global, moment: Moment) -> Result<Vec<Task>, AllocError>
-        ensures { IfOk result (λ batch. batch.items ≡ take 250 (live moment self.now.tasks)) }
+        ensures { IfOk result (λ batch. batch.items ≡ take MOST_SENT (live moment self.now.tasks)) }
     {
         let mut batch = Vec::new(alloc);
         for place in 0..self.len() {
@@ -246,7 +237,7 @@ impl Line {
 
 /// Whether a task that was queued then is too old at the moment.
 fn is_old(queued: Moment, moment: Moment) -> bool
-    ensures { result ≡ nat_lt (queued + 30000) moment }
+    ensures { result ≡ nat_lt (queued + TASK_AGE) moment }
 {
     queued.ms() + TASK_AGE < moment.ms()
 }

@@ -1,11 +1,11 @@
 //! The outbox of a peer.
 ghost use Rattle.std.specs.Prelude.{◌≡◌, ◌+◌, ◌<◌, ◌≤◌, [], length, replicate, reverse, take, vec_len, IsOk, IfOk, IfErr, OnOk, OnErr};
 ghost use Rattle.eu_model.specs.Answers.{IsRefusal};
-ghost use Rattle.eu_model.specs.Queue.{idle, again, all_answered, answered, live, put, drained, drain_fault, landed, landed_fault, lost, lost_fault};
+ghost use Rattle.eu_model.specs.Server.{idle, again, all_answered, answered, live, put, drained, drain_fault, landed, landed_fault, lost, lost_fault};
 
-use crate::line::{Line, MOST_SENT, parts};
-use eu_base::{Action, Fault, Moment, Task};
-use eu_model::{Queue, Tasks};
+use crate::line::{Line, parts};
+use eu_base::{Action, Fault, MOST_SENT, MOST_WAITING, Moment, Task, Tasks};
+use eu_model::Queue;
 use std::alloc::{AllocError, Global};
 use std::marker::Model;
 
@@ -26,10 +26,11 @@ impl Model for Outbox {
     ghost coded = { coded_boxed };
 
     ghost use Rattle.eu_outbox.specs.Steps.{IsApart};
+    ghost use Rattle.eu_base.specs.Limits.{most_waiting};
 
     ghost view = { λ o. record { queue = record { waiting = o.waiting.tasks; flight = o.flight.items }; room = o.waiting.room } };
 
-    ghost invariant = { λ o. (length o.waiting.tasks ≤ 10000) × IsApart o.flight.items };
+    ghost invariant = { λ o. (length o.waiting.tasks ≤ most_waiting) × IsApart o.flight.items };
 }
 
 impl Outbox {
@@ -196,7 +197,7 @@ fn batches(
     moment: Moment,
     copies: u32,
 ) -> Result<Vec<Tasks>, AllocError>
-    ensures { IfOk result (λ batches. batches.items ≡ replicate copies (take 250 (live moment waiting.now.tasks))) }
+    ensures { IfOk result (λ batches. batches.items ≡ replicate copies (take MOST_SENT (live moment waiting.now.tasks))) }
 {
     let mut batches = Vec::new(alloc);
     for _ in 0..copies {
@@ -209,9 +210,9 @@ fn batches(
 fn answer_all(waiting: &mut Line, batch: &mut Vec<Task>, codes: &[u16], moment: Moment)
     requires count { length codes.now ≡ vec_len batch.old }
     requires room { length codes.now ≤ waiting.old.room }
-    requires few { length waiting.old.tasks ≤ 10000 }
+    requires few { length waiting.old.tasks ≤ MOST_WAITING }
     ensures tasks { waiting.new.tasks ≡ all_answered moment (reverse batch.old.items) codes.now waiting.old.tasks }
-    ensures few { length waiting.new.tasks ≤ 10000 }
+    ensures few { length waiting.new.tasks ≤ MOST_WAITING }
     ensures none { batch.new.items ≡ [] }
 {
     for code in codes {
@@ -225,9 +226,9 @@ fn answer_all(waiting: &mut Line, batch: &mut Vec<Task>, codes: &[u16], moment: 
 /// Puts the registration that follows the answer to a task, where one does.
 fn answer(waiting: &mut Line, task: Task, code: u16, moment: Moment)
     requires room { 0 < waiting.old.room }
-    requires few { length waiting.old.tasks ≤ 10000 }
+    requires few { length waiting.old.tasks ≤ MOST_WAITING }
     ensures tasks { waiting.new.tasks ≡ answered moment task code waiting.old.tasks }
-    ensures few { length waiting.new.tasks ≤ 10000 }
+    ensures few { length waiting.new.tasks ≤ MOST_WAITING }
     ensures room { waiting.old.room ≤ waiting.new.room + 1 }
 {
     if task.action as u8 != Action::Heartbeat as u8 || code != 404 {

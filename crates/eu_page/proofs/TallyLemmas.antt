@@ -4,7 +4,7 @@ use Rattle.std.proofs.lemmas.List.Sums.{count_by-le-length, count_by_more_yes, c
 use Rattle.eu_base.specs.declared.statuses.Status.{Status}
 use Rattle.eu_base.specs.declared.statuses.Status.TheVariants.{Up, Down, Starting, OutOfService, Unknown}
 use Rattle.eu_model.specs.declared.views.Listed.{Listed}
-use Rattle.eu_model.specs.Override.{is_status}
+use Rattle.eu_model.specs.Change.{is_status}
 use Rattle.eu_model.specs.View.{number_in}
 use Rattle.eu_page.specs.Tally.{tally_of, counted, IsBelow}
 

@@ -4,15 +4,15 @@ use Rattle.eu_base.specs.declared.faults.Fault.{Fault}
 use Rattle.eu_base.specs.declared.faults.Fault.TheVariants.{Busy}
 use Rattle.eu_base.specs.declared.instances.Instance.{Instance}
 use Rattle.eu_base.specs.declared.tasks.Task.{Task}
-use Rattle.eu_desk.specs.declared.asks.Answer.{Answer}
-use Rattle.eu_desk.specs.declared.asks.Ask.{Ask}
-use Rattle.eu_desk.specs.declared.asks.Ask.TheVariants.{Do}
+use Rattle.eu_model.specs.declared.asks.Answer.{Answer}
+use Rattle.eu_model.specs.declared.asks.Ask.{Ask}
+use Rattle.eu_model.specs.declared.asks.Ask.TheVariants.{Do}
 use Rattle.eu_json.specs.declared.batch_write.ItemAnswer.{ItemAnswer}
 use Rattle.eu_model.specs.declared.commands.Command.TheVariants.{Adopt, Drain, Landed, Lost}
 use Rattle.eu_peer.specs.declared.turn.Turn.{Turn}
 use Rattle.eu_peer.specs.declared.turn.Turn.TheVariants as turn
 use Rattle.eu_peer.specs.Turns.{Adopts, GivesBack, Lands, Sends, Drained, Taken, TurnsAt, Turns}
-use Rattle.eu_desk.specs.Chain.{Pairs}
+use Rattle.eu_model.specs.Chain.{Pairs}
 
 module _ {D : Type 0} (asked : D → Ask → ℕ → Result Answer Fault → D → Type 0) (R : D → D → Type 0)
     (none : (a b : D) → b ≡ a → R a b)
@@ -38,12 +38,12 @@ module _ {D : Type 0} (asked : D → Ask → ℕ → Result Answer Fault → D �
   lands_keep peer a b tasks answers (Err f) (inl is) = one a _ moment (Err f) b is
   lands_keep peer a b tasks answers (Err f) (inr is) = none a b is.1
 
-  taken_keeps : {P : Type 0} (peer : ℕ) (a : D) (p : P) (result : Result Unit Fault) (b : D) (p' : P) (told : P → List Task → Option (List ItemAnswer) → P → Type 0)
-      → Taken asked moment told peer a p result b p' → R a b
-  taken_keeps peer a p result b p' told is = on a is.0 b (one a (Do (Drain peer)) moment (Err Busy) is.0 is.1) (gives_back_keeps peer is.0 b result is.2)
+  taken_keeps : {P : Type 0} (peer : ℕ) (a : D) (p : P) (result : Result Unit Fault) (b : D) (p' : P) (submits : P → List Task → Option (List ItemAnswer) → P → Type 0)
+      → Taken asked moment submits peer a p result b p' → R a b
+  taken_keeps peer a p result b p' submits is = on a is.0 b (one a (Do (Drain peer)) moment (Err Busy) is.0 is.1) (gives_back_keeps peer is.0 b result is.2)
 
-  module _ {P : Type 0} (told : P → List Task → Option (List ItemAnswer) → P → Type 0) (peer : ℕ) (p p' : P) where
-    sends_keep : (a b : D) (tasks : List Task) (result : Result Turn Fault) → Sends asked moment told peer a p tasks result b p' → R a b
+  module _ {P : Type 0} (submits : P → List Task → Option (List ItemAnswer) → P → Type 0) (peer : ℕ) (p p' : P) where
+    sends_keep : (a b : D) (tasks : List Task) (result : Result Turn Fault) → Sends asked moment submits peer a p tasks result b p' → R a b
     sends_keep a b tasks (Ok (turn.Sent n adopted)) is = lands_keep peer a b tasks is.0 (Ok (turn.Sent n adopted)) is.2
     sends_keep a b tasks (Ok (turn.Lost n)) is = gives_back_keeps peer a b (Ok tt) is.2
     sends_keep a b tasks (Ok turn.Idle) never = absurd never
@@ -51,25 +51,25 @@ module _ {D : Type 0} (asked : D → Ask → ℕ → Result Answer Fault → D �
     sends_keep a b tasks (Err f) (inl is) = lands_keep peer a b tasks is.0 (Err f) is.2
     sends_keep a b tasks (Err f) (inr is) = gives_back_keeps peer a b (Err f) is.1
 
-    drained_keeps : (a b : D) (result : Result Turn Fault) → Drained asked moment told peer a p result b p' → R a b
+    drained_keeps : (a b : D) (result : Result Turn Fault) → Drained asked moment submits peer a p result b p' → R a b
     drained_keeps a b result is = on a is.1 b (one a (Do (Drain peer)) moment _ is.1 is.2) (sends_keep is.1 b is.0 result is.3)
 
-    turn_keeps : (a b : D) (result : Result Turn Fault) → TurnsAt asked moment told peer a p result b p' → R a b
+    turn_keeps : (a b : D) (result : Result Turn Fault) → TurnsAt asked moment submits peer a p result b p' → R a b
     turn_keeps a b (Ok turn.Idle) (inl refused, same) = one a (Do (Drain peer)) moment _ b refused
     turn_keeps a b (Ok turn.Idle) (inr answered, same) = one a (Do (Drain peer)) moment (Ok answered.0) b answered.2
-    turn_keeps a b (Ok turn.Waiting) is = taken_keeps peer a p (Ok tt) b p' told is
+    turn_keeps a b (Ok turn.Waiting) is = taken_keeps peer a p (Ok tt) b p' submits is
     turn_keeps a b (Ok (turn.Sent n adopted)) is = drained_keeps a b (Ok (turn.Sent n adopted)) is
     turn_keeps a b (Ok (turn.Lost n)) is = drained_keeps a b (Ok (turn.Lost n)) is
     turn_keeps a b (Err f) (inl refused) = one a (Do (Drain peer)) moment (Err f) b refused.0
-    turn_keeps a b (Err f) (inr (inl is)) = taken_keeps peer a p (Err f) b p' told is
+    turn_keeps a b (Err f) (inr (inl is)) = taken_keeps peer a p (Err f) b p' submits is
     turn_keeps a b (Err f) (inr (inr is)) = drained_keeps a b (Err f) is
 
 pub turns_keep : {D P C : Type 0} (asked : D → Ask → ℕ → Result Answer Fault → D → Type 0) (R : D → D → Type 0)
     → ((a b : D) → b ≡ a → R a b)
     → ((a b c : D) → R a b → R b c → R a c)
     → ((a : D) (ask : Ask) (t : ℕ) (r : Result Answer Fault) (b : D) → asked a ask t r b → R a b)
-    → (told : P → List Task → Option (List ItemAnswer) → P → Type 0) (tells : C → ℕ → C → Type 0)
+    → (submits : P → List Task → Option (List ItemAnswer) → P → Type 0) (tells : C → ℕ → C → Type 0)
     → (peer : ℕ) (a : D) (p : P) (c : C) (result : Result Turn Fault) (b : D) (p' : P) (c' : C)
-    → Turns asked told tells peer a p c result b p' c' → R a b
-turns_keep asked R none on one told tells peer a p c result b p' c' is =
-    turn_keeps asked R none on one is.0 told peer p p' a b result is.2
+    → Turns asked submits tells peer a p c result b p' c' → R a b
+turns_keep asked R none on one submits tells peer a p c result b p' c' is =
+    turn_keeps asked R none on one is.0 submits peer p p' a b result is.2

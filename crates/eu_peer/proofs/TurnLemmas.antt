@@ -4,14 +4,14 @@ use Rattle.std.proofs.lemmas.Bool.{false≢true}
 use Rattle.std.specs.Result.{is_ok}
 use Rattle.eu_base.specs.declared.faults.Fault.{Fault}
 use Rattle.eu_base.specs.declared.instances.Instance.{Instance}
-use Rattle.eu_desk.specs.declared.asks.Answer.{Answer}
-use Rattle.eu_desk.specs.declared.asks.Ask.{Ask}
-use Rattle.eu_desk.specs.declared.asks.Ask.TheVariants.{Do}
+use Rattle.eu_model.specs.declared.asks.Answer.{Answer}
+use Rattle.eu_model.specs.declared.asks.Ask.{Ask}
+use Rattle.eu_model.specs.declared.asks.Ask.TheVariants.{Do}
 use Rattle.eu_model.specs.declared.commands.Command.TheVariants.{Adopt}
 use Rattle.eu_json.specs.declared.batch_write.ItemAnswer.{ItemAnswer}
 use Rattle.eu_base.specs.declared.tasks.Task.{Task}
 use Rattle.eu_peer.specs.Turns.{accepted, all_newer, Adopts}
-use Rattle.eu_desk.proofs.ChainLemmas.{pairs_push}
+use Rattle.eu_model.proofs.ChainLemmas.{pairs_push}
 
 pub accepted_push : (rs : List (Result Answer Fault)) (r : Result Answer Fault) → accepted (rs ++ r ∷ []) ≡ accepted rs + accepted (r ∷ [])
 accepted_push [] (Ok a) = refl

@@ -1,3 +1,2 @@
-pub mod Delivery
 pub mod Turns
 pub mod Law

@@ -5,17 +5,17 @@ use Rattle.eu_base.specs.declared.faults.Fault.TheVariants.{OutOfMemory, EmptyBa
 use Rattle.eu_base.specs.declared.instances.Instance.{Instance}
 use Rattle.eu_base.specs.declared.tasks.Action.TheVariants.{Heartbeat}
 use Rattle.eu_base.specs.declared.tasks.Task.{Task}
-use Rattle.eu_base.specs.Action.{is_action}
-use Rattle.eu_desk.specs.declared.asks.Answer.{Answer}
-use Rattle.eu_desk.specs.declared.asks.Answer.TheVariants.{Did}
-use Rattle.eu_desk.specs.declared.asks.Ask.{Ask}
-use Rattle.eu_desk.specs.declared.asks.Ask.TheVariants.{Do}
+use Rattle.eu_base.specs.Values.{is_action}
+use Rattle.eu_model.specs.declared.asks.Answer.{Answer}
+use Rattle.eu_model.specs.declared.asks.Answer.TheVariants.{Did}
+use Rattle.eu_model.specs.declared.asks.Ask.{Ask}
+use Rattle.eu_model.specs.declared.asks.Ask.TheVariants.{Do}
 use Rattle.eu_json.specs.declared.batch_write.ItemAnswer.{ItemAnswer}
 use Rattle.eu_model.specs.declared.commands.Command.TheVariants.{Adopt, Drain, Landed, Lost}
 use Rattle.eu_model.specs.declared.commands.Reply.TheVariants as reply
 use Rattle.eu_peer.specs.declared.turn.Turn.{Turn}
 use Rattle.eu_peer.specs.declared.turn.Turn.TheVariants as turn
-use Rattle.eu_desk.specs.Chain.{Pairs}
+use Rattle.eu_model.specs.Chain.{Pairs}
 
 -- ---- what the answers say
 
@@ -69,14 +69,14 @@ module _ {D : Type 0} (asked : D → Ask → ℕ → Result Answer Fault → D �
       asked desk (Do (Landed peer (map code answers))) moment (Err f) desk' ⊎ ((f ≡ OutOfMemory) × (desk' ≡ desk))
   Lands peer desk tasks answers _ desk' = ⊥
 
-  module _ {P : Type 0} (told : P → List Task → Option (List ItemAnswer) → P → Type 0) where
+  module _ {P : Type 0} (submits : P → List Task → Option (List ItemAnswer) → P → Type 0) where
     -- the peer gave none, or not one a task
     abbrev pub Unanswered : P → List Task → P → Type 0
-    Unanswered p tasks p' = told p tasks None p' ⊎ ((answers : List ItemAnswer) × told p tasks (Some answers) p' × (length answers ≢ length tasks))
+    Unanswered p tasks p' = submits p tasks None p' ⊎ ((answers : List ItemAnswer) × submits p tasks (Some answers) p' × (length answers ≢ length tasks))
 
     -- the peer gave one a task
     abbrev pub Answered : P → List Task → List ItemAnswer → P → Type 0
-    Answered p tasks answers p' = told p tasks (Some answers) p' × (length answers ≡ length tasks)
+    Answered p tasks answers p' = submits p tasks (Some answers) p' × (length answers ≡ length tasks)
 
     -- the batch in flight is sent, and ends by the answers, or is taken for lost
     abbrev pub Sends : ℕ → D → P → List Task → Result Turn Fault → D → P → Type 0
@@ -113,5 +113,5 @@ module _ {D : Type 0} (asked : D → Ask → ℕ → Result Answer Fault → D �
 abbrev pub Turns :
     {D P C : Type 0} → (D → Ask → ℕ → Result Answer Fault → D → Type 0) → (P → List Task → Option (List ItemAnswer) → P → Type 0)
     → (C → ℕ → C → Type 0) → ℕ → D → P → C → Result Turn Fault → D → P → C → Type 0
-Turns asked told tells peer desk p clock result desk' p' clock' =
-    (moment : ℕ) × tells clock moment clock' × TurnsAt asked moment told peer desk p result desk' p'
+Turns asked submits tells peer desk p clock result desk' p' clock' =
+    (moment : ℕ) × tells clock moment clock' × TurnsAt asked moment submits peer desk p result desk' p'

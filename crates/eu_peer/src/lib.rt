@@ -1,13 +1,10 @@
 //! Peers: what the clients of a server did is told to other servers, in batches.
 #![tactic(auto)]
 
-mod commands;
-mod delivery;
 mod law;
 mod peer;
 mod turn;
 
-pub use delivery::InProcess;
 pub use eu_json::ItemAnswer;
 pub use law::busy_turns_wait;
 pub use peer::{Lost, Peer};

@@ -13,16 +13,16 @@ pub struct Lost;
 
 /// A server that is told what another server's clients did (`PeerEurekaNode` in Eureka).
 ///
-/// `told p batch answers q` says that a peer in the state `p`, told the batch, may give these answers, or none where the batch was
+/// `submits p batch answers q` says that a peer in the state `p`, told the batch, may give these answers, or none where the batch was
 /// lost, and be in the state `q` then.
 pub trait Peer {
     ghost use Rattle.eu_base.specs.declared.tasks.Task.{Task};
     ghost use Rattle.eu_json.specs.declared.batch_write.ItemAnswer.{ItemAnswer};
 
-    ghost told: { Self → List Task → Option (List ItemAnswer) → Self → Type 0 };
+    ghost submits: { Self → List Task → Option (List ItemAnswer) → Self → Type 0 };
 
     /// Tells the peer some tasks, and gives what it answers to each, in order. `Lost` where no answer came.
     fn submit(&mut self, alloc: Global, batch: &[Task]) -> Result<Vec<ItemAnswer>, Lost>
-        ensures told { IfOk result (λ answers. told self.old batch.now (Some answers.items) self.new) }
-        ensures lost { OnErr result (told self.old batch.now None self.new) };
+        ensures submits { IfOk result (λ answers. submits self.old batch.now (Some answers.items) self.new) }
+        ensures lost { OnErr result (submits self.old batch.now None self.new) };
 }

@@ -3,11 +3,10 @@ ghost use Rattle.std.specs.Prelude.{◌≡◌, map, IfOk, MatchOption};
 ghost use Rattle.eu_peer.specs.Turns as spec;
 
 use crate::peer::Peer;
-use eu_base::{Action, BoxedInstance, Codes, Fault, Moment, Task};
+use eu_base::{Action, BoxedInstance, Codes, Fault, Moment, Task, Tasks};
 use eu_clock::Clock;
-use eu_desk::{Answer, Ask, Desk};
 use eu_json::ItemAnswer;
-use eu_model::{Command, Reply, Tasks};
+use eu_model::{Answer, Ask, Command, Desk, Reply};
 use http::StatusCode;
 use std::alloc::{AllocError, Global};
 
@@ -128,7 +127,7 @@ fn send<D: Desk, P: Peer>(
     tasks: &Tasks,
     moment: Moment,
 ) -> Result<Turn, Fault>
-    ensures { spec.Sends D.asked moment P.told number desk.old peer.old tasks.now result desk.new peer.new }
+    ensures { spec.Sends D.asked moment P.submits number desk.old peer.old tasks.now result desk.new peer.new }
 {
     match peer.submit(alloc, tasks.as_slice()) {
         Ok(answers) if answers.len() == tasks.as_slice().len() => land(
@@ -180,7 +179,7 @@ pub fn replicate_turn<D: Desk, P: Peer, C: Clock>(
     peer: &mut P,
     clock: &mut C,
 ) -> Result<Turn, Fault>
-    ensures { spec.Turns D.asked P.told C.tells number desk.old peer.old clock.old result desk.new peer.new clock.new }
+    ensures { spec.Turns D.asked P.submits C.tells number desk.old peer.old clock.old result desk.new peer.new clock.new }
 {
     let moment = clock.now();
     let drain = Ask::Do(Command::Drain { peer: number });

@@ -47,7 +47,7 @@ fn run_with_journal<R: Files + Input + Print + Eprint + AllocGlobal, C: Chooser>
     let Some(mut journal) = create(rt, path) else {
         return End::Failed(Fault::Write).tell(rt);
     };
-    let kept = run_script_with_journal(
+    let outcome = run_script_with_journal(
         rt.alloc(),
         &mut rt.reader(),
         &mut io::writer(rt),
@@ -55,7 +55,7 @@ fn run_with_journal<R: Files + Input + Print + Eprint + AllocGlobal, C: Chooser>
         config,
         chooser,
     );
-    End::of_script(kept).tell(rt)
+    End::of_script(outcome).tell(rt)
 }
 
 /// Runs a script, and gives the exit status. Its journal is written to the file of that path, where one is given.

@@ -1,4 +1,4 @@
-//! Tests of the registry and of its parts: leases, their table and deadlines, the meter, and passes.
+//! Tests of the registry and of its parts: leases, their table and deadlines, the meter, and evictions.
 #![tactic(auto)]
 
 #[cfg(test)]

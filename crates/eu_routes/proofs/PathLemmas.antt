@@ -1,5 +1,6 @@
 -- Slashes, prefixes and names
-use Rattle.std.proofs.Common.{◌≡◌, ◌≢◌, Bool, Result, ℕ, ◌+◌, ◌-◌, ◌<◌, ◌≤◌, true, false, not, List, [], length, get_or, take, drop, map, Ok, Err, refl, sym, ◌∙◌, ap, arith, ◌==◌, eq-eqb, length-drop, length-take, ◌++◌, ◌∷◌, nat_eq, length-append, Option, Some, None, Bor}
+use mathlib.Core.Logic.{inl, inr}
+use Rattle.std.proofs.Common.{◌≡◌, ◌≢◌, ◌⊎◌, Bool, Result, ℕ, ◌+◌, ◌-◌, ◌<◌, ◌≤◌, true, false, not, List, [], length, get_or, take, drop, map, Ok, Err, refl, sym, ◌∙◌, ap, arith, ◌==◌, eq-eqb, length-drop, length-take, ◌++◌, ◌∷◌, nat_eq, length-append, Option, Some, None, Bor}
 use Rattle.std.proofs.lemmas.Bool.{ne_eqb, false_from_ne_true}
 use Rattle.std.proofs.lemmas.Bool.Decides.{nat_tests, Decides-eqb}
 use Rattle.std.proofs.Math.ListN.{get_or-map}
@@ -20,8 +21,13 @@ use Rattle.percent_encoding.specs.Percent.{percent_decode}
 use Rattle.eu_base.specs.declared.faults.Fault.{Fault}
 use Rattle.eu_base.specs.declared.faults.Fault.TheVariants.{BadPath}
 use Rattle.eu_base.specs.declared.names.Key.{Key}
-use Rattle.eu_routes.specs.Chain.{◌>>=◌}
+use Rattle.eu_base.specs.Gives.{◌>>=◌}
 use Rattle.eu_routes.specs.Path.{last_len, last_segment, parent, begins_with, without_slash, text_at, app_of, as_name, app_at, id_at, key_at, key_of, is_name, IsUncoded}
+
+-- a fault is want of memory, or what follows from what is said
+pub or_said : {A B C : Type 0} → A ⊎ B → (B → C) → A ⊎ C
+or_said (inl a) f = inl a
+or_said (inr b) f = inr (f b)
 
 -- the first slash of a text
 pub first_slash : (text : List ℕ) (k : ℕ) → k < length text → get_or text k 0 ≡ 47 → ((i : ℕ) → i < k → get_or text i 0 ≢ 47) → position_or_len (λ b. b == 47) text ≡ k

@@ -7,7 +7,7 @@ use Rattle.percent_encoding.specs.Percent.{percent_decode}
 use Rattle.eu_base.specs.declared.faults.Fault.{Fault}
 use Rattle.eu_base.specs.declared.faults.Fault.TheVariants.{BadPath}
 use Rattle.eu_base.specs.declared.names.Key.{Key}
-use Rattle.eu_routes.specs.Chain.{◌>>=◌}
+use Rattle.eu_base.specs.Gives.{◌>>=◌}
 
 abbrev pub slash : ℕ
 slash = 47

@@ -9,9 +9,8 @@ use Rattle.eu_base.specs.declared.faults.Fault.{Fault}
 use Rattle.eu_base.specs.declared.faults.Fault.TheVariants.{BadValue}
 use Rattle.eu_base.specs.declared.statuses.Status.{Status}
 use Rattle.eu_base.specs.declared.settings.Config.{Config}
-use Rattle.eu_base.specs.Settings.{settings_from}
-use Rattle.eu_base.specs.Status.{status_of}
-use Rattle.eu_routes.specs.Chain.{◌>>=◌}
+use Rattle.eu_base.specs.Values.{settings_from, status_of}
+use Rattle.eu_base.specs.Gives.{◌>>=◌}
 
 -- ---- pairs of a form
 

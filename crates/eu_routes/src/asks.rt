@@ -11,7 +11,7 @@ pub enum Route {
         /// The lease.
         key: Key,
         /// The stamp of the instance, where it is told.
-        dirty: Option<Stamp>,
+        last_dirty: Option<Stamp>,
         /// The status that overrides the instance's own, where it is told.
         overridden: Option<Status>,
     },
@@ -24,7 +24,7 @@ pub enum Route {
         /// The status.
         status: Status,
         /// The stamp of the change, where it is told.
-        dirty: Option<Stamp>,
+        last_dirty: Option<Stamp>,
     },
     /// No status is to override the own one of an instance any more.
     UnsetStatus {
@@ -33,7 +33,7 @@ pub enum Route {
         /// The instance's own status from now on, where it is told.
         status: Option<Status>,
         /// The stamp of the change, where it is told.
-        dirty: Option<Stamp>,
+        last_dirty: Option<Stamp>,
     },
     /// The instances of all applications are asked for.
     All,

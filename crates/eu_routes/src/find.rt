@@ -1,8 +1,9 @@
 //! What each method asks of each page.
 ghost use Rattle.std.specs.Prelude.{◌≡◌, ◌≢◌, true, Err, IsOk, Some};
-ghost use Rattle.eu_routes.specs.Route as spec;
+ghost use Rattle.eu_routes.specs.Table as spec;
 ghost use Rattle.eu_routes.specs.Path.{app_at, key_at, IsUncoded};
-ghost use Rattle.eu_routes.specs.Route.{IsKnown, Reads};
+ghost use Rattle.eu_base.specs.Gives.{Gives};
+ghost use Rattle.eu_routes.specs.Table.{IsKnown};
 
 use crate::asks::Route;
 use crate::paths::{app_at, cut, key_at, path_of};
@@ -20,9 +21,9 @@ const STATUS: &str = "value";
 /// The name of a status in a query, where the client says that it overrides the instance's own.
 const OVERRIDDEN: &str = "overriddenstatus";
 
-#[tactic(auto, unfolding(crate::specs::Route::applications_ask))]
+#[tactic(auto, unfolding(crate::specs::Table::applications_ask))]
 fn ask_applications(method: &str) -> Result<Route, Fault>
-    ensures said { Reads result (spec.applications_ask method.now) }
+    ensures said { Gives result (spec.applications_ask method.now) }
     ensures memory { result ≢ Err Fault.OutOfMemory }
 {
     match method {
@@ -31,9 +32,9 @@ fn ask_applications(method: &str) -> Result<Route, Fault>
     }
 }
 
-#[tactic(auto, unfolding(crate::specs::Route::batch_ask))]
+#[tactic(auto, unfolding(crate::specs::Table::batch_ask))]
 fn ask_batch(method: &str) -> Result<Route, Fault>
-    ensures said { Reads result (spec.batch_ask method.now) }
+    ensures said { Gives result (spec.batch_ask method.now) }
     ensures memory { result ≢ Err Fault.OutOfMemory }
 {
     match method {
@@ -42,9 +43,9 @@ fn ask_batch(method: &str) -> Result<Route, Fault>
     }
 }
 
-#[tactic(auto, unfolding(crate::specs::Route::page_ask))]
+#[tactic(auto, unfolding(crate::specs::Table::page_ask))]
 fn ask_page(method: &str) -> Result<Route, Fault>
-    ensures said { Reads result (spec.page_ask method.now) }
+    ensures said { Gives result (spec.page_ask method.now) }
     ensures memory { result ≢ Err Fault.OutOfMemory }
 {
     match method {
@@ -53,9 +54,9 @@ fn ask_page(method: &str) -> Result<Route, Fault>
     }
 }
 
-#[tactic(auto, unfolding(crate::specs::Route::config_ask))]
+#[tactic(auto, unfolding(crate::specs::Table::config_ask))]
 fn ask_config(alloc: Global, method: &str, query: &str) -> Result<Route, Fault>
-    ensures said { Reads result (spec.config_ask method.now query.now) }
+    ensures said { Gives result (spec.config_ask method.now query.now) }
     ensures memory { result ≡ Err Fault.OutOfMemory → spec.takes Page.Config method.now ≡ true }
 {
     match method {
@@ -64,9 +65,9 @@ fn ask_config(alloc: Global, method: &str, query: &str) -> Result<Route, Fault>
     }
 }
 
-#[tactic(auto, unfolding(crate::specs::Route::listing_ask))]
+#[tactic(auto, unfolding(crate::specs::Table::listing_ask))]
 fn ask_listing(alloc: Global, segment: &str) -> Result<Route, Fault>
-    ensures said { Reads result (spec.listing_ask segment.now) }
+    ensures said { Gives result (spec.listing_ask segment.now) }
     ensures memory { IsUncoded segment.now → result ≡ Err Fault.OutOfMemory → IsOk (app_at segment.now) }
 {
     if segment == "delta" {
@@ -75,9 +76,9 @@ fn ask_listing(alloc: Global, segment: &str) -> Result<Route, Fault>
     Ok(Route::OfApp(app_at(alloc, segment)?))
 }
 
-#[tactic(auto, unfolding(crate::specs::Route::application_ask))]
+#[tactic(auto, unfolding(crate::specs::Table::application_ask))]
 fn ask_application(alloc: Global, method: &str, path: &str) -> Result<Route, Fault>
-    ensures said { Reads result (spec.application_ask method.now path.now) }
+    ensures said { Gives result (spec.application_ask method.now path.now) }
     ensures memory { result ≡ Err Fault.OutOfMemory → IsKnown (Some Page.Application) method.now path.now }
 {
     let (_, segment) = cut(path);
@@ -88,25 +89,25 @@ fn ask_application(alloc: Global, method: &str, path: &str) -> Result<Route, Fau
     }
 }
 
-#[tactic(auto, unfolding(crate::specs::Route::renewal_ask))]
+#[tactic(auto, unfolding(crate::specs::Table::renewal_ask))]
 fn ask_renewal(alloc: Global, path: &str, query: &str) -> Result<Route, Fault>
-    ensures said { Reads result (spec.renewal_ask path.now query.now) }
+    ensures said { Gives result (spec.renewal_ask path.now query.now) }
     ensures memory { IsUncoded path.now → result ≡ Err Fault.OutOfMemory → IsOk (key_at path.now) }
 {
     let key = key_at(alloc, path)?;
-    let (dirty, overridden) = values_at(alloc, query, STAMP, OVERRIDDEN)?;
-    let dirty = stamp_given(dirty)?;
+    let (last_dirty, overridden) = values_at(alloc, query, STAMP, OVERRIDDEN)?;
+    let last_dirty = stamp_given(last_dirty)?;
     let overridden = status_given(overridden)?;
     Ok(Route::Renew {
         key,
-        dirty,
+        last_dirty,
         overridden,
     })
 }
 
-#[tactic(auto, unfolding(crate::specs::Route::lease_ask))]
+#[tactic(auto, unfolding(crate::specs::Table::lease_ask))]
 fn ask_lease(alloc: Global, method: &str, path: &str, query: &str) -> Result<Route, Fault>
-    ensures said { Reads result (spec.lease_ask method.now path.now query.now) }
+    ensures said { Gives result (spec.lease_ask method.now path.now query.now) }
     ensures memory { result ≡ Err Fault.OutOfMemory → IsKnown (Some Page.Lease) method.now path.now }
 {
     match method {
@@ -117,35 +118,43 @@ fn ask_lease(alloc: Global, method: &str, path: &str, query: &str) -> Result<Rou
     }
 }
 
-#[tactic(auto, unfolding(crate::specs::Route::setting_ask, crate::specs::Query::status_at))]
+#[tactic(auto, unfolding(crate::specs::Table::setting_ask, crate::specs::Query::status_at))]
 fn ask_setting(alloc: Global, path: &str, query: &str) -> Result<Route, Fault>
-    ensures said { Reads result (spec.setting_ask path.now query.now) }
+    ensures said { Gives result (spec.setting_ask path.now query.now) }
     ensures memory { IsUncoded path.now → result ≡ Err Fault.OutOfMemory → IsOk (key_at path.now) }
 {
     let key = key_at(alloc, path)?;
-    let (status, dirty) = values_at(alloc, query, STATUS, STAMP)?;
+    let (status, last_dirty) = values_at(alloc, query, STATUS, STAMP)?;
     let Some(status) = status_given(status)? else {
         return Err(Fault::BadValue);
     };
-    let dirty = stamp_given(dirty)?;
-    Ok(Route::SetStatus { key, status, dirty })
+    let last_dirty = stamp_given(last_dirty)?;
+    Ok(Route::SetStatus {
+        key,
+        status,
+        last_dirty,
+    })
 }
 
-#[tactic(auto, unfolding(crate::specs::Route::unsetting_ask, crate::specs::Query::status_at))]
+#[tactic(auto, unfolding(crate::specs::Table::unsetting_ask, crate::specs::Query::status_at))]
 fn ask_unsetting(alloc: Global, path: &str, query: &str) -> Result<Route, Fault>
-    ensures said { Reads result (spec.unsetting_ask path.now query.now) }
+    ensures said { Gives result (spec.unsetting_ask path.now query.now) }
     ensures memory { IsUncoded path.now → result ≡ Err Fault.OutOfMemory → IsOk (key_at path.now) }
 {
     let key = key_at(alloc, path)?;
-    let (status, dirty) = values_at(alloc, query, STATUS, STAMP)?;
+    let (status, last_dirty) = values_at(alloc, query, STATUS, STAMP)?;
     let status = status_given(status)?;
-    let dirty = stamp_given(dirty)?;
-    Ok(Route::UnsetStatus { key, status, dirty })
+    let last_dirty = stamp_given(last_dirty)?;
+    Ok(Route::UnsetStatus {
+        key,
+        status,
+        last_dirty,
+    })
 }
 
-#[tactic(auto, unfolding(crate::specs::Route::status_ask))]
+#[tactic(auto, unfolding(crate::specs::Table::status_ask))]
 fn ask_status(alloc: Global, method: &str, path: &str, query: &str) -> Result<Route, Fault>
-    ensures said { Reads result (spec.status_ask method.now path.now query.now) }
+    ensures said { Gives result (spec.status_ask method.now path.now query.now) }
     ensures memory { result ≡ Err Fault.OutOfMemory → IsKnown (Some Page.LeaseStatus) method.now path.now }
 {
     let (path, _) = cut(path);
@@ -158,8 +167,8 @@ fn ask_status(alloc: Global, method: &str, path: &str, query: &str) -> Result<Ro
 
 impl Routes {
     ghost use Rattle.eu_routes.specs.Path.{path_of};
-    ghost use Rattle.eu_routes.specs.Route.{IsKnown, Reads, route_of};
-    ghost use Rattle.eu_routes.specs.Table.{page_of};
+    ghost use Rattle.eu_base.specs.Gives.{Gives};
+    ghost use Rattle.eu_routes.specs.Table.{IsKnown, route_of, page_of};
 
     /// What a request asks for, by its method, and by its target's parts before and behind the first `?`.
     ///
@@ -189,7 +198,7 @@ impl Routes {
     /// `ApplicationsResource`, `ApplicationResource`, `InstanceResource` and `PeerReplicationResource`, and `status` and `config`,
     /// which are this registry's own.
     pub fn find(&self, alloc: Global, method: &str, path: &str, query: &str) -> Result<Route, Fault>
-        ensures said { Reads result (route_of method.now path.now query.now) }
+        ensures said { Gives result (route_of method.now path.now query.now) }
         ensures memory { result ≡ Err Fault.OutOfMemory → IsKnown (page_of (path_of path.now)) method.now (path_of path.now) }
     {
         let path = path_of(path);

@@ -8,6 +8,5 @@ mod queries;
 mod table;
 
 pub use asks::Route;
-pub use paths::{cut, path_of};
 pub use queries::{read_stamp, read_status};
 pub use table::Routes;

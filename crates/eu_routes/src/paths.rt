@@ -1,7 +1,7 @@
 //! The path of a target, and the names in its segments.
 ghost use Rattle.std.specs.Prelude.{◌≡◌, ◌≢◌, Err, IfErr, IfSome, IfNone, IsOk, OnOk, true, false, length, drop, IsAscii};
 ghost use Rattle.std.specs.Cow.{cow_str_bytes};
-ghost use Rattle.eu_routes.specs.Chain.{Gives};
+ghost use Rattle.eu_base.specs.Gives.{Gives, result_map};
 ghost use Rattle.eu_routes.specs.Path as spec;
 
 use eu_base::{App, Fault, Id, Key};
@@ -72,7 +72,7 @@ pub fn cut(path: &str) -> (&str, &str)
 /// The text that a segment stands for. `BadPath` where it isn't UTF-8 once it is decoded; `OutOfMemory`, where something is encoded.
 #[tactic(auto, unfolding(crate::specs::Path::text_at))]
 fn text_at(alloc: Global, segment: &str) -> Result<CowStr<'_, Global>, Fault>
-    ensures said { Gives cow_str_bytes result (spec.text_at segment.now) }
+    ensures said { Gives (result_map cow_str_bytes result) (spec.text_at segment.now) }
     ensures memory { spec.IsUncoded segment.now → result ≢ Err Fault.OutOfMemory }
 {
     match percent_decode_str(segment).decode_utf8(alloc) {
@@ -96,7 +96,7 @@ fn judge(text: &str) -> Result<(), Fault>
 /// The application of that name. `BadPath` where it is no name; else `OutOfMemory`.
 #[tactic(auto, unfolding(crate::specs::Path::app_of, crate::specs::Path::as_name))]
 fn app_of(alloc: Global, text: &str) -> Result<App, Fault>
-    ensures said { Gives (λ a. a) result (spec.app_of text.now) }
+    ensures said { Gives result (spec.app_of text.now) }
     ensures memory { result ≡ Err Fault.OutOfMemory → IsOk (spec.app_of text.now) }
 {
     judge(text)?;
@@ -109,7 +109,7 @@ fn app_of(alloc: Global, text: &str) -> Result<App, Fault>
 /// The id of that name. `BadPath` where it is no name; else `OutOfMemory`.
 #[tactic(auto, unfolding(crate::specs::Path::as_name))]
 fn id_of(alloc: Global, text: &str) -> Result<Id, Fault>
-    ensures said { Gives (λ i. i) result (spec.as_name text.now) }
+    ensures said { Gives result (spec.as_name text.now) }
     ensures memory { result ≡ Err Fault.OutOfMemory → IsOk (spec.as_name text.now) }
 {
     judge(text)?;
@@ -123,7 +123,7 @@ fn id_of(alloc: Global, text: &str) -> Result<Id, Fault>
 /// segment is encoded.
 #[tactic(auto, unfolding(crate::specs::Path::app_at))]
 pub fn app_at(alloc: Global, segment: &str) -> Result<App, Fault>
-    ensures said { Gives (λ a. a) result (spec.app_at segment.now) }
+    ensures said { Gives result (spec.app_at segment.now) }
     ensures memory { spec.IsUncoded segment.now → result ≡ Err Fault.OutOfMemory → IsOk (spec.app_at segment.now) }
 {
     let text = text_at(alloc, segment)?;
@@ -133,7 +133,7 @@ pub fn app_at(alloc: Global, segment: &str) -> Result<App, Fault>
 /// The lease of those names. `BadPath` where one of them is no name, which takes no memory; else `OutOfMemory`.
 #[tactic(auto, unfolding(crate::specs::Path::key_of, crate::specs::Path::app_of, crate::specs::Path::as_name))]
 fn key_of(alloc: Global, app: &str, id: &str) -> Result<Key, Fault>
-    ensures said { Gives (λ k. k) result (spec.key_of app.now id.now) }
+    ensures said { Gives result (spec.key_of app.now id.now) }
     ensures memory { result ≡ Err Fault.OutOfMemory → IsOk (spec.key_of app.now id.now) }
 {
     judge(app)?;
@@ -156,7 +156,7 @@ fn segments(path: &str) -> (&str, &str)
 /// The lease that the last two segments of a path name. `BadPath` where one of them is no name; `OutOfMemory`, but not in place of
 /// that where nothing in the path is encoded.
 pub fn key_at(alloc: Global, path: &str) -> Result<Key, Fault>
-    ensures said { Gives (λ k. k) result (spec.key_at path.now) }
+    ensures said { Gives result (spec.key_at path.now) }
     ensures memory { spec.IsUncoded path.now → result ≡ Err Fault.OutOfMemory → IsOk (spec.key_at path.now) }
 {
     let (app, id) = segments(path);

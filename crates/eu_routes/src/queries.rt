@@ -4,7 +4,7 @@ ghost use Rattle.std.specs.Cow.{cow_str_bytes};
 ghost use Rattle.std.specs.Option.{option_or};
 ghost use Rattle.std.specs.Str.{bytes_eq, str_to_ascii_uppercase};
 ghost use Rattle.form_urlencoded.specs.Form.{IsPlainText};
-ghost use Rattle.eu_routes.specs.Chain.{Gives};
+ghost use Rattle.eu_base.specs.Gives.{Gives};
 ghost use Rattle.eu_routes.specs.Query as spec;
 
 use eu_base::{Config, Fault, Stamp, Status};
@@ -27,7 +27,7 @@ const PERCENT: &str = "percent";
 /// The name of the seconds between two renewals (`expectedClientRenewalIntervalSeconds`).
 const INTERVAL: &str = "interval";
 
-/// The name of the milliseconds between two eviction passes (`evictionIntervalTimerInMs`).
+/// The name of the milliseconds between two evictions (`evictionIntervalTimerInMs`).
 const EVICT_MS: &str = "evictMs";
 
 /// The stamp of that text: 1 to 19 decimal digits, up to 2^63 - 1. None for any other text.
@@ -148,7 +148,7 @@ pub fn values_at<'q>(
 
 /// The stamp that a value tells. None where there is no value, or an empty one; `BadValue` for any other text.
 pub fn stamp_given(value: Option<CowStr<'_, Global>>) -> Result<Option<Stamp>, Fault>
-    ensures { Gives (λ s. s) result (spec.stamp_given (option_map cow_str_bytes value.entry)) }
+    ensures { Gives result (spec.stamp_given (option_map cow_str_bytes value.entry)) }
 {
     let Some(value) = value else {
         return Ok(None);
@@ -165,7 +165,7 @@ pub fn stamp_given(value: Option<CowStr<'_, Global>>) -> Result<Option<Stamp>, F
 
 /// The status that a value tells. None where there is no value; `BadValue` for any text that is no status, an empty one too.
 pub fn status_given(value: Option<CowStr<'_, Global>>) -> Result<Option<Status>, Fault>
-    ensures { Gives (λ s. s) result (spec.status_given (option_map cow_str_bytes value.entry)) }
+    ensures { Gives result (spec.status_given (option_map cow_str_bytes value.entry)) }
 {
     let Some(value) = value else {
         return Ok(None);
@@ -201,7 +201,7 @@ fn read_switch(text: &str) -> Option<bool>
 
 /// The number that a value tells. `BadValue` where there is no value, or one that isn't a number below 2^32.
 fn u32_given(value: Option<CowStr<'_, Global>>) -> Result<u32, Fault>
-    ensures { Gives (λ n. n) result (spec.needed spec.u32_of (option_map cow_str_bytes value.entry)) }
+    ensures { Gives result (spec.needed spec.u32_of (option_map cow_str_bytes value.entry)) }
 {
     let Some(value) = value else {
         return Err(Fault::BadValue);
@@ -211,7 +211,7 @@ fn u32_given(value: Option<CowStr<'_, Global>>) -> Result<u32, Fault>
 
 /// Whether a value tells that a setting is on. `BadValue` where there is no value, or one that is neither `on` nor `off`.
 fn switch_given(value: Option<CowStr<'_, Global>>) -> Result<bool, Fault>
-    ensures { Gives (λ b. b) result (spec.needed spec.switch_of (option_map cow_str_bytes value.entry)) }
+    ensures { Gives result (spec.needed spec.switch_of (option_map cow_str_bytes value.entry)) }
 {
     let Some(value) = value else {
         return Err(Fault::BadValue);
@@ -223,7 +223,7 @@ fn switch_given(value: Option<CowStr<'_, Global>>) -> Result<bool, Fault>
 /// past its limits (`Config::new`); `OutOfMemory`.
 #[tactic(auto, unfolding(crate::specs::Query::settings_at, crate::specs::Query::switch_at, crate::specs::Query::u32_at, crate::specs::Query::value_at))]
 pub fn config_at(alloc: Global, query: &str) -> Result<Config, Fault>
-    ensures { Gives (λ c. c) result (spec.settings_at query.now) }
+    ensures { Gives result (spec.settings_at query.now) }
 {
     let (preservation, percent) = values_at(alloc, query, PRESERVATION, PERCENT)?;
     let (interval, evict_ms) = values_at(alloc, query, INTERVAL, EVICT_MS)?;

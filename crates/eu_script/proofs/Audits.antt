@@ -10,9 +10,9 @@ use Rattle.eu_book.specs.Account.{Account}
 use Rattle.eu_book.specs.Peers.{state_of}
 use Rattle.eu_lines.specs.declared.faults.ScriptFault.{ScriptFault}
 use Rattle.eu_lines.specs.declared.faults.ScriptFault.TheVariants.{BadLine, Read, Write, OutOfMemory}
-use Rattle.eu_script.specs.declared.desk.Desk.{Desk}
+use Rattle.eu_script.specs.declared.desk.ScriptDesk.{ScriptDesk}
 use Rattle.eu_script.specs.Audit.{Judges, AuditRuns, audit_text}
-use Rattle.eu_script.specs.Desk.{Audits, HoldsRun, Leaves, Writes}
+use Rattle.eu_script.specs.ScriptDesk.{Audits, HoldsRun, Leaves, Writes}
 use Rattle.eu_script.specs.Script.{Ran}
 use Rattle.eu_script.proofs.Scripts.{without_memory}
 
@@ -37,7 +37,7 @@ module _ {C : Type 0} (config : Config) (asks : C → ℕ → ℕ × C) (x x' : 
   faulted Read p = (refl, p.0, (printed, p.1))
   faulted OutOfMemory p = (refl, p.0, (printed, p.1))
 
-  module _ (d : Desk) (leaves : Leaves config asks x x' left failed_reader false read (Ok d) printed) where
+  module _ (d : ScriptDesk) (leaves : Leaves config asks x x' left failed_reader false read (Ok d) printed) where
     -- nor where there was no memory for the audit
     pub unjudged : AuditRuns config asks x x' left failed_reader read failed_writer (Err OutOfMemory) []
     unjudged =

@@ -6,7 +6,8 @@ use Rattle.eu_base.specs.declared.faults.Fault.{Fault}
 use Rattle.eu_base.specs.declared.settings.Config.{Config}
 use Rattle.eu_base.specs.declared.faults.Fault.TheVariants.{OutOfMemory, Exhausted}
 use Rattle.eu_book.specs.declared.book.Receipt.{Receipt}
-use Rattle.eu_book.specs.Account.{Account, Applies, Refuses, cleared, entry, most_entries, most_steps, ready}
+use Rattle.eu_book.specs.Account.{Account, Applies, Refuses, cleared, entry, ready}
+use Rattle.eu_base.specs.Limits.{most_entries, most_steps}
 use Rattle.eu_book.proofs.BookLemmas.{differs, ready_same}
 use Rattle.eu_core.specs.Stepped.{Chooses}
 use Rattle.eu_lines.specs.declared.faults.LineError.{LineError}
@@ -15,18 +16,17 @@ use Rattle.eu_model.specs.declared.commands.Command.TheVariants as command
 use Rattle.eu_model.specs.declared.commands.Entry.{Entry}
 use Rattle.eu_model.specs.declared.commands.Reply.{Reply}
 use Rattle.eu_model.specs.declared.commands.Reply.TheVariants.{Evicted}
-use Rattle.eu_model.specs.Answers.{Shows}
+use Rattle.eu_model.specs.Answers.{Shows, ServerAnswers, IsServerAnswer}
 use Rattle.eu_model.specs.Machine.{Machine}
 use Rattle.eu_model.specs.Plain.{Plain, plain}
 use Rattle.eu_model.specs.Server as model
 use Rattle.eu_model.specs.Server.{Server, ServerStep, plain_server, server_fault}
-use Rattle.eu_model.specs.ServerAnswers.{ServerAnswers, IsServerAnswer}
 use Rattle.eu_model.specs.View.{counts, listing}
 use Rattle.eu_model.proofs.RunLemmas.{run_push}
 use Rattle.eu_page.specs.Page.{shown_page}
-use Rattle.eu_script.specs.declared.desk.Desk.{Desk}
+use Rattle.eu_script.specs.declared.desk.ScriptDesk.{ScriptDesk}
 use Rattle.eu_script.specs.Audit.{Journals}
-use Rattle.eu_script.specs.Desk.{Holds, HoldsRun, DeskAnswers, ClosedAnswers, OpenedAnswers, Told}
+use Rattle.eu_script.specs.ScriptDesk.{Holds, HoldsRun, DeskAnswers, ClosedAnswers, OpenedAnswers, Told}
 use Rattle.eu_script.specs.Script.{Ran, Does, Draws, Sees, Says, opened_with}
 use Rattle.eu_script.specs.Texts.{answer_text, settled_text}
 use Rattle.eu_words.specs.Lines.{line_of}
@@ -100,7 +100,7 @@ module _ {C : Type 0} (asks : C → ℕ → ℕ × C) (x : C) where
 
   module _ (a b : Account) (x' : C) (c : Command) (t : ℕ) (out : List ℕ) where
     -- a command that is accepted is the next entry of each run of that account
-    accepted : (receipt : Receipt) → Applies asks a x 0 c t receipt.reply receipt.number b x' → out ≡ answer_text (settled_text c) (Ok receipt)
+    accepted : (receipt : Receipt) → Applies asks a x (entry 0 receipt.number c t receipt.reply) b x' → out ≡ answer_text (settled_text c) (Ok receipt)
         → (r : Ran) → Holds a r → (next : Ran) × Does asks r x c t out next x' × Holds b next
     unfolding ServerAnswers IsServerAnswer
     accepted receipt applies text r h =
@@ -125,7 +125,7 @@ module _ {C : Type 0} (asks : C → ℕ → ℕ × C) (x : C) where
       | inr first ↦ (r, inr (f, subst (λ n. (if n == most_steps then Some Exhausted else server_fault r.server c t) ≡ Some f) h.steps first, text, refl, unasked), subst (λ y. Holds y r) (sym same) h)
     ]
 
-    does : (answer : Result Receipt Fault) → IfOk answer (λ receipt. Applies asks a x 0 c t receipt.reply receipt.number b x') → IfErr answer (λ f. Refuses a c t f)
+    does : (answer : Result Receipt Fault) → IfOk answer (λ receipt. Applies asks a x (entry 0 receipt.number c t receipt.reply) b x') → IfErr answer (λ f. Refuses a c t f)
         → OnErr answer (b ≡ a) → OnErr answer (x' ≡ x) → answer ≢ Err OutOfMemory → out ≡ answer_text (settled_text c) answer
         → (r : Ran) → Holds a r → (next : Ran) × Does asks r x c t out next x' × Holds b next
     does (Ok receipt) applies refuses same unasked known text = accepted receipt applies text
@@ -133,7 +133,7 @@ module _ {C : Type 0} (asks : C → ℕ → ℕ × C) (x : C) where
 
     -- what is printed is done so
     pub told : (answer : Result Receipt Fault) (r : Result (Unit {0}) LineError)
-        → IfOk answer (λ receipt. Applies asks a x 0 c t receipt.reply receipt.number b x') → IfErr answer (λ f. Refuses a c t f)
+        → IfOk answer (λ receipt. Applies asks a x (entry 0 receipt.number c t receipt.reply) b x') → IfErr answer (λ f. Refuses a c t f)
         → OnErr answer (b ≡ a) → OnErr answer (x' ≡ x) → OnOk r (answer ≢ Err OutOfMemory) → OnOk r (out ≡ answer_text (settled_text c) answer)
         → OnOk r (Told asks a x c t out b x')
     told answer (Err e) applies refuses same unasked known text = tt
@@ -150,7 +150,7 @@ module _ {C : Type 0} (asks : C → ℕ → ℕ × C) (x : C) where
   pages a t (Err e) out shows = tt
   pages a t (Ok u) out shows = λ r h. (r, ((shows r.server.machine (registry_is a r h), refl), refl), h)
 
-module _ {C : Type 0} (asks : C → ℕ → ℕ × C) (x : C) (d d' : Desk) (line out : List ℕ) where
+module _ {C : Type 0} (asks : C → ℕ → ℕ × C) (x : C) (d d' : ScriptDesk) (line out : List ℕ) where
   -- a line once the registry is open
   pub opened : (a b : Account) (x' : C) (said : Line) (r : Result (Unit {0}) LineError) → line_of line ≡ Some said → d.book ≡ Some a → d'.config ≡ d.config → d'.book ≡ Some b
       → OnOk r (OpenedAnswers asks a x said out b x') → OnOk r (DeskAnswers asks d x line out d' x')

@@ -11,8 +11,8 @@ use Rattle.eu_lines.specs.declared.faults.ScriptFault.TheVariants.{BadLine, Read
 use Rattle.eu_lines.specs.Script.{Wrote}
 use Rattle.eu_model.specs.declared.commands.Entry.{Entry}
 use Rattle.eu_model.specs.declared.states.State.{State}
-use Rattle.eu_script.specs.declared.desk.Desk.{Desk}
-use Rattle.eu_script.specs.Desk.{HoldsRun, Leaves, Writes, text_of}
+use Rattle.eu_script.specs.declared.desk.ScriptDesk.{ScriptDesk}
+use Rattle.eu_script.specs.ScriptDesk.{HoldsRun, Leaves, Writes, text_of}
 use Rattle.eu_script.specs.Journal.{IsTextOf, JournalRuns}
 use Rattle.eu_script.specs.Script.{Ran}
 use Rattle.eu_script.proofs.Scripts.{without_memory}
@@ -48,7 +48,7 @@ module _ {C : Type 0} (config : Config) (asks : C → ℕ → ℕ × C) (x x' : 
   stopped OutOfMemory p = (p, refl)
 
   -- what a desk leaves of its journal
-  pub left_text : (d : Desk) (result : Result (Unit {0}) ScriptFault) (text : List ℕ) → Leaves config asks x x' left failed_reader failed_writer read (Ok d) out
+  pub left_text : (d : ScriptDesk) (result : Result (Unit {0}) ScriptFault) (text : List ℕ) → Leaves config asks x x' left failed_reader failed_writer read (Ok d) out
       → Writes (text_of d.book) failed result text → JournalRuns config asks x x' left failed_reader failed_writer read out failed result text
   left_text d (Ok u) text leaves is = rw is (leaves.0, leaves.1, texts d.book leaves.0 leaves.2)
   left_text d (Err Write) text leaves is = inr (is.0, _, (leaves.0, leaves.1, texts d.book leaves.0 leaves.2), is.1, is.2)

@@ -3,16 +3,15 @@ use Rattle.std.specs.Prelude.{◌≡◌, ◌↔◌, ℕ, ◌*◌, ◌≤◌, ◌
 use Rattle.std.specs.Fmt.{decimal}
 use Rattle.eu_audit.specs.PlainForm.{IsRun}
 use Rattle.eu_base.specs.declared.settings.Config.{Config}
-use Rattle.eu_book.specs.Account.{most_entries}
+use Rattle.eu_base.specs.Limits.{most_entries}
 use Rattle.eu_book.specs.Peers.{state_of}
 use Rattle.eu_lines.specs.declared.faults.ScriptFault.{ScriptFault}
 use Rattle.eu_lines.specs.declared.faults.ScriptFault.TheVariants.{Write}
 use Rattle.eu_lines.specs.Lines.{script_limits}
 use Rattle.eu_lines.specs.Script.{Outcome}
 use Rattle.eu_model.specs.declared.commands.Entry.{Entry}
-use Rattle.eu_model.specs.Runs.{Runs}
+use Rattle.eu_model.specs.Server.{Runs, PlainServer, plain_server}
 use Rattle.eu_model.specs.Server as model
-use Rattle.eu_model.specs.Server.{PlainServer, plain_server}
 use Rattle.eu_page.specs.Page.{yes_or_no}
 use Rattle.eu_script.specs.Script.{Ran, Answers, Refuses}
 

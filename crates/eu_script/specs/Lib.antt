@@ -1,5 +1,5 @@
 pub mod Texts
 pub mod Script
 pub mod Audit
-pub mod Desk
+pub mod ScriptDesk
 pub mod Journal

@@ -3,7 +3,7 @@ use Rattle.std.specs.Prelude.{◌≡◌, ◌⊎◌, ℕ, Bool, true, false, not,
 use Rattle.eu_base.specs.declared.faults.Fault.{Fault}
 use Rattle.eu_base.specs.declared.faults.Fault.TheVariants.{Exhausted}
 use Rattle.eu_base.specs.declared.settings.Config.{Config}
-use Rattle.eu_book.specs.Account.{most_steps}
+use Rattle.eu_base.specs.Limits.{most_steps}
 use Rattle.eu_lines.specs.declared.faults.ScriptFault.{ScriptFault}
 use Rattle.eu_lines.specs.Lines.{script_limits}
 use Rattle.eu_lines.specs.Script.{Outcome}
@@ -17,7 +17,7 @@ use Rattle.eu_model.specs.Server as model
 use Rattle.eu_model.specs.Server.{Server, ServerStep, server_fault, Run}
 use Rattle.eu_model.specs.View.{one, counts, listing}
 use Rattle.eu_page.specs.Page.{shown_page}
-use Rattle.eu_core.specs.Evicts.{drawn_victims, drawn_state}
+use Rattle.eu_core.specs.Stepped.{drawn_victims, drawn_state}
 use Rattle.eu_words.specs.Lines.{line_of}
 use Rattle.eu_words.specs.declared.lines.Line.{Line}
 use Rattle.eu_words.specs.declared.lines.Line.TheVariants.{Open, Apply, Look, Counts, Page}
@@ -62,7 +62,7 @@ SaysClosed config _ out next = ⊥
 
 -- `asks` is the law of a chooser: its word below a bound, and its state after
 module _ {C : Type 0} (asks : C → ℕ → ℕ × C) where
-  -- The victims of a pass are those that the next words of the chooser x draw from the keys that are due, in key order, and leave
+  -- The victims of an eviction are those that the next words of the chooser x draw from the keys that are due, in key order, and leave
   -- it x'. No other command asks it
   abbrev pub Draws : Machine → C → Command → ℕ → Reply → C → Type 0
   Draws s x command.Evict t reply x' = (reply ≡ Evicted (drawn_victims asks s t x)) × (x' ≡ drawn_state asks s t x)

@@ -5,9 +5,8 @@ use Rattle.eu_base.specs.declared.faults.Fault.{Fault}
 use Rattle.eu_base.specs.declared.instances.Instance.{Instance}
 use Rattle.eu_base.specs.declared.names.Key.{Key}
 use Rattle.eu_base.specs.declared.tasks.Task.{Task}
-use Rattle.eu_base.specs.Action.{action_name}
+use Rattle.eu_base.specs.Values.{action_name, status_name}
 use Rattle.eu_base.specs.Fault.{fault_number}
-use Rattle.eu_base.specs.Status.{status_name}
 use Rattle.eu_book.specs.declared.book.Receipt.{Receipt}
 use Rattle.eu_model.specs.declared.commands.Command.{Command}
 use Rattle.eu_model.specs.declared.commands.Command.TheVariants.{Landed, Lost}
@@ -23,7 +22,7 @@ abbrev pub keys_text : List Key → List ℕ
 keys_text [] = []
 keys_text (k ∷ ks) = codes " " ++ (k.app ++ (codes " " ++ (k.id ++ keys_text ks)))
 
--- the printed line of the victims of a pass
+-- the printed line of the victims of an eviction
 abbrev pub evicted_text : List Key → List ℕ
 evicted_text ks = codes "evicted " ++ (decimal (length ks) ++ (keys_text ks ++ codes "\n"))
 
@@ -45,7 +44,7 @@ settled_text _ = []
 -- the printed line of a conflict: of the instance that is held, the statuses and the stamp
 abbrev pub conflict_text : Instance → List ℕ
 conflict_text i =
-    codes "409 " ++ (status_name i.status ++ (codes " " ++ (status_name i.overridden ++ (codes " " ++ (decimal i.dirty ++ codes "\n")))))
+    codes "409 " ++ (status_name i.status ++ (codes " " ++ (status_name i.overridden ++ (codes " " ++ (decimal i.last_dirty ++ codes "\n")))))
 
 -- The printed line of a reply, by its HTTP status where it has one. `settled` is that of the command, if it ends a flight
 abbrev pub reply_text : List ℕ → Reply → List ℕ
@@ -74,7 +73,7 @@ counts_text c =
 abbrev pub found_text : Instance → Times → List ℕ
 found_text i times =
     codes "found " ++ (status_name i.status ++ (codes " " ++ (status_name i.overridden
-    ++ (codes " dirty " ++ (decimal i.dirty ++ (codes " secs " ++ (decimal i.secs
+    ++ (codes " dirty " ++ (decimal i.last_dirty ++ (codes " secs " ++ (decimal i.secs
     ++ (codes " registered " ++ (decimal times.registered ++ (codes " up " ++ (decimal times.up
     ++ (codes " updated " ++ (decimal times.updated ++ codes "\n")))))))))))))
 

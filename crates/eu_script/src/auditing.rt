@@ -3,7 +3,7 @@ ghost use Rattle.std.specs.Prelude.{ℕ, Bool, List, ◌≡◌, ◌≢◌, IfErr
 ghost use Rattle.std.specs.Io.KnownBytes.{Appends, Consumes};
 ghost use Rattle.eu_lines.specs.Script.{Wrote};
 ghost use Rattle.eu_script.specs.Audit.{AuditRuns, audit_text};
-ghost use Rattle.eu_script.specs.Desk.{Writes};
+ghost use Rattle.eu_script.specs.ScriptDesk.{Writes};
 
 use crate::desk::Verdict;
 use crate::printing::print_audit;

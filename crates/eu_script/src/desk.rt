@@ -6,7 +6,7 @@ ghost use Rattle.eu_model.specs.Answers.{Shows};
 ghost use Rattle.eu_model.specs.View.{counts, listing};
 ghost use Rattle.eu_page.specs.Page.{shown_page};
 ghost use Rattle.eu_script.specs.Script.{opens};
-ghost use Rattle.eu_script.specs.Desk.{Audits, DeskAnswers, DeskRefuses, ClosedAnswers, OpenedAnswers, Told, Writes, text_of};
+ghost use Rattle.eu_script.specs.ScriptDesk.{Audits, DeskAnswers, DeskRefuses, ClosedAnswers, OpenedAnswers, Told, Writes, text_of};
 
 use crate::printing::{print_counts, print_look, print_page, print_refusal, print_reply};
 use eu_audit::audit;
@@ -35,18 +35,18 @@ pub struct Verdict {
 
 /// Answers the lines of a script, by a registry and its journal once a line has opened them.
 #[derive(Drop)]
-pub struct Desk {
+pub struct ScriptDesk {
     config: Config,
     book: Option<Book>,
 }
 
-impl Desk {
+impl ScriptDesk {
     /// With these settings, before the registry is opened.
-    pub fn new(config: Config) -> Desk
+    pub fn new(config: Config) -> ScriptDesk
         ensures config { result.config ≡ config }
         ensures book { result.book ≡ None }
     {
-        Desk { config, book: None }
+        ScriptDesk { config, book: None }
     }
 
     /// Audits the journal of the book: whether its entries are a run of the lease machine, from its base to where the book is
@@ -121,7 +121,7 @@ fn opening_of(line: &Line) -> Option<Opening>
     }
 }
 
-impl<C: Chooser> Answerer<C> for Desk {
+impl<C: Chooser> Answerer<C> for ScriptDesk {
     ghost answers = { DeskAnswers C.asks };
 
     ghost refuses = { DeskRefuses };

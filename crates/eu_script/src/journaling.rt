@@ -2,10 +2,10 @@
 ghost use Rattle.std.specs.Prelude.{ℕ, Bool, List, ◌≡◌, ◌≢◌, IfErr, OnOk};
 ghost use Rattle.std.specs.Io.KnownBytes.{Consumes};
 ghost use Rattle.eu_lines.specs.Script.{Wrote};
-ghost use Rattle.eu_script.specs.Desk.{Writes, text_of};
+ghost use Rattle.eu_script.specs.ScriptDesk.{Writes, text_of};
 ghost use Rattle.eu_script.specs.Journal.{JournalRuns};
 
-use crate::desk::Desk;
+use crate::desk::ScriptDesk;
 use crate::script::answer_whole;
 use eu_base::Config;
 use eu_clock::Chooser;
@@ -14,8 +14,12 @@ use eu_stream::{Reading, Sink, Source, Writing};
 use std::alloc::Global;
 use std::io::{Read, Write};
 
-/// Writes the text of a desk's journal, and flushes it. The faults are those of `Desk::write_journal`; `Write` also where the flush failed.
-fn leave_journal<J: Sink>(alloc: Global, desk: &Desk, journal: &mut J) -> Result<(), ScriptFault>
+/// Writes the text of a desk's journal, and flushes it. The faults are those of `ScriptDesk::write_journal`; `Write` also where the flush failed.
+fn leave_journal<J: Sink>(
+    alloc: Global,
+    desk: &ScriptDesk,
+    journal: &mut J,
+) -> Result<(), ScriptFault>
     ensures wrote { Wrote (J.contents journal.old) (J.contents journal.new) (Writes (text_of desk.now.book) (J.failed journal.new) result) }
     ensures sound { OnOk result (J.failed journal.new ≡ J.failed journal.old) }
     ensures told { IfErr result (λ fault. fault ≢ ScriptFault.Write → J.failed journal.new ≡ J.failed journal.old) }

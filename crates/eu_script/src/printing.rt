@@ -4,7 +4,7 @@ ghost use Rattle.eu_script.specs.Audit.{audit_text};
 ghost use Rattle.eu_script.specs.Texts.{reply_text, conflict_text, evicted_text, keys_text, batch_text, tasks_text, refused_text, found_text, look_text, counts_text};
 ghost use Rattle.eu_core.specs.Shown.{shown};
 ghost use Rattle.eu_page.specs.Page.{shown_page};
-ghost use Rattle.eu_base.specs.Action.{action_name};
+ghost use Rattle.eu_base.specs.Values.{action_name};
 
 use eu_base::{Fault, Instance, Key, Task};
 use eu_model::{Counts, Listed, Reply, Times};
@@ -34,8 +34,8 @@ fn print_conflict(out: &mut String, held: &Instance) -> Result<(), AllocError>
 {
     let status = held.status.name();
     let overridden = held.overridden.name();
-    let dirty = held.dirty.value();
-    writeln!(out, "409 {status} {overridden} {dirty}")
+    let last_dirty = held.last_dirty.value();
+    writeln!(out, "409 {status} {overridden} {last_dirty}")
 }
 
 fn print_victims(out: &mut String, victims: &[Key]) -> Result<(), AllocError>
@@ -114,11 +114,11 @@ fn print_found(out: &mut String, instance: &Instance, times: Times) -> Result<()
 {
     let status = instance.status.name();
     let overridden = instance.overridden.name();
-    let (dirty, secs) = (instance.dirty.value(), instance.secs.secs());
+    let (last_dirty, secs) = (instance.last_dirty.value(), instance.secs.secs());
     let (registered, up, updated) = (times.registered, times.up, times.updated);
     writeln!(
         out,
-        "found {status} {overridden} dirty {dirty} secs {secs} registered {registered} up {up} updated {updated}"
+        "found {status} {overridden} dirty {last_dirty} secs {secs} registered {registered} up {up} updated {updated}"
     )
 }
 

@@ -2,10 +2,10 @@
 ghost use Rattle.std.specs.Prelude.{ℕ, Bool, List, ◌≡◌, ◌≢◌, IfErr, OnOk};
 ghost use Rattle.std.specs.Io.KnownBytes.{Consumes};
 ghost use Rattle.eu_lines.specs.Script.{Wrote};
-ghost use Rattle.eu_script.specs.Desk.{Leaves};
+ghost use Rattle.eu_script.specs.ScriptDesk.{Leaves};
 ghost use Rattle.eu_script.specs.Script.{ScriptRuns};
 
-use crate::desk::Desk;
+use crate::desk::ScriptDesk;
 use eu_base::Config;
 use eu_clock::Chooser;
 use eu_lines::{Limits, ScriptFault, answer_lines};
@@ -21,7 +21,7 @@ pub fn answer_whole<R: Source, W: Sink, C: Chooser>(
     writer: &mut W,
     config: Config,
     chooser: &mut C,
-) -> Result<Desk, ScriptFault>
+) -> Result<ScriptDesk, ScriptFault>
     ensures leaves { (read : List ℕ) × Consumes (R.remaining reader.old) (R.remaining reader.new) read
         × Wrote (W.contents writer.old) (W.contents writer.new)
         (Leaves config C.asks chooser.old chooser.new (R.remaining reader.new) (R.failed reader.new) (W.failed writer.new) read result) }
@@ -32,7 +32,7 @@ pub fn answer_whole<R: Source, W: Sink, C: Chooser>(
     ensures same_reader { R.stream reader.new ≡ R.stream reader.old }
     ensures same_writer { W.stream writer.new ≡ W.stream writer.old }
 {
-    let mut desk = Desk::new(config);
+    let mut desk = ScriptDesk::new(config);
     let limits = Limits::of_scripts();
     answer_lines(alloc, limits, reader, writer, &mut desk, chooser)?;
     Ok(desk)
@@ -63,8 +63,8 @@ pub fn answer_whole<R: Source, W: Sink, C: Chooser>(
 /// - `roll T` ends a minute, and prints `last N`: the renewals that were counted in it.
 /// - `update T` counts the clients anew, and prints `expected N`: how many are expected from now on.
 /// - `config T on P I M` or `config T off P I M` changes the settings: self-preservation on or off, the percentage P, the seconds I
-///   between two renewals and the milliseconds M between two passes. It prints `200`.
-/// - `evict T` makes a pass, and prints `evicted K` and the application and the id of each of the K victims, in the order in
+///   between two renewals and the milliseconds M between two evictions. It prints `200`.
+/// - `evict T` makes an eviction, and prints `evicted K` and the application and the id of each of the K victims, in the order in
 ///   which the chooser drew them.
 /// - `drain T P` drops the tasks for the peer P that were queued more than 30 s before, has the first 250 of the others go in
 ///   flight to it, and prints `batch K` and the action, the application and the id of each of these K, in their order. An action
@@ -90,7 +90,7 @@ pub fn answer_whole<R: Source, W: Sink, C: Chooser>(
 /// has more than 16,777,216 bytes; `Write` where a write or a flush failed; and `OutOfMemory` where there was no memory
 /// for a line's answer, which isn't printed. Before `BadLine`, `Read` and `OutOfMemory` the lines before are answered
 /// and what they print is written. What the registry then holds is lost with it; at the end of a script its memory isn't given
-/// back, since a program ends with its script. Only passes ask `chooser`
+/// back, since a program ends with its script. Only evictions ask `chooser`
 /// for words: it is then as the lines that were answered left it, but after `Write` and `OutOfMemory` that is left open.
 pub fn answer_script<R: Source, W: Sink, C: Chooser>(
     alloc: Global,

@@ -11,7 +11,7 @@ pub struct NoPeer;
 impl Peer for NoPeer {
     ghost use Rattle.std.specs.Prelude.{◌≡◌, None};
 
-    ghost told = { λ before batch answers after. answers ≡ None };
+    ghost submits = { λ before batch answers after. answers ≡ None };
 
     fn submit(&mut self, _alloc: Global, _batch: &[Task]) -> Result<Vec<ItemAnswer>, Lost> {
         Err(Lost)

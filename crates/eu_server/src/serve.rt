@@ -13,10 +13,10 @@ ghost use Rattle.eu_settle.specs.declared.settling.Mismatch.{Mismatch};
 ghost use Rattle.eu_shared.specs.Closing.{account_of};
 
 use crate::no_peer::NoPeer;
-use eu_accept::{Acceptor, Connections, Timeouts};
+use eu_accept::{Acceptor, Admission, Connections, Timeouts};
 use eu_base::{Config, Fault};
 use eu_clock::{Chooser, SystemClock};
-use eu_gate::{Admission, MOST_WORKERS, Periods};
+use eu_gate::{MOST_WORKERS, Periods};
 use eu_journal_text::{WriteError, write_journal};
 use eu_routes::Routes;
 use eu_settle::{Closed, settle};

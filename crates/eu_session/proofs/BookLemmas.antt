@@ -3,21 +3,22 @@ use Rattle.std.proofs.Common.{◌≡◌, ℕ, List, [], ◌∷◌, ◌++◌, len
 use Rattle.std.specs.Prelude.{cond}
 use Rattle.std.proofs.lemmas.Bool.Decides.{eqb_tells}
 use Rattle.eu_base.specs.declared.faults.Fault.{Fault}
-use Rattle.eu_book.specs.Account.{Account, cleared, entry, grown, most_entries, ready}
+use Rattle.eu_book.specs.Account.{Account, cleared, entry, grown, ready}
+use Rattle.eu_base.specs.Limits.{most_entries}
 use Rattle.eu_book.proofs.HistoryLemmas.{run_on}
 use Rattle.eu_book.specs.Desk.{BookAsks}
-use Rattle.eu_desk.specs.declared.asks.Answer.{Answer}
-use Rattle.eu_desk.specs.declared.asks.Answer.TheVariants.{Did, Saw}
-use Rattle.eu_desk.specs.declared.asks.Ask.{Ask}
-use Rattle.eu_desk.specs.declared.asks.Ask.TheVariants.{Do, See}
+use Rattle.eu_model.specs.declared.asks.Answer.{Answer}
+use Rattle.eu_model.specs.declared.asks.Answer.TheVariants.{Did, Saw}
+use Rattle.eu_model.specs.declared.asks.Ask.{Ask}
+use Rattle.eu_model.specs.declared.asks.Ask.TheVariants.{Do, See}
 use Rattle.eu_http.specs.declared.exchange.Outcome.{Outcome}
 use Rattle.eu_http.specs.declared.exchange.Outcome.TheVariants.{Refused, Forbidden, Answers}
 use Rattle.eu_model.specs.declared.commands.Entry.{Entry}
 use Rattle.eu_model.specs.Server.{PlainServer}
-use Rattle.eu_model.specs.ServerAnswers as model
+use Rattle.eu_model.specs.Answers as model
 use Rattle.eu_session.specs.Book.{BookTurns, BookSession, GrewBy, RunsFrom, entry_of, entries_of, AddsTurn, AddTurns}
-use Rattle.eu_desk.specs.Chain.{Pairs}
-use Rattle.eu_session.specs.Turn.{State, Turn, Step, ComesOf}
+use Rattle.eu_model.specs.Chain.{Pairs}
+use Rattle.eu_session.specs.Session.{State, Turn, Step, ComesOf}
 use Rattle.eu_session.proofs.KeepLemmas.{session_keeps}
 
 stays : (a b : Account) → b ≡ a → GrewBy a [] b
@@ -91,7 +92,8 @@ Adds a t outcome b = (entries : List Entry) × AddsTurn a.totals.steps t outcome
 comes : (a b : Account) (t : Turn) (outcome : Outcome) → ComesOf (λ s ask m r s'. BookAsks s ask m r s') a t.request t.moment outcome b → Adds a t outcome b
 comes a b t (Refused fault) is = ([], refl, stays a b is.1)
 comes a b t Forbidden is = ([], refl, stays a b is.1)
-comes a b t (Answers results) is = (entries_of a.totals.steps t.moment is.0 results.items, (is.0, is.1, refl), all a b t.moment is.0 results.items is.2)
+comes a b t (Answers wanted results) is =
+    (entries_of a.totals.steps t.moment is.0.asks results.items, (is.0, is.1, refl), all a b t.moment is.0.asks results.items is.3)
 
 module _ {C : Type 0} (tells : C → ℕ → C → Type 0) where
   abbrev Steps : State Account C → Turn → State Account C → Type 0
@@ -115,9 +117,9 @@ abbrev Grew : Account → Account → Type 0
 Grew a b = (entries : List Entry) × GrewBy a entries b
 
 pub book_session : {C : Type 0} (tells : C → ℕ → C → Type 0) → BookSession tells
-book_session tells old new before after failed_reader failed_writer result session =
+book_session tells old new s result session =
     session_keeps (λ a ask t r b. BookAsks a ask t r b) Grew
     (λ a b e. ([], stays a b e))
     (λ a b c one two. (one.0 ++ two.0, goes_on a b c one.0 two.0 one.1 two.1))
     (λ a ask t r b is. (entry_of a.totals.steps t ask r, asks a b ask t r is))
-    tells old new before after failed_reader failed_writer result session
+    tells old new s result session

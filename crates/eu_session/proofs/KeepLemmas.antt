@@ -2,15 +2,14 @@
 use Rattle.std.proofs.Common.{◌≡◌, ℕ, Bool, List, [], ◌∷◌, Option, Result, Ok, Err, ap, inl, inr}
 use Rattle.eu_base.specs.declared.faults.Fault.{Fault}
 use Rattle.eu_framing.specs.declared.request.Request.{Request}
-use Rattle.eu_desk.specs.declared.asks.Answer.{Answer}
-use Rattle.eu_desk.specs.declared.asks.Ask.{Ask}
+use Rattle.eu_model.specs.declared.asks.Answer.{Answer}
+use Rattle.eu_model.specs.declared.asks.Ask.{Ask}
 use Rattle.eu_http.specs.declared.exchange.Outcome.{Outcome}
 use Rattle.eu_http.specs.declared.exchange.Outcome.TheVariants.{Refused, Forbidden, Answers}
 use Rattle.eu_session.specs.declared.faults.SessionFault.{SessionFault}
 use Rattle.eu_session.specs.declared.faults.SessionFault.TheVariants.{Read, Write, OutOfMemory}
-use Rattle.eu_desk.specs.Chain.{Chain, Pairs}
-use Rattle.eu_session.specs.Session.{Ends, Session}
-use Rattle.eu_session.specs.Turn.{State, Turn, Step, ComesOf}
+use Rattle.eu_model.specs.Chain.{Chain, Pairs}
+use Rattle.eu_session.specs.Session.{Ends, Session, Streams, State, Turn, Step, ComesOf}
 
 module _ {D : Type 0} (asked : D → Ask → ℕ → Result Answer Fault → D → Type 0) (R : D → D → Type 0)
     (none : (a b : D) → b ≡ a → R a b)
@@ -25,7 +24,7 @@ module _ {D : Type 0} (asked : D → Ask → ℕ → Result Answer Fault → D �
   comes_keep : (a b : D) (request : Request) (t : ℕ) (outcome : Outcome) → ComesOf asked a request t outcome b → R a b
   comes_keep a b request t (Refused fault) is = none a b is.1
   comes_keep a b request t Forbidden is = none a b is.1
-  comes_keep a b request t (Answers results) is = pairs_keep t a b is.0 results.items is.2
+  comes_keep a b request t (Answers wanted results) is = pairs_keep t a b is.0.asks results.items is.3
 
   module _ {C : Type 0} (tells : C → ℕ → C → Type 0) where
     step_keeps : (old new : State D C) (t : Turn) → Step asked tells old t new → R old.desk new.desk
@@ -35,21 +34,21 @@ module _ {D : Type 0} (asked : D → Ask → ℕ → Result Answer Fault → D �
     turns_keep old new [] e = none old.desk new.desk (ap (λ s. s.desk) e)
     turns_keep old new (t ∷ ts) (mid, here, rest) = on old.desk mid.desk new.desk (step_keeps old mid t here) (turns_keep mid new ts rest)
 
-    ends_keep : (n : ℕ) (old new : State D C) (before after : Option (List ℕ)) (failed_reader failed_writer : Bool) (result : Result ℕ SessionFault)
-        → Ends asked tells n old new before after failed_reader failed_writer result → R old.desk new.desk
-    ends_keep n old new before after failed_reader failed_writer (Ok m) (inl e) = none old.desk new.desk e.1.untouched.desk_is
-    ends_keep n old new before after failed_reader failed_writer (Ok m) (inr (is, inl closes)) = step_keeps old new closes.turn closes.step
-    ends_keep n old new before after failed_reader failed_writer (Ok m) (inr (is, inr refuses)) = none old.desk new.desk refuses.untouched.desk_is
-    ends_keep n old new before after failed_reader failed_writer (Err Read) e = none old.desk new.desk e.1.desk_is
-    ends_keep n old new before after failed_reader failed_writer (Err Write) (failed, inl loses) = step_keeps old new loses.turn loses.step
-    ends_keep n old new before after failed_reader failed_writer (Err Write) (failed, inr loses) = none old.desk new.desk loses.untouched.desk_is
-    ends_keep n old new before after failed_reader failed_writer (Err OutOfMemory) (keeps, inl untouched) = none old.desk new.desk untouched.desk_is
-    ends_keep n old new before after failed_reader failed_writer (Err OutOfMemory) (keeps, inr (inl unasked)) = none old.desk new.desk unasked.desk_is
-    ends_keep n old new before after failed_reader failed_writer (Err OutOfMemory) (keeps, inr (inr (t, step))) = step_keeps old new t step
+    ends_keep : (n : ℕ) (old new : State D C) (s : Streams) (result : Result ℕ SessionFault)
+        → Ends asked tells n old new s result → R old.desk new.desk
+    ends_keep n old new s (Ok m) (inl e) = none old.desk new.desk e.1.untouched.desk_is
+    ends_keep n old new s (Ok m) (inr (is, inl closes)) = step_keeps old new closes.turn closes.step
+    ends_keep n old new s (Ok m) (inr (is, inr refuses)) = none old.desk new.desk refuses.untouched.desk_is
+    ends_keep n old new s (Err Read) e = none old.desk new.desk e.1.desk_is
+    ends_keep n old new s (Err Write) (failed, inl loses) = step_keeps old new loses.turn loses.step
+    ends_keep n old new s (Err Write) (failed, inr loses) = none old.desk new.desk loses.untouched.desk_is
+    ends_keep n old new s (Err OutOfMemory) (keeps, inl untouched) = none old.desk new.desk untouched.desk_is
+    ends_keep n old new s (Err OutOfMemory) (keeps, inr (inl unasked)) = none old.desk new.desk unasked.desk_is
+    ends_keep n old new s (Err OutOfMemory) (keeps, inr (inr (t, step))) = step_keeps old new t step
 
-    pub session_keeps : (old new : State D C) (before after : Option (List ℕ)) (failed_reader failed_writer : Bool) (result : Result ℕ SessionFault)
-        → Session asked tells old new before after failed_reader failed_writer result → R old.desk new.desk
-    session_keeps old new before after failed_reader failed_writer result session =
+    pub session_keeps : (old new : State D C) (s : Streams) (result : Result ℕ SessionFault)
+        → Session asked tells old new s result → R old.desk new.desk
+    session_keeps old new s result session =
         on old.desk session.last.desk new.desk
         (turns_keep old session.last session.goes_on.turns session.goes_on.chain)
-        (ends_keep session.n session.last _ session.held after failed_reader failed_writer result session.ends)
+        (ends_keep session.n session.last _ (record s { before = session.held }) result session.ends)

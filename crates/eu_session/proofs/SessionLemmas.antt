@@ -7,18 +7,15 @@ use Rattle.std.specs.Io.KnownBytes.{Appends, Keeps}
 use Rattle.eu_base.specs.declared.faults.Fault.{Fault}
 use Rattle.eu_base.specs.declared.faults.Fault.TheVariants as faults
 use Rattle.eu_framing.specs.declared.request.Request.{Request}
-use Rattle.eu_framing.specs.Message.{IsCut}
-use Rattle.eu_framing.specs.Next.{FindsNext, Interrupts}
-use Rattle.eu_framing.specs.Stream.{pending, Between}
-use Rattle.eu_desk.specs.declared.asks.Answer.{Answer}
-use Rattle.eu_desk.specs.declared.asks.Ask.{Ask}
+use Rattle.eu_framing.specs.Message.{IsCut, FindsNext, Interrupts, pending, Between}
+use Rattle.eu_model.specs.declared.asks.Answer.{Answer}
+use Rattle.eu_model.specs.declared.asks.Ask.{Ask}
 use Rattle.eu_http.specs.Response.{response}
 use Rattle.eu_session.specs.declared.faults.SessionFault.{SessionFault}
 use Rattle.eu_session.specs.declared.faults.SessionFault.TheVariants.{Read, Write, OutOfMemory}
-use Rattle.eu_session.specs.Turn.{Turn, text_of, refusal, is_last, State, Breaks, Step}
-use Rattle.eu_session.specs.Session.{IsOpen, GoesOn, Unread, Ends, Session}
+use Rattle.eu_session.specs.Session.{Turn, text_of, refusal, is_last, State, Breaks, Step, IsOpen, GoesOn, Unread, Ends, Session}
 use Rattle.eu_session.specs.Steps.{IsInside, Comes, AnswersTo, RefusesBy}
-use Rattle.eu_desk.proofs.ChainLemmas.{chain_push, all_push}
+use Rattle.eu_model.proofs.ChainLemmas.{chain_push, all_push}
 use Rattle.eu_session.proofs.FaultLemmas.{fault_differs, by_number}
 
 neither : (a b : Bool) → (a || b) ≡ false → (a ≡ false) × (b ≡ false)
@@ -82,7 +79,7 @@ module _ {D C : Type 0} (asked : D → Ask → ℕ → Result Answer Fault → D
 
   pub goes_more : (old : State D C) (l l' : Option (List ℕ)) (request : Request) (close : Bool) (desk desk' : D) (clock clock' : C) (before held held' : Option (List ℕ)) (n : ℕ)
       → GoesOn asked tells n old (record { left = l; desk = desk; clock = clock }) before held → Between l l' (FindsNext (Some request))
-      → (c : Comes asked tells request desk clock desk' clock') × Appends held held' (response request c.outcome close) → close ≡ is_last n request → close ≡ false
+      → (c : Comes asked tells request desk clock desk' clock') × Appends held held' (response c.outcome close) → close ≡ is_last n request → close ≡ false
       → GoesOn asked tells (n + 1) old (record { left = l'; desk = desk'; clock = clock' }) before held'
   goes_more old l l' request close desk desk' clock clock' before held held' n g reads x is open_ =
       let t : Turn = record { request = request; moment = x.0.moment; outcome = x.0.outcome; close = close } in
@@ -98,7 +95,7 @@ module _ {D C : Type 0} (asked : D → Ask → ℕ → Result Answer Fault → D
 
   pub session_ended : (old : State D C) (l rest : Option (List ℕ)) (buffer : List ℕ) (desk : D) (clock : C) (before held : Option (List ℕ)) (n : ℕ) (failed_reader failed_writer : Bool)
       → GoesOn asked tells n old (record { left = l; desk = desk; clock = clock }) before held → Between l (pending buffer rest) (FindsNext None)
-      → Session asked tells old (record { left = rest; desk = desk; clock = clock }) before held failed_reader failed_writer (Ok n)
+      → Session asked tells old (record { left = rest; desk = desk; clock = clock }) (record { before = before; after = held; reader_failed = failed_reader; writer_failed = failed_writer }) (Ok n)
   session_ended old l rest buffer desk clock before held n failed_reader failed_writer g ends = record {
     n = n;
     last = record { left = l; desk = desk; clock = clock };
@@ -111,8 +108,8 @@ module _ {D C : Type 0} (asked : D → Ask → ℕ → Result Answer Fault → D
 
   pub session_closed : (old : State D C) (l rest : Option (List ℕ)) (buffer : List ℕ) (request : Request) (close : Bool) (desk desk' : D) (clock clock' : C) (before held held' : Option (List ℕ)) (n : ℕ) (failed_reader failed_writer : Bool)
       → GoesOn asked tells n old (record { left = l; desk = desk; clock = clock }) before held → Between l (pending buffer rest) (FindsNext (Some request))
-      → (c : Comes asked tells request desk clock desk' clock') × Appends held held' (response request c.outcome close) → close ≡ is_last n request → close ≡ true
-      → Session asked tells old (record { left = rest; desk = desk'; clock = clock' }) before held' failed_reader failed_writer (Ok (n + 1))
+      → (c : Comes asked tells request desk clock desk' clock') × Appends held held' (response c.outcome close) → close ≡ is_last n request → close ≡ true
+      → Session asked tells old (record { left = rest; desk = desk'; clock = clock' }) (record { before = before; after = held'; reader_failed = failed_reader; writer_failed = failed_writer }) (Ok (n + 1))
   session_closed old l rest buffer request close desk desk' clock clock' before held held' n failed_reader failed_writer g reads x is closed =
       record {
         n = n;
@@ -135,7 +132,7 @@ module _ {D C : Type 0} (asked : D → Ask → ℕ → Result Answer Fault → D
 
   pub session_refused : (old : State D C) (l rest : Option (List ℕ)) (buffer : List ℕ) (fault : Fault) (desk : D) (clock : C) (before held held' : Option (List ℕ)) (n : ℕ) (failed_reader failed_writer : Bool)
       → GoesOn asked tells n old (record { left = l; desk = desk; clock = clock }) before held → Met failed_reader l (pending buffer rest) buffer fault → IsInside fault × Appends held held' (refusal fault)
-      → Session asked tells old (record { left = rest; desk = desk; clock = clock }) before held' failed_reader failed_writer (Ok (n + 1))
+      → Session asked tells old (record { left = rest; desk = desk; clock = clock }) (record { before = before; after = held'; reader_failed = failed_reader; writer_failed = failed_writer }) (Ok (n + 1))
   session_refused old l rest buffer fault desk clock before held held' n failed_reader failed_writer g met x = record {
     n = n;
     last = record { left = l; desk = desk; clock = clock };
@@ -162,7 +159,7 @@ module _ {D C : Type 0} (asked : D → Ask → ℕ → Result Answer Fault → D
 
   ends_answering : (l l' : Option (List ℕ)) (request : Request) (close : Bool) (desk desk' : D) (clock clock' : C) (held held' : Option (List ℕ)) (n : ℕ) (failed_reader failed_writer : Bool) (e : SessionFault)
       → Between l l' (FindsNext (Some request)) → AnswersTo asked tells request close desk clock held desk' clock' held' failed_writer (Err e) → close ≡ is_last n request
-      → Ends asked tells n (record { left = l; desk = desk; clock = clock }) (record { left = l'; desk = desk'; clock = clock' }) held held' failed_reader failed_writer (Err e)
+      → Ends asked tells n (record { left = l; desk = desk; clock = clock }) (record { left = l'; desk = desk'; clock = clock' }) (record { before = held; after = held'; reader_failed = failed_reader; writer_failed = failed_writer }) (Err e)
   ends_answering l l' request close desk desk' clock clock' held held' n failed_reader failed_writer Read reads x is = absurd x
   ends_answering l l' request close desk desk' clock clock' held held' n failed_reader failed_writer Write reads x is = (
     x.0,
@@ -182,7 +179,7 @@ module _ {D C : Type 0} (asked : D → Ask → ℕ → Result Answer Fault → D
   pub session_lost : (old : State D C) (l rest : Option (List ℕ)) (buffer : List ℕ) (request : Request) (close : Bool) (desk desk' : D) (clock clock' : C) (before held held' : Option (List ℕ)) (n : ℕ) (failed_reader failed_writer : Bool) (e : SessionFault)
       → GoesOn asked tells n old (record { left = l; desk = desk; clock = clock }) before held → Between l (pending buffer rest) (FindsNext (Some request))
       → AnswersTo asked tells request close desk clock held desk' clock' held' failed_writer (Err e) → close ≡ is_last n request
-      → Session asked tells old (record { left = rest; desk = desk'; clock = clock' }) before held' failed_reader failed_writer (Err e)
+      → Session asked tells old (record { left = rest; desk = desk'; clock = clock' }) (record { before = before; after = held'; reader_failed = failed_reader; writer_failed = failed_writer }) (Err e)
   session_lost old l rest buffer request close desk desk' clock clock' before held held' n failed_reader failed_writer e g reads x is = record {
     n = n;
     last = record { left = l; desk = desk; clock = clock };
@@ -195,7 +192,7 @@ module _ {D C : Type 0} (asked : D → Ask → ℕ → Result Answer Fault → D
 
   ends_refusing : (l l' : Option (List ℕ)) (ahead : List ℕ) (fault : Fault) (desk : D) (clock : C) (held held' : Option (List ℕ)) (n : ℕ) (failed_reader failed_writer : Bool) (e : SessionFault)
       → Met failed_reader l l' ahead fault → RefusesBy fault held held' failed_writer (Err e)
-      → Ends asked tells n (record { left = l; desk = desk; clock = clock }) (record { left = l'; desk = desk; clock = clock }) held held' failed_reader failed_writer (Err e)
+      → Ends asked tells n (record { left = l; desk = desk; clock = clock }) (record { left = l'; desk = desk; clock = clock }) (record { before = held; after = held'; reader_failed = failed_reader; writer_failed = failed_writer }) (Err e)
   ends_refusing l l' ahead fault desk clock held held' n failed_reader failed_writer Read met x = (read_failed failed_reader l l' ahead fault met x.0, record { desk_is = refl; clock_is = refl }, x.1)
   ends_refusing l l' ahead fault desk clock held held' n failed_reader failed_writer Write met x = (
     x.1,
@@ -211,7 +208,7 @@ module _ {D C : Type 0} (asked : D → Ask → ℕ → Result Answer Fault → D
 
   pub session_unrefused : (old : State D C) (l rest : Option (List ℕ)) (buffer : List ℕ) (fault : Fault) (desk : D) (clock : C) (before held held' : Option (List ℕ)) (n : ℕ) (failed_reader failed_writer : Bool) (e : SessionFault)
       → GoesOn asked tells n old (record { left = l; desk = desk; clock = clock }) before held → Met failed_reader l (pending buffer rest) buffer fault → RefusesBy fault held held' failed_writer (Err e)
-      → Session asked tells old (record { left = rest; desk = desk; clock = clock }) before held' failed_reader failed_writer (Err e)
+      → Session asked tells old (record { left = rest; desk = desk; clock = clock }) (record { before = before; after = held'; reader_failed = failed_reader; writer_failed = failed_writer }) (Err e)
   session_unrefused old l rest buffer fault desk clock before held held' n failed_reader failed_writer e g met x = record {
     n = n;
     last = record { left = l; desk = desk; clock = clock };

@@ -3,19 +3,18 @@ use Rattle.std.specs.Prelude.{◌≡◌, ℕ, ◌+◌, Bool, List, [], ◌∷◌
 use Rattle.eu_base.specs.declared.faults.Fault.{Fault}
 use Rattle.eu_book.specs.Account.{Account, entry}
 use Rattle.eu_book.specs.Desk.{BookAsks}
-use Rattle.eu_desk.specs.declared.asks.Answer.{Answer}
-use Rattle.eu_desk.specs.declared.asks.Answer.TheVariants.{Did}
-use Rattle.eu_desk.specs.declared.asks.Ask.{Ask}
-use Rattle.eu_desk.specs.declared.asks.Ask.TheVariants.{Do}
+use Rattle.eu_model.specs.declared.asks.Answer.{Answer}
+use Rattle.eu_model.specs.declared.asks.Answer.TheVariants.{Did}
+use Rattle.eu_model.specs.declared.asks.Ask.{Ask}
+use Rattle.eu_model.specs.declared.asks.Ask.TheVariants.{Do}
 use Rattle.eu_http.specs.declared.exchange.Outcome.{Outcome}
 use Rattle.eu_http.specs.declared.exchange.Outcome.TheVariants.{Refused, Forbidden, Answers}
-use Rattle.eu_http.specs.Asks.{asks_of}
+use Rattle.eu_http.specs.Asks.{Wants, asks_of}
 use Rattle.eu_model.specs.declared.commands.Entry.{Entry}
 use Rattle.eu_model.specs.Server.{Server, PlainServer, Run, plain_server}
 use Rattle.eu_session.specs.declared.faults.SessionFault.{SessionFault}
-use Rattle.eu_desk.specs.Chain.{Chain}
-use Rattle.eu_session.specs.Session.{Session}
-use Rattle.eu_session.specs.Turn.{State, Turn, Step}
+use Rattle.eu_model.specs.Chain.{Chain}
+use Rattle.eu_session.specs.Session.{Session, Streams, State, Turn, Step}
 
 -- what an ask at a moment adds to the journal, by its answer: the entry of a command that was answered, with the pass 0 and the number n
 abbrev pub entry_of : ℕ → ℕ → Ask → Result Answer Fault → List Entry
@@ -32,8 +31,8 @@ entries_of n t (ask ∷ asks) (r ∷ rs) = entry_of n t ask r ++ entries_of (n +
 abbrev pub AddsTurn : ℕ → Turn → Outcome → List Entry → Type 0
 AddsTurn n t (Refused fault) entries = entries ≡ []
 AddsTurn n t Forbidden entries = entries ≡ []
-AddsTurn n t (Answers results) entries =
-    (asks : List Ask) × (asks_of t.request t.moment ≡ Ok (Some asks)) × (entries ≡ entries_of n t.moment asks results.items)
+AddsTurn n t (Answers wanted results) entries =
+    (wants : Wants) × (asks_of t.request t.moment ≡ Ok (Some wants)) × (entries ≡ entries_of n t.moment wants.asks results.items)
 
 -- what turns add, one after another
 abbrev pub AddTurns : ℕ → List Turn → List Entry → Type 0
@@ -64,6 +63,6 @@ module _ {C : Type 0} (tells : C → ℕ → C → Type 0) where
   -- by a session with a book its journal goes on, however it ends
   abbrev pub BookSession : Type 0
   BookSession =
-      (old new : State Account C) (before after : Option (List ℕ)) (failed_reader failed_writer : Bool) (result : Result ℕ SessionFault)
-      → Session (λ a ask t r b. BookAsks a ask t r b) tells old new before after failed_reader failed_writer result
+      (old new : State Account C) (s : Streams) (result : Result ℕ SessionFault)
+      → Session (λ a ask t r b. BookAsks a ask t r b) tells old new s result
       → (entries : List Entry) × GrewBy old.desk entries new.desk

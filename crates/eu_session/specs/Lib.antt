@@ -1,5 +1,4 @@
 pub mod Fault
-pub mod Turn
 pub mod Session
 pub mod Steps
 pub mod Book

@@ -1,17 +1,84 @@
--- What a session does to its desk, its clock and its writer, by its result
-use Rattle.std.specs.Prelude.{◌≡◌, ◌⊎◌, ℕ, ◌+◌, ◌<◌, Bool, true, false, List, length, flat_map, take, Option, None, Result, Ok, Err, ⊤}
+-- Sessions, turn by turn: what one does to its desk, its clock and its writer, by its result
+use Rattle.std.specs.Prelude.{◌≡◌, ℕ, Bool, true, ◌||◌, ◌==◌, List, Option, Some, None, Result, Ok, Err, ◌⊎◌, ◌+◌, ◌<◌, false, length, flat_map, take, ⊤}
+use Rattle.eu_base.specs.declared.faults.Fault.{Fault}
+use Rattle.eu_framing.specs.declared.request.Request.{Request}
+use Rattle.eu_framing.specs.Message.{IsFault, FindsNext, Between, OfBytes, IsCut, pending}
+use Rattle.eu_model.specs.declared.asks.Answer.{Answer}
+use Rattle.eu_model.specs.declared.asks.Ask.{Ask}
+use Rattle.eu_http.specs.declared.exchange.Outcome.{Outcome}
+use Rattle.eu_http.specs.declared.exchange.Outcome.TheVariants.{Refused, Forbidden, Answers}
+use Rattle.eu_http.specs.Asks.{Wants, asks_of}
+use Rattle.eu_http.specs.Response.{refused, response, print}
+use Rattle.eu_model.specs.Chain.{Pairs, Chain}
 use Rattle.std.specs.List.{AllByRecursion}
 use Rattle.std.specs.Io.KnownBytes.{Appends, Keeps}
-use Rattle.eu_base.specs.declared.faults.Fault.{Fault}
-use Rattle.eu_framing.specs.Message.{IsCut}
-use Rattle.eu_framing.specs.Next.{FindsNext}
-use Rattle.eu_framing.specs.Stream.{pending, Between}
-use Rattle.eu_desk.specs.declared.asks.Answer.{Answer}
-use Rattle.eu_desk.specs.declared.asks.Ask.{Ask}
 use Rattle.eu_session.specs.declared.faults.SessionFault.{SessionFault}
 use Rattle.eu_session.specs.declared.faults.SessionFault.TheVariants.{Read, Write, OutOfMemory}
-use Rattle.eu_desk.specs.Chain.{Chain}
-use Rattle.eu_session.specs.Turn.{Turn, text_of, refusal, is_last, State, Untouched, Breaks, Step, Unasked}
+
+-- ---- one turn of a session: a request, what comes of it, and its response
+
+-- a request that was answered
+pub record Turn : Type 0 where
+  pub request : Request
+  pub moment : ℕ
+  pub outcome : Outcome
+  pub close : Bool
+
+-- the text of its response
+abbrev pub text_of : Turn → List ℕ
+text_of t = response t.outcome t.close
+
+-- the text for bytes that begin with no request, by this fault; it says that the connection ends
+abbrev pub refusal : Fault → List ℕ
+refusal fault = print (refused fault) true
+
+-- the session ends with the request at the place k, counted from 0: it asks for that, or is the 100th
+abbrev pub is_last : ℕ → Request → Bool
+is_last k request = request.closes || (k == 99)
+
+-- what a session changes between its turns: the bytes that are to come, where they are known, the desk and the clock
+pub record State (D C : Type 0) : Type 0 where
+  pub left : Option (List ℕ)
+  pub desk : D
+  pub clock : C
+
+-- neither the desk nor the clock was asked anything
+pub record Untouched (D C : Type 0) (old new : State D C) : Type 0 where
+  pub desk_is : new.desk ≡ old.desk
+  pub clock_is : new.clock ≡ old.clock
+
+-- the bytes to come begin with no request, by this fault
+abbrev pub Breaks : Option (List ℕ) → Fault → Type 0
+Breaks left fault = OfBytes left (λ bytes. IsFault bytes fault)
+
+-- `asked s ask moment result s'`: a desk in the state s, asked at the moment, gives the result and is in the state s' then
+module _ {D : Type 0} (asked : D → Ask → ℕ → Result Answer Fault → D → Type 0) where
+  -- What comes of a request at a moment. What it asks is put to the desk, each ask once, in order, and their results are the
+  -- outcome. Of a request that is refused, or asks for what is forbidden, the desk is asked nothing.
+  abbrev pub ComesOf : D → Request → ℕ → Outcome → D → Type 0
+  ComesOf desk request moment (Refused fault) desk' = (asks_of request moment ≡ Err fault) × (desk' ≡ desk)
+  ComesOf desk request moment Forbidden desk' = (asks_of request moment ≡ Ok None) × (desk' ≡ desk)
+  ComesOf desk request moment (Answers wanted results) desk' =
+      (wants : Wants) × (asks_of request moment ≡ Ok (Some wants)) × (wanted ≡ wants.wanted)
+      × Pairs (λ s ask result s'. asked s ask moment result s') desk wants.asks results.items desk'
+
+-- `tells c moment c'`: a clock in the state c tells the moment and is in the state c' then
+module _ {D C : Type 0} (asked : D → Ask → ℕ → Result Answer Fault → D → Type 0) (tells : C → ℕ → C → Type 0) where
+  -- One turn: its request is the next of the bytes to come, the clock tells its moment, once, and this comes of it.
+  pub record Step (old : State D C) (t : Turn) (new : State D C) : Type 0 where
+    pub reads : Between old.left new.left (FindsNext (Some t.request))
+    pub told : tells old.clock t.moment new.clock
+    pub comes : ComesOf asked old.desk t.request t.moment t.outcome new.desk
+
+  -- A turn that memory ended before the desk was asked: the next request was read, and the clock asked once.
+  pub record Unasked (old new : State D C) : Type 0 where
+    pub request : Request
+    pub moment : ℕ
+    pub reads : Between old.left new.left (FindsNext (Some request))
+    pub told : tells old.clock moment new.clock
+    pub desk_is : new.desk ≡ old.desk
+
+-- ---- what a session does to its desk, its clock and its writer, by its result
 
 -- The session goes on after the turn: its request doesn't close, nor does its response say so.
 pub record IsOpen (t : Turn) : Type 0 where
@@ -24,6 +91,13 @@ Unread old new ahead (Ok m) = ⊤
 Unread old new ahead (Err Read) = Keeps old new × IsCut ahead
 Unread old new ahead (Err Write) = ⊤
 Unread old new ahead (Err OutOfMemory) = ⊤
+
+-- what the writer held before and holds after, and whether the reader and the writer have failed
+pub record Streams : Type 0 where
+  pub before : Option (List ℕ)
+  pub after : Option (List ℕ)
+  pub reader_failed : Bool
+  pub writer_failed : Bool
 
 -- `asked` and `tells` are what a desk answers and what a clock tells. `before` and `after` are what the writer holds.
 module _ {D C : Type 0} (asked : D → Ask → ℕ → Result Answer Fault → D → Type 0) (tells : C → ℕ → C → Type 0) where
@@ -75,26 +149,26 @@ module _ {D C : Type 0} (asked : D → Ask → ℕ → Result Answer Fault → D
     pub written : Appends before after (take len (refusal fault))
 
   -- How a session that goes on after n requests ends, by its result.
-  abbrev pub Ends : ℕ → State D C → State D C → Option (List ℕ) → Option (List ℕ) → Bool → Bool → Result ℕ SessionFault → Type 0
+  abbrev pub Ends : ℕ → State D C → State D C → Streams → Result ℕ SessionFault → Type 0
   -- The bytes end; or one request more closes the session; or there is none by some fault, which counts as one.
-  Ends n old new before after failed_reader failed_writer (Ok m) =
-      ((m ≡ n) × EndsBytes old new before after)
-      ⊎ ((m ≡ n + 1) × (Closes n old new before after ⊎ Refuses old new before after))
+  Ends n old new s (Ok m) =
+      ((m ≡ n) × EndsBytes old new s.before s.after)
+      ⊎ ((m ≡ n + 1) × (Closes n old new s.before s.after ⊎ Refuses old new s.before s.after))
   -- The reader failed before the next request was whole: nothing was asked or written.
-  Ends n old new before after failed_reader failed_writer (Err Read) = (failed_reader ≡ true) × Untouched D C old new × Keeps before after
+  Ends n old new s (Err Read) = (s.reader_failed ≡ true) × Untouched D C old new × Keeps s.before s.after
   -- The writer failed.
-  Ends n old new before after failed_reader failed_writer (Err Write) =
-      (failed_writer ≡ true) × (LosesResponse n old new before after ⊎ LosesRefusal old new before after)
+  Ends n old new s (Err Write) =
+      (s.writer_failed ≡ true) × (LosesResponse n old new s.before s.after ⊎ LosesRefusal old new s.before s.after)
   -- There was no memory. Nothing was written. Nothing was asked; or the clock alone was; or all that the request asks was.
-  Ends n old new before after failed_reader failed_writer (Err OutOfMemory) =
-      Keeps before after × (Untouched D C old new ⊎ (Unasked asked tells old new ⊎ ((t : Turn) × Step asked tells old t new)))
+  Ends n old new s (Err OutOfMemory) =
+      Keeps s.before s.after × (Untouched D C old new ⊎ (Unasked asked tells old new ⊎ ((t : Turn) × Step asked tells old t new)))
 
   -- A session, by its result: requests are answered, and it ends. `ahead` was read of the bytes, and isn't used.
-  pub record Session (old new : State D C) (before after : Option (List ℕ)) (failed_reader failed_writer : Bool) (result : Result ℕ SessionFault) : Type 0 where
+  pub record Session (old new : State D C) (s : Streams) (result : Result ℕ SessionFault) : Type 0 where
     pub n : ℕ
     pub last : State D C
     pub held : Option (List ℕ)
-    pub goes_on : GoesOn n old last before held
+    pub goes_on : GoesOn n old last s.before held
     pub ahead : List ℕ
     pub unread : Unread last.left (pending ahead new.left) ahead result
-    pub ends : Ends n last (record { left = pending ahead new.left; desk = new.desk; clock = new.clock }) held after failed_reader failed_writer result
+    pub ends : Ends n last (record { left = pending ahead new.left; desk = new.desk; clock = new.clock }) (record s { before = held }) result

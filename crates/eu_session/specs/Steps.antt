@@ -4,13 +4,13 @@ use Rattle.std.specs.Io.KnownBytes.{Appends, Keeps}
 use Rattle.eu_base.specs.declared.faults.Fault.{Fault}
 use Rattle.eu_base.specs.declared.faults.Fault.TheVariants as faults
 use Rattle.eu_framing.specs.declared.request.Request.{Request}
-use Rattle.eu_desk.specs.declared.asks.Answer.{Answer}
-use Rattle.eu_desk.specs.declared.asks.Ask.{Ask}
+use Rattle.eu_model.specs.declared.asks.Answer.{Answer}
+use Rattle.eu_model.specs.declared.asks.Ask.{Ask}
 use Rattle.eu_http.specs.declared.exchange.Outcome.{Outcome}
 use Rattle.eu_http.specs.Response.{response}
 use Rattle.eu_session.specs.declared.faults.SessionFault.{SessionFault}
 use Rattle.eu_session.specs.declared.faults.SessionFault.TheVariants.{Read, Write, OutOfMemory}
-use Rattle.eu_session.specs.Turn.{ComesOf, refusal}
+use Rattle.eu_session.specs.Session.{ComesOf, refusal}
 
 -- the fault is one of the bytes
 abbrev pub IsInside : Fault → Type 0
@@ -31,10 +31,10 @@ module _ {D C : Type 0} (asked : D → Ask → ℕ → Result Answer Fault → D
   -- a request that was read is answered, by the result
   abbrev pub AnswersTo : Request → Bool → D → C → Option (List ℕ) → D → C → Option (List ℕ) → Bool → Result (Unit {0}) SessionFault → Type 0
   AnswersTo request close desk clock before desk' clock' after failed (Ok u) =
-      (c : Comes request desk clock desk' clock') × Appends before after (response request c.outcome close)
+      (c : Comes request desk clock desk' clock') × Appends before after (response c.outcome close)
   AnswersTo request close desk clock before desk' clock' after failed (Err Read) = ⊥
   AnswersTo request close desk clock before desk' clock' after failed (Err Write) =
-      (failed ≡ true) × (c : Comes request desk clock desk' clock') × (len : ℕ) × Appends before after (take len (response request c.outcome close))
+      (failed ≡ true) × (c : Comes request desk clock desk' clock') × (len : ℕ) × Appends before after (take len (response c.outcome close))
   AnswersTo request close desk clock before desk' clock' after failed (Err OutOfMemory) =
       Keeps before after × (Tells desk clock desk' clock' ⊎ Comes request desk clock desk' clock')
 

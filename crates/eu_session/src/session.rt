@@ -1,13 +1,13 @@
 //! A session: one request after the other.
 ghost use Rattle.std.specs.Prelude.{◌≡◌, ◌≢◌, IfErr, OnOk};
 ghost use Rattle.eu_session.specs.Session.{Session};
-ghost use Rattle.eu_session.specs.Turn as spec;
+ghost use Rattle.eu_session.specs.Session as spec;
 
 use crate::turn::{answer_request, refuse};
 use crate::{MAX_REQUESTS, SessionFault};
 use eu_clock::Clock;
-use eu_desk::Desk;
 use eu_framing::{EMPTY_ROOM, Request, read_request};
+use eu_model::Desk;
 use eu_routes::Routes;
 use eu_stream::{Sink, Source};
 use std::alloc::Global;
@@ -56,7 +56,7 @@ pub fn serve_session<D: Desk, C: Clock, R: Source, W: Sink>(
     ensures session { Session D.asked C.tells
         (record { left = R.remaining reader.old; desk = desk.old; clock = clock.old })
         (record { left = R.remaining reader.new; desk = desk.new; clock = clock.new })
-        (W.contents writer.old) (W.contents writer.new) (R.failed reader.new) (W.failed writer.new) result }
+        (record { before = W.contents writer.old; after = W.contents writer.new; reader_failed = R.failed reader.new; writer_failed = W.failed writer.new }) result }
     ensures sound_reader { OnOk result (R.failed reader.new ≡ R.failed reader.old) }
     ensures sound_writer { OnOk result (W.failed writer.new ≡ W.failed writer.old) }
     ensures told_reader { IfErr result (λ fault. fault ≢ SessionFault.Read → R.failed reader.new ≡ R.failed reader.old) }

@@ -1,16 +1,16 @@
 //! One request after it is read: what comes of it, and its response.
 ghost use Rattle.std.specs.Prelude.{◌≡◌, ◌≢◌, ℕ, take, true, IfErr, IfOk, OnOk, OnErr};
 ghost use Rattle.std.specs.Io.KnownBytes.{Appends};
-ghost use Rattle.eu_desk.specs.Chain.{Pairs};
+ghost use Rattle.eu_model.specs.Chain.{Pairs};
 ghost use Rattle.eu_session.specs.Steps.{AnswersTo, RefusesBy};
-ghost use Rattle.eu_session.specs.Turn.{ComesOf};
+ghost use Rattle.eu_session.specs.Session.{ComesOf};
 
 use crate::SessionFault;
 use eu_base::{Fault, Moment};
 use eu_clock::Clock;
-use eu_desk::{Answer, Ask, Desk};
 use eu_framing::Request;
 use eu_http::{Asked, Outcome, answer, asks};
+use eu_model::{Answer, Ask, Desk};
 use eu_routes::Routes;
 use eu_stream::{Sink, WriteFault, write_whole};
 use std::alloc::{AllocError, Global};
@@ -57,7 +57,10 @@ fn outcome_of<D: Desk>(
 {
     match asks(alloc, routes, request, moment) {
         Ok(Asked::Forbidden) => Ok(Outcome::Forbidden),
-        Ok(Asked::Asks(asks)) => Ok(Outcome::Answers(ask_all(alloc, desk, asks, moment)?)),
+        Ok(Asked::Asks { wanted, asks }) => {
+            let answers = ask_all(alloc, desk, asks, moment)?;
+            Ok(Outcome::Answers { wanted, answers })
+        }
         Err(Fault::OutOfMemory) => Err(AllocError),
         Err(fault) => Ok(Outcome::Refused(fault)),
     }
@@ -80,7 +83,7 @@ pub fn answer_request<D: Desk, C: Clock, W: Sink>(
 {
     let moment = clock.now();
     let outcome = outcome_of(alloc, routes, desk, request, moment)?;
-    let text = answer(alloc, request, &outcome, close)?;
+    let text = answer(alloc, &outcome, close)?;
     Ok(put(writer, &text)?)
 }
 
@@ -97,14 +100,6 @@ pub fn refuse<W: Sink>(alloc: Global, writer: &mut W, fault: Fault) -> Result<()
         Fault::Read => return Err(SessionFault::Read),
         _ => {}
     }
-    let nothing = Request {
-        method: String::new(alloc),
-        target: String::new(alloc),
-        minor: 1,
-        closes: true,
-        replicated: false,
-        body: Vec::new(alloc),
-    };
-    let text = answer(alloc, &nothing, &Outcome::Refused(fault), true)?;
+    let text = answer(alloc, &Outcome::Refused(fault), true)?;
     Ok(put(writer, &text)?)
 }

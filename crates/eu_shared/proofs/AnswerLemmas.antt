@@ -6,9 +6,9 @@ use Rattle.eu_base.specs.declared.faults.Fault.{Fault}
 use Rattle.eu_base.specs.declared.faults.Fault.TheVariants.{OutOfMemory}
 use Rattle.eu_base.specs.declared.settings.Config.{Config}
 use Rattle.eu_book.specs.declared.book.Receipt.{Receipt}
-use Rattle.eu_book.specs.Account.{Account, Applies, IsLawful, Refuses, logged, opened}
+use Rattle.eu_book.specs.Account.{Account, Applies, IsLawful, Refuses, entry, logged, opened}
 use Rattle.eu_book.proofs.BookLemmas.{opened_kept}
-use Rattle.eu_choice.specs.Front.{Asks}
+use Rattle.eu_clock.specs.Front.{Asks}
 use Rattle.eu_model.specs.declared.commands.Command.{Command}
 use Rattle.eu_model.specs.declared.views.Query.{Query}
 use Rattle.eu_model.specs.declared.views.View.{View}
@@ -17,8 +17,8 @@ use Rattle.eu_model.specs.View.{view}
 use Rattle.eu_shared.specs.Passes.{Caller, IsAnswer, IsBegun, IsRefused, IsShown, answered, shown}
 
 module _ (c : Command) (t : ℕ) where
-  pub is_answer : {S : Type 0} (asks : Asks S) (x x' : S) (p p' : Caller) (a b : Account) (y : Receipt) → IsLawful a → IsLawful b → Applies asks a x p.number c t y.reply y.number b x'
-      → p' ≡ answered p (logged c t y.reply y.number) b.first → IsAnswer asks x p c t y.reply y.number x' p'
+  pub is_answer : {S : Type 0} (asks : Asks S) (x x' : S) (p p' : Caller) (a b : Account) (y : Receipt) → IsLawful a → IsLawful b → Applies asks a x (entry p.number y.number c t y.reply) b x'
+      → p' ≡ answered p (logged c t y.reply y.number) b.first → IsAnswer asks x p (entry p.number y.number c t y.reply) x' p'
   is_answer asks x x' p p' a b y before after is told = (a, b, before, after, is, ap (λ (k : Caller). k.seen) told)
 
   pub is_refused : (a : Account) (f : Fault) → IsLawful a → Refuses a c t f → IsRefused c t f

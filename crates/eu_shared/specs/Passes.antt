@@ -4,9 +4,9 @@ use Rattle.eu_base.specs.declared.faults.Fault.{Fault}
 use Rattle.eu_book.specs.declared.journal.Logged.{Logged}
 use Rattle.eu_book.specs.Account.{Account, Applies, IsLawful, Refuses, opened}
 use Rattle.eu_base.specs.declared.settings.Config.{Config}
-use Rattle.eu_choice.specs.Front.{Asks}
+use Rattle.eu_clock.specs.Front.{Asks}
 use Rattle.eu_model.specs.declared.commands.Command.{Command}
-use Rattle.eu_model.specs.declared.commands.Reply.{Reply}
+use Rattle.eu_model.specs.declared.commands.Entry.{Entry}
 use Rattle.eu_model.specs.declared.tallies.Tally.{Tally}
 use Rattle.eu_model.specs.declared.views.Query.{Query}
 use Rattle.eu_model.specs.declared.views.View.{View}
@@ -54,10 +54,10 @@ done_for (p ∷ ps) = plus p.tally (done_for ps)
 
 -- ---- what is known of an answer, where the book behind the lock isn't
 
--- some lawful book answers the pass so, at this number, and is lawful after; the pass has then seen where its journal begins
-abbrev pub IsAnswer : {S : Type 0} → Asks S → S → Caller → Command → ℕ → Reply → ℕ → S → Caller → Type 0
-IsAnswer asks x p c t reply number x' p' =
-    (before : Account) × (after : Account) × IsLawful before × IsLawful after × Applies asks before x p.number c t reply number after x' × (p'.seen ≡ max p.seen after.first)
+-- some lawful book answers the pass with this entry, and is lawful after; the pass has then seen where its journal begins
+abbrev pub IsAnswer : {S : Type 0} → Asks S → S → Caller → Entry → S → Caller → Type 0
+IsAnswer asks x p e x' p' =
+    (before : Account) × (after : Account) × IsLawful before × IsLawful after × Applies asks before x e after x' × (p'.seen ≡ max p.seen after.first)
 
 -- some lawful book refuses it so
 abbrev pub IsRefused : Command → ℕ → Fault → Type 0

@@ -2,12 +2,12 @@
 use Rattle.std.specs.Prelude.{◌≡◌, ℕ, ◌≤◌, ◌++◌, ◌∷◌, [], Result, Ok, Err}
 use Rattle.eu_base.specs.declared.faults.Fault.{Fault}
 use Rattle.eu_base.specs.declared.faults.Fault.TheVariants.{OutOfMemory}
-use Rattle.eu_book.specs.Account.{logged}
+use Rattle.eu_book.specs.Account.{entry, logged}
 use Rattle.eu_clock.specs.declared.choosers.FirstChooser.{FirstChooser}
-use Rattle.eu_desk.specs.declared.asks.Answer.{Answer}
-use Rattle.eu_desk.specs.declared.asks.Answer.TheVariants.{Did, Saw}
-use Rattle.eu_desk.specs.declared.asks.Ask.{Ask}
-use Rattle.eu_desk.specs.declared.asks.Ask.TheVariants.{Do, See}
+use Rattle.eu_model.specs.declared.asks.Answer.{Answer}
+use Rattle.eu_model.specs.declared.asks.Answer.TheVariants.{Did, Saw}
+use Rattle.eu_model.specs.declared.asks.Ask.{Ask}
+use Rattle.eu_model.specs.declared.asks.Ask.TheVariants.{Do, See}
 use Rattle.eu_model.specs.declared.commands.Command.{Command}
 use Rattle.eu_model.specs.declared.commands.Reply.{Reply}
 use Rattle.eu_model.specs.Delta.{delta, plus}
@@ -20,7 +20,7 @@ pub record Logs (p : Caller) (c : Command) (t : ℕ) (reply : Reply) (q : Caller
   pub number : ℕ
   pub before : FirstChooser
   pub after : FirstChooser
-  pub answer : IsAnswer first_asks before p c t reply number after q
+  pub answer : IsAnswer first_asks before p (entry p.number number c t reply) after q
   pub fresh : p.tally.steps ≤ number
   pub same : q.number ≡ p.number
   pub log : q.log ≡ p.log ++ logged c t reply number ∷ []

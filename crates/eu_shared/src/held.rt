@@ -1,7 +1,7 @@
 //! The book behind the lock, with its part of the ledgers.
 ghost use Rattle.std.specs.Prelude.{◌≡◌, ◌↔◌, ◌+◌, ◌<◌, ◌≤◌, ◌^◌, Err, vec_len, IfOk, IfErr, OnOk, OnErr};
-ghost use Rattle.eu_book.specs.Account.{cleared, logged, Applies, IsLawful, Refuses};
-ghost use Rattle.eu_book.specs.Renewed.{IsJournal, IsRetired};
+ghost use Rattle.eu_book.specs.Account.{cleared, entry, logged, Applies, IsLawful, Refuses};
+ghost use Rattle.eu_book.specs.Checkpoint.{IsJournal, IsRetired};
 ghost use Rattle.eu_model.specs.Answers.{Shows};
 ghost use Rattle.eu_model.specs.Delta.{plus};
 ghost use Rattle.eu_model.specs.View.{view};
@@ -10,15 +10,12 @@ ghost use Rattle.eu_shared.specs.Passes.{answered, done_for, fresh, opening, sho
 use crate::pass::{Pass, is_stale_with, see};
 use crate::shares::{Blanks, Label, Shares, Totals};
 use crate::sums::sum_up;
-use eu_base::{Config, Fault, Moment};
+use eu_base::{Config, Fault, MOST_PASSES, MOST_PEERS, Moment};
 use eu_book::{Book, Journal, Receipt};
 use eu_clock::Chooser;
 use eu_model::{Command, Query, Tally, View};
 use std::alloc::{AllocError, Global};
 use std::marker::Model;
-
-/// The most passes that are made of a book.
-pub const MOST_PASSES: u64 = 1_024;
 
 /// What an accepted command is given, and the journal as it was, where it was full and has begun anew.
 #[derive(Drop)]
@@ -76,7 +73,7 @@ impl<K: Label> Held<K> {
         peers: u32,
         blanks: Blanks,
     ) -> Result<Held<K>, AllocError>
-        requires peers { peers ≤ 8 }
+        requires peers { peers ≤ MOST_PEERS }
         requires names { (blanks.steps.name ≡ K.steps) × (blanks.counted.name ≡ K.counted) × (blanks.added.name ≡ K.added) × (blanks.removed.name ≡ K.removed) }
         requires parts { (blanks.steps.parts ≡ K.parts) × (blanks.counted.parts ≡ K.parts) × (blanks.added.parts ≡ K.parts) × (blanks.removed.parts ≡ K.parts) × (K.parts ≡ 1025) }
         ensures { IfOk result (λ held. held ≡ opening config expected peers) }
@@ -168,7 +165,7 @@ impl<K: Label> Held<K> {
         moment: Moment,
         chooser: &mut C,
     ) -> Result<Receipt, Fault>
-        ensures applied { IfOk result (λ r. Applies C.asks self.old.book chooser.old pass.old.number command moment r.reply r.number self.new.book chooser.new) }
+        ensures applied { IfOk result (λ r. Applies C.asks self.old.book chooser.old (entry pass.old.number r.number command moment r.reply) self.new.book chooser.new) }
         ensures pass { IfOk result (λ r. pass.new ≡ answered pass.old (logged command moment r.reply r.number) self.new.book.first) }
         ensures fresh { IfOk result (λ r. pass.old.tally.steps ≤ r.number) }
         ensures before { IsLawful self.old.book }
@@ -183,8 +180,8 @@ impl<K: Label> Held<K> {
             drop(command);
             return Err(Fault::OutOfMemory);
         };
-        let told = self.ask_with(alloc, pass, command, mine, moment, chooser)?;
-        Ok(told.into_receipt())
+        let outcome = self.ask_with(alloc, pass, command, mine, moment, chooser)?;
+        Ok(outcome.into_receipt())
     }
 
     /// As `ask`, where the command was copied before: `mine` is for the pass's log. A journal that has begun anew is handed out, for who
@@ -199,7 +196,7 @@ impl<K: Label> Held<K> {
         chooser: &mut C,
     ) -> Result<Told, Fault>
         requires same { mine ≡ command }
-        ensures applied { IfOk result (λ t. Applies C.asks self.old.book chooser.old pass.old.number command moment t.receipt.reply t.receipt.number self.new.book chooser.new) }
+        ensures applied { IfOk result (λ t. Applies C.asks self.old.book chooser.old (entry pass.old.number t.receipt.number command moment t.receipt.reply) self.new.book chooser.new) }
         ensures pass { IfOk result (λ t. pass.new ≡ answered pass.old (logged command moment t.receipt.reply t.receipt.number) self.new.book.first) }
         ensures fresh { IfOk result (λ t. pass.old.tally.steps ≤ t.receipt.number) }
         ensures retired { IfOk result (λ t. IsRetired self.old.book t.retired) }
@@ -215,10 +212,10 @@ impl<K: Label> Held<K> {
             drop((command, mine));
             return Err(Fault::OutOfMemory);
         }
-        let told = self
+        let outcome = self
             .book
             .apply_logged(alloc, pass.number, command, mine, moment, chooser)?;
-        let done = Tally::of(&told.logged.command, &told.logged.reply);
+        let done = Tally::of(&outcome.logged.command, &outcome.logged.reply);
         self.totals.audit(&mut pass.shares);
         self.totals.add(&mut pass.shares, done);
         self.totals.audit(&mut pass.shares);
@@ -229,11 +226,11 @@ impl<K: Label> Held<K> {
             &mut pass.is_stale,
             self.book.journal().first,
         );
-        pass.is_stale = is_stale_with(pass.is_stale, pass.seen, told.logged.number);
-        pass.log.push_reserved(told.logged);
+        pass.is_stale = is_stale_with(pass.is_stale, pass.seen, outcome.logged.number);
+        pass.log.push_reserved(outcome.logged);
         Ok(Told {
-            receipt: told.receipt,
-            retired: told.retired,
+            receipt: outcome.receipt,
+            retired: outcome.retired,
         })
     }
 

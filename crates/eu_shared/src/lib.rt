@@ -10,7 +10,7 @@ mod shares;
 mod sums;
 
 pub use closing::Unclosed;
-pub use held::{Held, MOST_PASSES};
+pub use held::Held;
 pub use pass::Pass;
 pub use seat::Seat;
 pub use shared::{Shared, close};

@@ -3,7 +3,7 @@
 use crate::{Label, Pass, Shared};
 use eu_base::{Fault, Moment};
 use eu_clock::FirstChooser;
-use eu_desk::{Answer, Ask, Desk};
+use eu_model::{Answer, Ask, Desk};
 use std::alloc::Global;
 use std::sync::Wait;
 

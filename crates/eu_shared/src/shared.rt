@@ -6,7 +6,7 @@
 ghost use Rattle.std.specs.Prelude.{◌≡◌, ◌∷◌, ◌++◌, ◌≤◌, [], map, vec_len, IfOk, IfErr, OnErr, OnOk, IsPermutation};
 ghost use Rattle.std.specs.List.Sorted.{IsNonDecreasingBy};
 ghost use Rattle.std.specs.Sync.Mutex.{mutex_guard_value};
-ghost use Rattle.eu_book.specs.Account.{logged, IsLawful};
+ghost use Rattle.eu_book.specs.Account.{entry, logged, IsLawful};
 ghost use Rattle.eu_book.specs.Peers.{state_of};
 ghost use Rattle.eu_model.specs.Delta.{delta, plus};
 ghost use Rattle.eu_settle.specs.declared.closed.PassLog.{PassLog};
@@ -17,7 +17,7 @@ use crate::closing::Unclosed;
 use crate::held::Held;
 use crate::pass::Pass;
 use crate::shares::{Blanks, Label};
-use eu_base::{Config, Fault, Moment};
+use eu_base::{Config, Fault, MOST_PEERS, Moment};
 use eu_book::Receipt;
 use eu_clock::Chooser;
 use eu_model::{Command, Query, View};
@@ -49,7 +49,7 @@ impl<K: Label> Shared<K> {
         peers: u32,
         blanks: Blanks,
     ) -> Result<Shared<K>, AllocError>
-        requires peers { peers ≤ 8 }
+        requires peers { peers ≤ MOST_PEERS }
         requires names { (blanks.steps.name ≡ K.steps) × (blanks.counted.name ≡ K.counted) × (blanks.added.name ≡ K.added) × (blanks.removed.name ≡ K.removed) }
         requires parts { (blanks.steps.parts ≡ K.parts) × (blanks.counted.parts ≡ K.parts) × (blanks.added.parts ≡ K.parts) × (blanks.removed.parts ≡ K.parts) × (K.parts ≡ 1025) }
     {
@@ -115,7 +115,7 @@ impl<K: Label> Pass<K> {
         ensures number { self.new.number ≡ self.old.number }
         ensures seen { self.old.seen ≤ self.new.seen }
         ensures fresh { IfOk result (λ r. self.old.tally.steps ≤ r.number) }
-        ensures answer { IfOk result (λ r. IsAnswer C.asks chooser.old self.old command moment r.reply r.number chooser.new self.new) }
+        ensures answer { IfOk result (λ r. IsAnswer C.asks chooser.old self.old (entry self.old.number r.number command moment r.reply) chooser.new self.new) }
         ensures refused { IfErr result (λ f. IsRefused command moment f) }
         ensures err { OnErr result (self.new ≡ self.old) }
         ensures unasked { OnErr result (chooser.new ≡ chooser.old) }
@@ -124,10 +124,10 @@ impl<K: Label> Pass<K> {
             drop(command);
             return Err(Fault::OutOfMemory);
         };
-        let told = shared
+        let outcome = shared
             .lock(rt)
             .ask_with(alloc, self, command, mine, moment, chooser)?;
-        Ok(told.into_receipt())
+        Ok(outcome.into_receipt())
     }
 
     /// What a query sees of the shared book, at a moment (`Held::read`). `AllocError` where no memory is left, which leaves the pass

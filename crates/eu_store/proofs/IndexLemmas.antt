@@ -15,7 +15,7 @@ use Rattle.indexmap.proofs.RemoveLemmas.{own_first}
 use Rattle.std.proofs.lemmas.Map.Entries.{lookup_from_place}
 use Rattle.std.proofs.lemmas.Option.{slice_get-map}
 use Rattle.eu_base.specs.declared.names.Key.{Key}
-use Rattle.eu_base.specs.Key.{key_cmp, key_eq}
+use Rattle.eu_base.specs.Values.{key_cmp, key_eq}
 use Rattle.eu_base.proofs.KeyLemmas.{keys_total, keys_exact, key_eq-ties, key_eq-tie}
 use Rattle.eu_model.specs.declared.views.Listed.{Listed}
 use Rattle.eu_store.specs.Stored.{deadline_of, deadlines}

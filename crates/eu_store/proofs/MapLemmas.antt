@@ -7,7 +7,7 @@ use Rattle.std.specs.Cmp.{eq_by_cmp_equiv}
 use Rattle.std.proofs.Common.{IsPermutation, IsSorted}
 use Rattle.eu_base.specs.declared.names.Key.{Key}
 use Rattle.eu_model.specs.declared.views.Listed.{Listed}
-use Rattle.eu_model.specs.Kept.{kept_expired}
+use Rattle.eu_model.specs.PlainSteps.{plain_expired}
 use Rattle.eu_store.specs.Stored.{expired_keys}
 use Rattle.eu_store.proofs.SortedLemmas.{gathered}
 use Rattle.eu_store.proofs.FoundLemmas.{found_apart, found_alike, key_there}
@@ -21,7 +21,7 @@ use Rattle.std.proofs.Common.{ltb, zero, suc}
 use Rattle.std.proofs.lemmas.Bool.{cases_Bool}
 use Rattle.eu_store.specs.Stored.{deadline_of, deadlines}
 use Rattle.eu_store.proofs.TableLemmas.{map_of}
-use Rattle.eu_base.specs.Key.{key_cmp, key_eq}
+use Rattle.eu_base.specs.Values.{key_cmp, key_eq}
 use Rattle.eu_base.proofs.KeyLemmas.{keys_total, keys_exact, key_eq-tie}
 
 pub at_ok : {X E : Type 0} {r : Result X E} {x : X} (P : Type 0) → OnOk r P → r ≡ Ok x → P
@@ -74,7 +74,7 @@ sorted_expired moment extra es found ks sorted apart long told before moved up =
     (λ q. sym (list_any-IsPermutation (eq_by_cmp key_cmp q) ks sorted moved) ∙ found_alike keys_total late es found ks nobody tied long told sound before.once complete q) up
   where
     late : Listed → Bool
-    late l = kept_expired l moment extra
+    late l = plain_expired l moment extra
 
     tied : IsDistinct (eq_by_cmp key_cmp) (keys_of es)
     tied = subst (λ (e : Key → Key → Bool). IsDistinct e (keys_of es)) key_eq-tie apart

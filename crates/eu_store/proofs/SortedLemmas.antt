@@ -10,7 +10,7 @@ use Rattle.std.specs.FinMap.Entries.{find, is_sorted, below_all, same_entries}
 use Rattle.std.specs.Ordering.{eq_by_cmp, is_eq, is_lt, ordering_reverse}
 use Rattle.std.specs.Cmp.{IsTotalOrder, eq_by_cmp_equiv}
 use Rattle.std.proofs.lemmas.Map.Keys.{IsDistinct-cons, IsDistinct-head, IsDistinct-tail, IsDistinct-from_sorted, apart_from_distinct, sorted_from_all_adjacent, sorted_head, sorted_tail}
-use Rattle.eu_model.proofs.PassLemmas.{first, second, less}
+use Rattle.eu_model.proofs.EvictionLemmas.{first, second, less}
 use Rattle.std.proofs.lemmas.Map.Lookups.{CmpEqualImpliesEq}
 
 both : (a b : Bool) → T a → T b → T (a && b)

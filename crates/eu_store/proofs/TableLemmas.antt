@@ -11,7 +11,7 @@ use Rattle.std.specs.Ordering.{eq_by_cmp, is_eq}
 use Rattle.std.specs.Cmp.{IsTotalOrder, eq_by_cmp_equiv}
 use Rattle.std.proofs.lemmas.Cmp.{tied_itself}
 use Rattle.std.proofs.lemmas.Map.Keys.{IsDistinct-head, IsDistinct-tail}
-use Rattle.eu_base.specs.Key.{name_cmp, key_cmp, name_eq, key_eq}
+use Rattle.eu_base.specs.Values.{name_cmp, key_cmp, name_eq, key_eq}
 use Rattle.eu_base.proofs.KeyLemmas.{names_total, names_exact, name_eq-ties, keys_total, keys_exact, key_eq-ties}
 
 -- a total order that tells its keys apart, and the equality that is its tie

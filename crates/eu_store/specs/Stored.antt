@@ -5,11 +5,11 @@ use Rattle.std.specs.Option.{option_map_or}
 use Rattle.std.specs.Coded.{Coded, code_by, coded×, coded_ℕ}
 use Rattle.eu_base.specs.declared.names.Key.{Key}
 use Rattle.eu_base.specs.declared.statuses.Status.{Status}
-use Rattle.eu_base.specs.Key.{key_cmp}
+use Rattle.eu_base.specs.Values.{key_cmp}
 use Rattle.eu_model.specs.declared.views.Listed.{Listed}
-use Rattle.eu_model.specs.Record.{duration}
+use Rattle.eu_model.specs.Machine.{duration}
 use Rattle.eu_model.specs.Change.{stamped}
-use Rattle.eu_model.specs.Kept.{kept_expired}
+use Rattle.eu_model.specs.PlainSteps.{plain_expired}
 use Rattle.eu_model.specs.PlainCode.{coded_leases}
 use Rattle.eu_model.specs.View.{is_of}
 use Rattle.eu_lease.specs.Term.{Term, listed_with}
@@ -53,8 +53,8 @@ marked comes_up t l = if comes_up then upped_at t l else l
 
 -- its instance in these statuses, and with a greater stamp, where one is given
 abbrev pub in_statuses : Status → Status → Option ℕ → Listed → Listed
-in_statuses status overridden dirty l =
-    record l { instance = stamped dirty (record l.instance { status = status; overridden = overridden }) }
+in_statuses status overridden last_dirty l =
+    record l { instance = stamped last_dirty (record l.instance { status = status; overridden = overridden }) }
 
 -- the instance kept, but for the statuses and the duration, and its lease begun anew
 abbrev pub rejoined : Status → Status → Term → Listed → Listed
@@ -63,13 +63,13 @@ rejoined status overridden term l = listed_with (record l.instance { status = st
 -- what an amendment leaves of a lease
 abbrev pub amended : Amendment → Listed → Listed
 amended (Renewed t) l = renewed_at t l
-amended (InStatuses t status overridden dirty comes_up) l = marked comes_up t (in_statuses status overridden dirty (renewed_at t l))
+amended (InStatuses t status overridden last_dirty comes_up) l = marked comes_up t (in_statuses status overridden last_dirty (renewed_at t l))
 amended (Rejoined status overridden lease) l = rejoined status overridden lease l
 amended (Replaced by) l = by
 
 -- the keys of the leases that have expired, in key order
 abbrev pub expired_keys : FinMap key_cmp Listed → ℕ → ℕ → List Key
-expired_keys m t extra = map (λ e. e.0) (filter (λ e. kept_expired e.1 t extra) (entries m))
+expired_keys m t extra = map (λ e. e.0) (filter (λ e. plain_expired e.1 t extra) (entries m))
 
 -- what is held of an application, or of all where none is given, with its keys and in key order
 abbrev pub rows_of : Option (List ℕ) → FinMap key_cmp Listed → List (Key × Listed)

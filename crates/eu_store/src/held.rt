@@ -2,7 +2,7 @@
 ghost use Rattle.std.specs.Prelude.{◌≡◌, IfOk};
 ghost use Rattle.eu_lease.specs.Term.{listed_with};
 ghost use Rattle.eu_model.specs.Change.{stamped};
-ghost use Rattle.eu_model.specs.Kept.{kept_expired};
+ghost use Rattle.eu_model.specs.PlainSteps.{plain_expired};
 ghost use Rattle.eu_store.specs.Stored.{amended, deadline_of, term_of};
 
 use eu_base::{Instance, LeaseSecs, Moment, Stamp, Status};
@@ -16,12 +16,12 @@ use std::mem;
 ///
 /// The instance lies on the heap, so that little is moved where a lease is.
 #[derive(Debug, Drop)]
-pub struct Held {
+pub struct HeldLease {
     instance: Box<Instance>,
     lease: Lease,
 }
 
-impl Model for Held {
+impl Model for HeldLease {
     ghost use Rattle.std.specs.Prelude.{◌≡◌};
     ghost use Rattle.eu_lease.specs.Term.{listed_with};
     ghost use Rattle.eu_model.specs.declared.views.Listed.{Listed};
@@ -36,13 +36,13 @@ impl Model for Held {
     ghost invariant = { λ h. h.lease.secs ≡ h.instance.value.secs };
 }
 
-impl Held {
+impl HeldLease {
     /// An instance with a lease that lasts as long as the instance says.
-    pub fn new(instance: Box<Instance>, lease: Lease) -> Held
+    pub fn new(instance: Box<Instance>, lease: Lease) -> HeldLease
         requires { lease.secs ≡ instance.value.secs }
         ensures { result ≡ listed_with instance.value lease }
     {
-        Held { instance, lease }
+        HeldLease { instance, lease }
     }
 
     /// The instance.
@@ -86,13 +86,13 @@ impl Held {
 
     /// Whether its lease has expired, if it is granted some extra milliseconds.
     pub fn expired(&self, moment: Moment, extra: u64) -> bool
-        ensures { result ≡ kept_expired self.now moment extra }
+        ensures { result ≡ plain_expired self.now moment extra }
     {
         self.lease.expired(moment, extra)
     }
 
     /// Amends it.
-    pub fn amend(&mut self, amendment: Amendment)
+    pub(crate) fn amend(&mut self, amendment: Amendment)
         ensures { self.new ≡ amended amendment self.old }
     {
         match amendment {
@@ -101,10 +101,10 @@ impl Held {
                 moment,
                 status,
                 overridden,
-                dirty,
+                last_dirty,
                 comes_up,
             } => {
-                set_statuses(self.instance.as_mut(), status, overridden, dirty);
+                set_statuses(self.instance.as_mut(), status, overridden, last_dirty);
                 self.lease.renew(moment);
                 if comes_up {
                     self.lease.service_up(moment);
@@ -138,9 +138,9 @@ impl Held {
             Amendment::InStatuses {
                 status,
                 overridden,
-                dirty,
+                last_dirty,
                 ..
-            } => set_statuses(&mut instance, *status, *overridden, *dirty),
+            } => set_statuses(&mut instance, *status, *overridden, *last_dirty),
             Amendment::Rejoined {
                 status,
                 overridden,
@@ -165,7 +165,7 @@ pub enum Amendment {
         moment: Moment,
         status: Status,
         overridden: Status,
-        dirty: Option<Stamp>,
+        last_dirty: Option<Stamp>,
         comes_up: bool,
     },
     /// It begins anew, and keeps its instance, but for these statuses and the duration, which is the new lease's.
@@ -175,17 +175,22 @@ pub enum Amendment {
         lease: Lease,
     },
     /// This takes its place.
-    Replaced(Held),
+    Replaced(HeldLease),
 }
 
 /// Puts an instance in these statuses; a greater stamp replaces its own.
-fn set_statuses(instance: &mut Instance, status: Status, overridden: Status, dirty: Option<Stamp>)
-    ensures { instance.new ≡ stamped dirty (record instance.old { status = status; overridden = overridden }) }
+fn set_statuses(
+    instance: &mut Instance,
+    status: Status,
+    overridden: Status,
+    last_dirty: Option<Stamp>,
+)
+    ensures { instance.new ≡ stamped last_dirty (record instance.old { status = status; overridden = overridden }) }
 {
     instance.status = status;
     instance.overridden = overridden;
-    match dirty {
-        Some(stamp) if stamp.value() > instance.dirty.value() => instance.dirty = stamp,
+    match last_dirty {
+        Some(stamp) if stamp.value() > instance.last_dirty.value() => instance.last_dirty = stamp,
         _ => {}
     }
 }

@@ -3,21 +3,18 @@ ghost use Rattle.std.specs.Prelude.{◌≡◌, ◌↔◌, ◌<◌, ◌≤◌, �
 ghost use Rattle.std.specs.Option.{option_copied};
 ghost use Rattle.std.specs.FinMap as map;
 ghost use Rattle.indexmap.specs.IndexMap.{values, index_map_len, get_by, index_of_by, IsUnique};
-ghost use Rattle.eu_base.specs.Key.{key_eq};
+ghost use Rattle.eu_base.specs.Values.{key_eq};
 ghost use Rattle.eu_store.specs.Stored.{amended, changed, expired_keys, listing_of, rows_of};
 ghost use Rattle.eu_model.specs.View.{is_of};
 ghost use Rattle.std.specs.Map.Iter.{deref_pair};
 
-use crate::{Amendment, Held};
-use eu_base::{App, Fault, Key, Moment};
+use crate::{Amendment, HeldLease};
+use eu_base::{App, Fault, Key, MOST_LEASES, Moment};
 use eu_deadlines::Deadlines;
 use eu_model::Listed;
 use indexmap::IndexMap;
 use std::alloc::{AllocError, Global};
 use std::marker::Model;
-
-/// The most leases that are held.
-pub const MOST_LEASES: usize = 65_536;
 
 /// Where a lease was found. It's a hint: where another lease stands there now, the key is looked up once more.
 #[derive(Clone, Copy, Debug)]
@@ -27,7 +24,7 @@ pub struct Place {
 
 /// Where that key stands in the table, if it does: where it was found, or else where a look-up finds it.
 #[inline(always)]
-fn place_of(table: &IndexMap<Key, Held>, key: &Key, hint: Place) -> Option<usize>
+fn place_of(table: &IndexMap<Key, HeldLease>, key: &Key, hint: Place) -> Option<usize>
     ensures index { result ≡ index_of_by (key_eq key.now) table.now }
     ensures found { is_some result ≡ is_some (get_by (key_eq key.now) table.now) }
     ensures within { IfSome result (λ i. i < index_map_len table.now) }
@@ -47,7 +44,7 @@ fn place_of(table: &IndexMap<Key, Held>, key: &Key, hint: Place) -> Option<usize
 /// by a look at no more than n + 1 others.
 #[derive(Debug, Drop)]
 pub struct Leases {
-    table: IndexMap<Key, Held>,
+    table: IndexMap<Key, HeldLease>,
     index: Deadlines,
 }
 
@@ -56,14 +53,15 @@ impl Model for Leases {
     ghost use Rattle.std.specs.FinMap as map;
     ghost use Rattle.indexmap.specs.IndexMap.{spare};
     ghost use Rattle.eu_store.specs.Stored.{Stored, coded_stored, deadlines};
+    ghost use Rattle.eu_base.specs.Limits.{most_leases};
 
     ghost Value = { Stored };
 
     ghost coded = { coded_stored };
 
-    ghost view = { λ a. record { held = map.from_entries a.table.entries; room = min (min (spare a.table) a.index.room) (65536 - length a.table.entries) } };
+    ghost view = { λ a. record { held = map.from_entries a.table.entries; room = min (min (spare a.table) a.index.room) (most_leases - length a.table.entries) } };
 
-    ghost invariant = { λ a. (length a.table.entries ≤ 65536) × (a.index.list ≡ deadlines a.table.entries) };
+    ghost invariant = { λ a. (length a.table.entries ≤ most_leases) × (a.index.list ≡ deadlines a.table.entries) };
 }
 
 impl Leases {
@@ -78,14 +76,14 @@ impl Leases {
     }
 
     /// What is held under that key.
-    pub fn get(&self, key: &Key) -> Option<&Held>
+    pub fn get(&self, key: &Key) -> Option<&HeldLease>
         ensures { option_copied result ≡ map.get self.now.held key.now }
     {
         self.table.get(key)
     }
 
     /// The same, and where it was found, for who changes it then.
-    pub fn find(&self, key: &Key) -> (Place, Option<&Held>)
+    pub fn find(&self, key: &Key) -> (Place, Option<&HeldLease>)
         ensures { option_copied result.1 ≡ map.get self.now.held key.now }
     {
         match self.table.get_full(key) {
@@ -97,7 +95,7 @@ impl Leases {
     /// How many leases are held: at most 65,536.
     pub fn len(&self) -> usize
         ensures value { result ≡ map.len self.now.held }
-        ensures bound { result ≤ 65536 }
+        ensures bound { result ≤ MOST_LEASES }
     {
         self.table.len()
     }
@@ -108,7 +106,7 @@ impl Leases {
         ensures held { self.new.held ≡ self.old.held }
         ensures room { self.old.room ≤ self.new.room }
         ensures ready { OnOk result (0 < self.new.room) }
-        ensures full { (result ≡ Err Fault.Full) ↔ (map.len self.old.held ≡ 65536) }
+        ensures full { (result ≡ Err Fault.Full) ↔ (map.len self.old.held ≡ MOST_LEASES) }
         ensures no_other { IfErr result (λ f. (f ≡ Fault.Full) ⊎ (f ≡ Fault.OutOfMemory)) }
     {
         if self.table.len() >= MOST_LEASES {
@@ -120,7 +118,7 @@ impl Leases {
     }
 
     /// Puts a lease under a key that has none, into the room that was made. Takes no memory.
-    pub fn insert(&mut self, key: Key, held: Held)
+    pub fn insert(&mut self, key: Key, held: HeldLease)
         requires new { map.get self.old.held key ≡ None }
         requires room { 0 < self.old.room }
         ensures held { self.new.held ≡ map.insert self.old.held key held }
@@ -131,7 +129,7 @@ impl Leases {
     }
 
     /// Takes out what is held under that key. Takes no memory.
-    pub fn take(&mut self, key: &Key, hint: Place) -> Option<Held>
+    pub fn take(&mut self, key: &Key, hint: Place) -> Option<HeldLease>
         ensures before { result ≡ map.get self.old.held key.now }
         ensures held { self.new.held ≡ map.remove self.old.held key.now }
         ensures room { self.old.room ≤ self.new.room }
@@ -211,7 +209,7 @@ impl Leases {
     }
 
     /// The same, with the keys and not copied.
-    fn rows(&self, alloc: Global, app: Option<&App>) -> Result<Vec<(&Key, &Held)>, AllocError>
+    fn rows(&self, alloc: Global, app: Option<&App>) -> Result<Vec<(&Key, &HeldLease)>, AllocError>
         ensures { IfOk result (λ rows. map deref_pair rows.items ≡ rows_of (option_copied app.entry) self.now.held) }
     {
         let mut rows = Vec::new(alloc);

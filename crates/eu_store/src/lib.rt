@@ -4,5 +4,5 @@
 mod held;
 mod leases;
 
-pub use held::{Amendment, Held};
-pub use leases::{Leases, MOST_LEASES, Place};
+pub use held::{Amendment, HeldLease};
+pub use leases::{Leases, Place};

@@ -3,7 +3,7 @@
 use eu_base::{App, Fault, Id, Instance, Key, LeaseSecs, Moment, RenewalSecs, Rest, Stamp, Status};
 use eu_clock::{Chooser, RngChooser};
 use eu_lease::Lease;
-use eu_store::{Amendment, Held, Leases};
+use eu_store::{Amendment, HeldLease, Leases};
 use std::alloc::Global;
 
 /// A moment at which leases that were made at 0 have expired, and those that were made then have not.
@@ -28,13 +28,13 @@ fn put(alloc: Global, leases: &mut Leases, key: &Key, moment: Moment) -> Result<
         key: key.copy(alloc)?,
         status: Status::Up,
         overridden: Status::Unknown,
-        dirty: Stamp::new(0).ok_or(Fault::BadStamp)?,
+        last_dirty: Stamp::new(0).ok_or(Fault::BadStamp)?,
         secs: LeaseSecs::DEFAULT,
         interval: RenewalSecs::DEFAULT,
         rest: Rest::of_host(alloc, "h")?,
     };
     let lease = Lease::fresh(moment, instance.secs);
-    let held = Held::new(Box::new(alloc, instance)?, lease);
+    let held = HeldLease::new(Box::new(alloc, instance)?, lease);
     let key = key.copy(alloc)?;
     if leases.get(&key).is_none() {
         leases.insert(key, held);

@@ -1,7 +1,7 @@
 //! `eu_store_bench`: the leases by themselves, to be timed.
 //!
 //! - `eu_store_bench renew N M` puts N leases, renews drawn ones M times, and prints how many of these were held: all.
-//! - `eu_store_bench pass N K M` puts N leases, of which the first K have expired, looks for the expired M times, and prints how many
+//! - `eu_store_bench expired N K M` puts N leases, of which the first K have expired, looks for the expired M times, and prints how many
 //!   were found in all.
 //! - `eu_store_bench check` does each at two small sizes.
 #![tactic(auto)]
@@ -14,7 +14,7 @@ use std::env;
 use std::rt::Env;
 
 /// The words that the program takes.
-const USAGE: &str = "eu_store_bench renew N M | pass N K M | check";
+const USAGE: &str = "eu_store_bench renew N M | expired N K M | check";
 
 fn number(word: &str) -> anyhow::Result<u64> {
     word.parse::<u64>().context(USAGE)
@@ -51,7 +51,7 @@ fn main(rt: HostRuntime) -> anyhow::Result<()> {
         [_, task, count, times] if task.as_str() == "renew" => {
             print_renewed(&rt, number(count)?, number(times)?)
         }
-        [_, task, count, expired, times] if task.as_str() == "pass" => {
+        [_, task, count, expired, times] if task.as_str() == "expired" => {
             print_expired(&rt, number(count)?, number(expired)?, number(times)?)
         }
         [_, task] if task.as_str() == "check" => check(&rt),

@@ -3,10 +3,10 @@ use Rattle.std.specs.Prelude.{ℕ, ◌^◌, ◌-◌, List, Option, Some, None, i
 use Rattle.std.specs.Str.{bytes_eq}
 use Rattle.eu_base.specs.Rest.{rest_of_host}
 use Rattle.eu_base.specs.declared.instances.Instance.{Instance}
-use Rattle.eu_model.specs.declared.commands.Command.TheVariants.{Register, Renew, Cancel, SetStatus, UnsetStatus, Adopt, Roll, Update, Reconfigure, Evict, Drain, Landed, Lost}
+use Rattle.eu_model.specs.declared.commands.Command.TheVariants.{Register, Renew, Cancel, SetStatus, UnsetStatus, Adopt, EndMinute, Update, Reconfigure, Evict, Drain, Landed, Lost}
 use Rattle.eu_words.specs.declared.lines.Line.{Line}
 use Rattle.eu_words.specs.declared.lines.Line.TheVariants.{Open, Apply, Look, Counts, Page}
-use Rattle.eu_words.specs.Words.{◌>>=◌, Field, words_of, word_at, end_at, number_at, moment_at, key_at, status_at, maybe_status_at, secs_at, stamp_at, dirty_at, source_at, peers_at, peer_at, settings_at, codes_of}
+use Rattle.eu_words.specs.Words.{◌>>=◌, Field, words_of, word_at, end_at, number_at, moment_at, key_at, status_at, maybe_status_at, secs_at, stamp_at, last_dirty_at, source_at, peers_at, peer_at, settings_at, codes_of}
 
 -- N, below 2^32, and P, up to 8, which may be left out for 0
 unfoldable pub open_says : List (List ℕ) → Option Line
@@ -55,8 +55,8 @@ newcomer_at moment ws = do
   secs ← secs_at key.1
   status ← status_at secs.1
   overridden ← status_at status.1
-  dirty ← dirty_at moment overridden.1
-  Some (record { key = key.0; status = status.0; overridden = overridden.0; dirty = dirty.0; secs = secs.0; interval = 30; rest = rest_of_host key.0.id }, dirty.1)
+  last_dirty ← last_dirty_at moment overridden.1
+  Some (record { key = key.0; status = status.0; overridden = overridden.0; last_dirty = last_dirty.0; secs = secs.0; interval = 30; rest = rest_of_host key.0.id }, last_dirty.1)
 
 -- T APP ID SECS STATUS OVR DIRTY SRC
 unfoldable pub register_says : List (List ℕ) → Option Line
@@ -72,11 +72,11 @@ unfoldable pub renew_says : List (List ℕ) → Option Line
 renew_says ws = do
   t ← moment_at ws
   key ← key_at t.1
-  dirty ← stamp_at key.1
-  overridden ← maybe_status_at dirty.1
+  last_dirty ← stamp_at key.1
+  overridden ← maybe_status_at last_dirty.1
   source ← source_at overridden.1
   e ← end_at source.1
-  Some (Apply t.0 (Renew key.0 dirty.0 overridden.0 source.0))
+  Some (Apply t.0 (Renew key.0 last_dirty.0 overridden.0 source.0))
 
 -- T APP ID SRC
 unfoldable pub cancel_says : List (List ℕ) → Option Line
@@ -93,10 +93,10 @@ set_says ws = do
   t ← moment_at ws
   key ← key_at t.1
   status ← status_at key.1
-  dirty ← stamp_at status.1
-  source ← source_at dirty.1
+  last_dirty ← stamp_at status.1
+  source ← source_at last_dirty.1
   e ← end_at source.1
-  Some (Apply t.0 (SetStatus key.0 status.0 dirty.0 source.0))
+  Some (Apply t.0 (SetStatus key.0 status.0 last_dirty.0 source.0))
 
 -- the same, where STATUS may be absent
 unfoldable pub unset_says : List (List ℕ) → Option Line
@@ -104,10 +104,10 @@ unset_says ws = do
   t ← moment_at ws
   key ← key_at t.1
   status ← maybe_status_at key.1
-  dirty ← stamp_at status.1
-  source ← source_at dirty.1
+  last_dirty ← stamp_at status.1
+  source ← source_at last_dirty.1
   e ← end_at source.1
-  Some (Apply t.0 (UnsetStatus key.0 status.0 dirty.0 source.0))
+  Some (Apply t.0 (UnsetStatus key.0 status.0 last_dirty.0 source.0))
 
 -- T APP ID SECS STATUS OVR DIRTY
 unfoldable pub adopt_says : List (List ℕ) → Option Line
@@ -130,7 +130,7 @@ unfoldable pub moment_says : List ℕ → List (List ℕ) → Option Line
 moment_says verb ws = do
   t ← moment_at ws
   e ← end_at t.1
-  if bytes_eq verb (codes "roll") then Some (Apply t.0 Roll)
+  if bytes_eq verb (codes "roll") then Some (Apply t.0 EndMinute)
       else if bytes_eq verb (codes "update") then Some (Apply t.0 Update)
       else if bytes_eq verb (codes "evict") then Some (Apply t.0 Evict)
       else if bytes_eq verb (codes "counts") then Some (Counts t.0)

@@ -8,8 +8,8 @@ use Rattle.std.specs.Str.Parse.{digits_value}
 use Rattle.eu_base.specs.declared.statuses.Status.{Status}
 use Rattle.eu_base.specs.declared.names.Key.{Key}
 use Rattle.eu_base.specs.declared.settings.Config.{Config}
-use Rattle.eu_base.specs.Settings.{settings_from}
-use Rattle.eu_base.specs.Status.{status_of}
+use Rattle.eu_base.specs.Values.{settings_from, status_of}
+use Rattle.eu_base.specs.Limits.{last_moment, longest_lease, most_peers}
 use Rattle.eu_lines.specs.declared.faults.LineError.{LineError}
 use Rattle.eu_lines.specs.declared.faults.LineError.TheVariants.{Bad, OutOfMemory}
 
@@ -36,10 +36,10 @@ abbrev pub Fails : {X : Type 0} → LineError → Option X → Type 0
 Fails Bad said = said ≡ None
 Fails OutOfMemory said = Unit {0}
 
--- what was read and the words that are left are what is said
-abbrev pub Gives : {X : Type 0} → Result X LineError → List (List ℕ) → Option (X × List (List ℕ)) → Type 0
-Gives (Ok x) left said = said ≡ Some (x, left)
-Gives (Err e) left said = Fails e said
+-- what was taken off the words, and the words that are left, are what is said
+abbrev pub Takes : {X : Type 0} → Result X LineError → List (List ℕ) → Option (X × List (List ℕ)) → Type 0
+Takes (Ok x) left said = said ≡ Some (x, left)
+Takes (Err e) left said = Fails e said
 
 -- the same where it is what all the words say
 abbrev pub IsReading : {X : Type 0} → Result X LineError → Option X → Type 0
@@ -76,7 +76,7 @@ number_at most ws = do
 
 -- a moment: up to 2^62
 abbrev pub moment_at : Field ℕ
-moment_at ws = number_at (2 ^ 62) ws
+moment_at ws = number_at last_moment ws
 
 -- the name of an application, its ASCII letters in capitals
 unfoldable pub app_at : Field (List ℕ)
@@ -118,7 +118,7 @@ maybe_status_at ws = do
 -- the duration of a lease, in seconds: up to 2,147,483, and 0 stands for 90
 unfoldable pub secs_at : Field ℕ
 secs_at ws = do
-  n ← number_at 2147483 ws
+  n ← number_at longest_lease ws
   Some (if n.0 == 0 then 90 else n.0, n.1)
 
 -- a stamp: up to 2^63 - 1, or none where `-` stands
@@ -128,8 +128,8 @@ stamp_at ws = do
   if absent.0 then Some (None, absent.1) else (number_at (2 ^ 63 - 1) absent.1 >>= λ n. Some (Some n.0, n.1))
 
 -- the same, where `-` stands for the one that is given
-unfoldable pub dirty_at : ℕ → Field ℕ
-dirty_at given ws = do
+unfoldable pub last_dirty_at : ℕ → Field ℕ
+last_dirty_at given ws = do
   stamp ← stamp_at ws
   Some (unwrap_or stamp.0 given, stamp.1)
 
@@ -144,7 +144,7 @@ source_at ws = do
 -- how many peers there are: up to 8; 0 where no word is left
 unfoldable pub peers_at : Field ℕ
 peers_at [] = Some (0, [])
-peers_at (w ∷ ws) = number_at 8 (w ∷ ws)
+peers_at (w ∷ ws) = number_at most_peers (w ∷ ws)
 
 -- a number below 2^32
 abbrev pub u32_at : Field ℕ
@@ -162,7 +162,7 @@ switch_at ws = do
       else if bytes_eq w.0 (codes "off") then Some (false, w.1)
       else None
 
--- `on` or `off`, the percentage, the seconds between two renewals and the milliseconds between two passes, each below 2^32 and within
+-- `on` or `off`, the percentage, the seconds between two renewals and the milliseconds between two evictions, each below 2^32 and within
 -- its limits
 unfoldable pub settings_at : Field Config
 settings_at ws = do

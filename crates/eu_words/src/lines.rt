@@ -1,6 +1,6 @@
 //! What a line says.
 ghost use Rattle.std.specs.Prelude.{◌≢◌, Err};
-ghost use Rattle.eu_words.specs.Words.{Gives, IsReading};
+ghost use Rattle.eu_words.specs.Words.{Takes, IsReading};
 ghost use Rattle.eu_words.specs.Lines.{line_of, words_say, open_says, config_says, drain_says, landed_says, lost_says, others_say, newcomer_at, register_says, renew_says, cancel_says, set_says, unset_says, adopt_says, look_says, moment_says};
 
 use crate::openings::Opening;
@@ -52,7 +52,7 @@ pub enum Line {
 /// - `drain T P`, `lost T P`, `landed T P CODE..`: P is the number of a peer, from 0, below 2^32; a CODE is 100 to 999, and there are
 ///   any number of them.
 /// - `config T on P I M`, `config T off P I M`: P, I and M are below 2^32, and those that `Config::new` takes: a percentage up to 100,
-///   1 to 3,600 s between two renewals, and milliseconds between two passes.
+///   1 to 3,600 s between two renewals, and milliseconds between two evictions.
 /// - `roll T`, `update T`, `evict T`, `counts T`, `page T`.
 ///
 /// APP and ID are names, STATUS and OVR statuses in capitals. SRC is `c` for a client, or `r` for a peer.
@@ -198,13 +198,13 @@ fn instance_at(
     words: &mut Words<'_>,
     moment: Moment,
 ) -> Result<BoxedInstance, LineError>
-    ensures { Gives result words.new (newcomer_at moment words.old) }
+    ensures { Takes result words.new (newcomer_at moment words.old) }
 {
     let key = words.key_at(alloc)?;
     let secs = words.secs_at()?;
     let status = words.status_at()?;
     let overridden = words.status_at()?;
-    let dirty = words.dirty_at(moment)?;
+    let last_dirty = words.last_dirty_at(moment)?;
     let rest = Rest::of_host(alloc, key.id.as_str())?;
     Ok(BoxedInstance::new(
         alloc,
@@ -212,7 +212,7 @@ fn instance_at(
             key,
             status,
             overridden,
-            dirty,
+            last_dirty,
             secs,
             interval: RenewalSecs::DEFAULT,
             rest,
@@ -226,13 +226,13 @@ fn renew_line(alloc: Global, words: &mut Words<'_>) -> Result<Line, LineError>
 {
     let moment = words.moment_at()?;
     let key = words.key_at(alloc)?;
-    let dirty = words.stamp_at()?;
+    let last_dirty = words.stamp_at()?;
     let overridden = words.maybe_status_at()?;
     let replicated = words.source_at()?;
     words.end()?;
     let command = Command::Renew {
         key,
-        dirty,
+        last_dirty,
         overridden,
         replicated,
     };
@@ -258,13 +258,13 @@ fn set_line(alloc: Global, words: &mut Words<'_>) -> Result<Line, LineError>
     let moment = words.moment_at()?;
     let key = words.key_at(alloc)?;
     let status = words.status_at()?;
-    let dirty = words.stamp_at()?;
+    let last_dirty = words.stamp_at()?;
     let replicated = words.source_at()?;
     words.end()?;
     let command = Command::SetStatus {
         key,
         status,
-        dirty,
+        last_dirty,
         replicated,
     };
     Ok(Line::Apply { moment, command })
@@ -277,13 +277,13 @@ fn unset_line(alloc: Global, words: &mut Words<'_>) -> Result<Line, LineError>
     let moment = words.moment_at()?;
     let key = words.key_at(alloc)?;
     let status = words.maybe_status_at()?;
-    let dirty = words.stamp_at()?;
+    let last_dirty = words.stamp_at()?;
     let replicated = words.source_at()?;
     words.end()?;
     let command = Command::UnsetStatus {
         key,
         status,
-        dirty,
+        last_dirty,
         replicated,
     };
     Ok(Line::Apply { moment, command })
@@ -319,7 +319,7 @@ fn moment_line(verb: &[u8], words: &mut Words<'_>) -> Result<Line, LineError>
     let moment = words.moment_at()?;
     words.end()?;
     if is_text(verb, "roll") {
-        let command = Command::Roll;
+        let command = Command::EndMinute;
         return Ok(Line::Apply { moment, command });
     }
     if is_text(verb, "update") {

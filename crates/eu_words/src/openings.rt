@@ -1,6 +1,7 @@
 //! How a registry is opened.
 ghost use Rattle.std.specs.Prelude.{◌≡◌, ◌≤◌, SomeIff};
 
+use eu_base::MOST_PEERS;
 use std::marker::Model;
 
 /// How many peers a registry has: 0 to 8. Contracts see the number.
@@ -11,12 +12,13 @@ pub struct PeerCount {
 
 impl Model for PeerCount {
     ghost use Rattle.std.specs.Prelude.{ℕ, ◌≤◌};
+    ghost use Rattle.eu_base.specs.Limits.{most_peers};
 
     ghost Value = { ℕ };
 
     ghost view = { λ p. p.count };
 
-    ghost invariant = { λ p. p.count ≤ 8 };
+    ghost invariant = { λ p. p.count ≤ most_peers };
 
     ghost inverse = { λ n. record { count = n } };
 }
@@ -27,9 +29,9 @@ impl PeerCount {
 
     /// So many peers. None exactly where they are more than 8.
     pub fn new(count: u32) -> Option<PeerCount>
-        ensures { SomeIff result (count ≤ 8) count }
+        ensures { SomeIff result (count ≤ MOST_PEERS) count }
     {
-        if count > 8 {
+        if count > MOST_PEERS {
             return None;
         }
         Some(PeerCount { count })
@@ -38,7 +40,7 @@ impl PeerCount {
     /// The number.
     pub fn count(self) -> u32
         ensures value { result ≡ self }
-        ensures bound { result ≤ 8 }
+        ensures bound { result ≤ MOST_PEERS }
     {
         self.count
     }

@@ -1,10 +1,13 @@
 //! The words of a line.
 ghost use Rattle.std.specs.Prelude.{◌≡◌, ◌≢◌, ◌∷◌, ◌≤◌, List, ℕ, IfErr, IfOk, IfSome, IsSome, None, Some, Err, true, IsAscii, IsUtf8};
 ghost use Rattle.std.specs.Str.{bytes_eq};
-ghost use Rattle.eu_words.specs.Words.{words_of, words_left, number, digits, Gives, IsReading, word_at, absent_at, number_at, moment_at, app_at, id_at, key_at, status_at, maybe_status_at, secs_at, stamp_at, dirty_at, source_at, peers_at, u32_at, peer_at, switch_at, settings_at, code_at, codes_of, end_at};
+ghost use Rattle.eu_words.specs.Words.{words_of, words_left, number, digits, Takes, IsReading, word_at, absent_at, number_at, moment_at, app_at, id_at, key_at, status_at, maybe_status_at, secs_at, stamp_at, last_dirty_at, source_at, peers_at, u32_at, peer_at, switch_at, settings_at, code_at, codes_of, end_at};
 
 use crate::openings::PeerCount;
-use eu_base::{App, Codes, Config, Fault, Id, Key, LeaseSecs, Moment, Stamp, Status};
+use eu_base::{
+    App, Codes, Config, Fault, Id, Key, LAST_MOMENT, LONGEST_LEASE, LeaseSecs, MOST_PEERS, Moment,
+    Stamp, Status,
+};
 use eu_lines::LineError;
 use std::alloc::Global;
 use std::marker::Model;
@@ -12,15 +15,6 @@ use std::str;
 
 /// The greatest stamp, 2^63 - 1.
 const LAST_STAMP: u64 = 0x7fff_ffff_ffff_ffff;
-
-/// The last moment, 2^62 ms.
-const LAST_MOMENT: u64 = 1 << 62;
-
-/// The most peers.
-const MOST_PEERS: u64 = 8;
-
-/// The longest duration of a lease, in seconds.
-const LONGEST_SECS: u64 = 2_147_483;
 
 /// The words of a line that are still to be read. Contracts see the list of them.
 #[derive(Drop)]
@@ -57,7 +51,7 @@ impl<'a> Words<'a> {
 
     /// No word is left, else `Bad`.
     pub fn end(&self) -> Result<(), LineError>
-        ensures said { Gives result self.now (end_at self.now) }
+        ensures said { Takes result self.now (end_at self.now) }
         ensures memory { result ≢ Err LineError.OutOfMemory }
     {
         match self.rest {
@@ -69,7 +63,7 @@ impl<'a> Words<'a> {
     /// Whether the next word is `-`, which is then read; any other word is left. `Bad` where none is left.
     #[tactic(auto, unfolding(crate::specs::Words::absent_at))]
     fn absent_at(&mut self) -> Result<bool, LineError>
-        ensures said { Gives result self.new (absent_at self.old) }
+        ensures said { Takes result self.new (absent_at self.old) }
         ensures memory { result ≢ Err LineError.OutOfMemory }
     {
         let before = self.rest;
@@ -83,7 +77,7 @@ impl<'a> Words<'a> {
     /// A number up to `most`, else `Bad`.
     #[tactic(auto, unfolding(crate::specs::Words::number_at))]
     pub fn number_at(&mut self, most: u64) -> Result<u64, LineError>
-        ensures said { Gives result self.new (number_at most self.old) }
+        ensures said { Takes result self.new (number_at most self.old) }
         ensures small { IfOk result (λ n. n ≤ most) }
         ensures memory { result ≢ Err LineError.OutOfMemory }
     {
@@ -100,19 +94,19 @@ impl<'a> Words<'a> {
     /// The number of peers, up to 8, or 0 where no word is left; else `Bad`.
     #[tactic(auto, unfolding(crate::specs::Words::peers_at), using(crate::proofs::Left::peers_told))]
     pub fn peers_at(&mut self) -> Result<PeerCount, LineError>
-        ensures said { Gives result self.new (peers_at self.old) }
+        ensures said { Takes result self.new (peers_at self.old) }
         ensures memory { result ≢ Err LineError.OutOfMemory }
     {
         if self.rest.is_none() {
             return Ok(PeerCount::NONE);
         }
-        let peers = self.number_at(MOST_PEERS)?;
+        let peers = self.number_at(u64::from(MOST_PEERS))?;
         PeerCount::new(peers as u32).ok_or(LineError::Bad)
     }
 
     /// A number below 2^32, else `Bad`.
     fn u32_at(&mut self) -> Result<u32, LineError>
-        ensures said { Gives result self.new (u32_at self.old) }
+        ensures said { Takes result self.new (u32_at self.old) }
         ensures memory { result ≢ Err LineError.OutOfMemory }
     {
         let number = self.number_at(u64::from(u32::MAX))?;
@@ -121,7 +115,7 @@ impl<'a> Words<'a> {
 
     /// The number of a peer, below 2^32, else `Bad`.
     pub fn peer_at(&mut self) -> Result<u32, LineError>
-        ensures said { Gives result self.new (peer_at self.old) }
+        ensures said { Takes result self.new (peer_at self.old) }
         ensures memory { result ≢ Err LineError.OutOfMemory }
     {
         self.u32_at()
@@ -130,7 +124,7 @@ impl<'a> Words<'a> {
     /// Whether a setting is `on` or `off`, else `Bad`.
     #[tactic(auto, unfolding(crate::specs::Words::switch_at))]
     fn switch_at(&mut self) -> Result<bool, LineError>
-        ensures said { Gives result self.new (switch_at self.old) }
+        ensures said { Takes result self.new (switch_at self.old) }
         ensures memory { result ≢ Err LineError.OutOfMemory }
     {
         let word = self.next_word()?;
@@ -144,10 +138,10 @@ impl<'a> Words<'a> {
     }
 
     /// Settings: whether self-preservation is `on` or `off`, the percentage, the seconds between two renewals, and the milliseconds
-    /// between two passes. `Bad` where one of these isn't there or is past its limits (`Config::new`).
+    /// between two evictions. `Bad` where one of these isn't there or is past its limits (`Config::new`).
     #[tactic(auto, unfolding(crate::specs::Words::settings_at))]
     pub fn config_at(&mut self) -> Result<Config, LineError>
-        ensures said { Gives result self.new (settings_at self.old) }
+        ensures said { Takes result self.new (settings_at self.old) }
         ensures memory { result ≢ Err LineError.OutOfMemory }
     {
         let preservation = self.switch_at()?;
@@ -160,7 +154,7 @@ impl<'a> Words<'a> {
     /// An HTTP status, 100 to 999, else `Bad`.
     #[tactic(auto, unfolding(crate::specs::Words::code_at))]
     fn code(&mut self) -> Result<u16, LineError>
-        ensures said { Gives result self.new (code_at self.old) }
+        ensures said { Takes result self.new (code_at self.old) }
         ensures memory { result ≢ Err LineError.OutOfMemory }
     {
         let code = self.number_at(999)?;
@@ -183,7 +177,7 @@ impl<'a> Words<'a> {
 
     /// A moment, else `Bad`.
     pub fn moment_at(&mut self) -> Result<Moment, LineError>
-        ensures said { Gives result self.new (moment_at self.old) }
+        ensures said { Takes result self.new (moment_at self.old) }
         ensures memory { result ≢ Err LineError.OutOfMemory }
     {
         let ms = self.number_at(LAST_MOMENT)?;
@@ -193,7 +187,7 @@ impl<'a> Words<'a> {
     /// An application, else `Bad`; `OutOfMemory`, where the word is one.
     #[tactic(auto, unfolding(crate::specs::Words::app_at))]
     pub fn app_at(&mut self, alloc: Global) -> Result<App, LineError>
-        ensures said { Gives result self.new (app_at self.old) }
+        ensures said { Takes result self.new (app_at self.old) }
         ensures memory { result ≡ Err LineError.OutOfMemory → IsSome (app_at self.old) }
     {
         let word = self.next_word()?;
@@ -210,7 +204,7 @@ impl<'a> Words<'a> {
     /// The id of an instance, else `Bad`; `OutOfMemory`, where the word is one.
     #[tactic(auto, unfolding(crate::specs::Words::id_at))]
     pub fn id_at(&mut self, alloc: Global) -> Result<Id, LineError>
-        ensures said { Gives result self.new (id_at self.old) }
+        ensures said { Takes result self.new (id_at self.old) }
         ensures memory { result ≡ Err LineError.OutOfMemory → IsSome (id_at self.old) }
     {
         let word = self.next_word()?;
@@ -227,7 +221,7 @@ impl<'a> Words<'a> {
     /// An application and an id, else `Bad`; `OutOfMemory`.
     #[tactic(auto, unfolding(crate::specs::Words::key_at))]
     pub fn key_at(&mut self, alloc: Global) -> Result<Key, LineError>
-        ensures { Gives result self.new (key_at self.old) }
+        ensures { Takes result self.new (key_at self.old) }
     {
         let app = self.app_at(alloc)?;
         let id = self.id_at(alloc)?;
@@ -237,7 +231,7 @@ impl<'a> Words<'a> {
     /// A status, else `Bad`.
     #[tactic(auto, unfolding(crate::specs::Words::status_at))]
     pub fn status_at(&mut self) -> Result<Status, LineError>
-        ensures said { Gives result self.new (status_at self.old) }
+        ensures said { Takes result self.new (status_at self.old) }
         ensures memory { result ≢ Err LineError.OutOfMemory }
     {
         let word = self.next_word()?;
@@ -247,7 +241,7 @@ impl<'a> Words<'a> {
     /// A status, or none where `-` stands, else `Bad`.
     #[tactic(auto, unfolding(crate::specs::Words::maybe_status_at))]
     pub fn maybe_status_at(&mut self) -> Result<Option<Status>, LineError>
-        ensures said { Gives result self.new (maybe_status_at self.old) }
+        ensures said { Takes result self.new (maybe_status_at self.old) }
         ensures memory { result ≢ Err LineError.OutOfMemory }
     {
         if self.absent_at()? {
@@ -260,10 +254,10 @@ impl<'a> Words<'a> {
     #[tactic(auto, unfolding(crate::specs::Words::secs_at))]
     #[inline(always)]
     pub fn secs_at(&mut self) -> Result<LeaseSecs, LineError>
-        ensures said { Gives result self.new (secs_at self.old) }
+        ensures said { Takes result self.new (secs_at self.old) }
         ensures memory { result ≢ Err LineError.OutOfMemory }
     {
-        match self.number_at(LONGEST_SECS)? {
+        match self.number_at(u64::from(LONGEST_LEASE))? {
             0 => Ok(LeaseSecs::DEFAULT),
             secs => LeaseSecs::new(secs as u32).ok_or(LineError::Bad),
         }
@@ -273,7 +267,7 @@ impl<'a> Words<'a> {
     #[tactic(auto, unfolding(crate::specs::Words::stamp_at))]
     #[inline(always)]
     pub fn stamp_at(&mut self) -> Result<Option<Stamp>, LineError>
-        ensures said { Gives result self.new (stamp_at self.old) }
+        ensures said { Takes result self.new (stamp_at self.old) }
         ensures memory { result ≢ Err LineError.OutOfMemory }
     {
         if self.absent_at()? {
@@ -284,10 +278,10 @@ impl<'a> Words<'a> {
     }
 
     /// A stamp, else `Bad`. `-` stands for the number of the moment.
-    #[tactic(auto, unfolding(crate::specs::Words::dirty_at))]
+    #[tactic(auto, unfolding(crate::specs::Words::last_dirty_at))]
     #[inline(always)]
-    pub fn dirty_at(&mut self, moment: Moment) -> Result<Stamp, LineError>
-        ensures said { Gives result self.new (dirty_at moment self.old) }
+    pub fn last_dirty_at(&mut self, moment: Moment) -> Result<Stamp, LineError>
+        ensures said { Takes result self.new (last_dirty_at moment self.old) }
         ensures memory { result ≢ Err LineError.OutOfMemory }
     {
         match self.stamp_at()? {
@@ -299,7 +293,7 @@ impl<'a> Words<'a> {
     /// Whether a peer sends the line: `r`, or `c` for a client, else `Bad`.
     #[tactic(auto, unfolding(crate::specs::Words::source_at))]
     pub fn source_at(&mut self) -> Result<bool, LineError>
-        ensures said { Gives result self.new (source_at self.old) }
+        ensures said { Takes result self.new (source_at self.old) }
         ensures memory { result ≢ Err LineError.OutOfMemory }
     {
         let word = self.next_word()?;

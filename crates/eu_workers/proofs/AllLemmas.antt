@@ -2,7 +2,7 @@
 use Rattle.std.proofs.Common.{◌≡◌, ◌<◌, ◌≤◌, ◌+◌, ◌-◌, ◌∙◌, ℕ, List, set, get_or, length, arith, subst, sym, ap, ⊎_elim, get_or-set_same, get_or-set_other}
 use Rattle.std.proofs.lemmas.Bool.{cases_lt}
 use Rattle.std.proofs.lemmas.List.{get_or_default}
-use Rattle.eu_choice.specs.Front.{Asks}
+use Rattle.eu_clock.specs.Front.{Asks}
 use Rattle.eu_workers.specs.declared.all.Worker.{Worker}
 use Rattle.eu_workers.specs.declared.all.Worker.TheVariants.{Ready, Numbered, Working, Done}
 use Rattle.eu_workers.specs.All.{IsNumbered, HasRun, IsEnded}

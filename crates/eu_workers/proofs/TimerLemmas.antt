@@ -5,9 +5,9 @@ use Rattle.std.specs.List.{AllByRecursion}
 use Rattle.eu_base.specs.declared.faults.Fault.{Fault}
 use Rattle.eu_book.specs.declared.book.Receipt.{Receipt}
 use Rattle.eu_book.specs.declared.journal.Logged.{Logged}
-use Rattle.eu_book.specs.Account.{Applies, logged}
+use Rattle.eu_book.specs.Account.{Applies, entry, logged}
 use Rattle.eu_book.proofs.HistoryLemmas.{plus_nothing}
-use Rattle.eu_choice.specs.Front.{Asks}
+use Rattle.eu_clock.specs.Front.{Asks}
 use Rattle.eu_model.specs.declared.commands.Command.{Command}
 use Rattle.eu_model.specs.Delta.{delta, plus}
 use Rattle.eu_shared.specs.Passes.{Caller, IsAnswer}
@@ -85,7 +85,7 @@ module _ {S : Type 0} (chooser : Asks S) (x y y' : S) (c : Command) (n m : ℕ) 
   pub draws_more : (r : Result Receipt Fault)
       → IfOk r (λ v. q'.log ≡ q.log ++ logged c m v.reply v.number ∷ [])
       → IfOk r (λ v. q'.tally ≡ plus q.tally (delta c v.reply))
-      → IfOk r (λ v. IsAnswer chooser y q c m v.reply v.number y' q')
+      → IfOk r (λ v. IsAnswer chooser y q (entry q.number v.number c m v.reply) y' q')
       → OnErr r (q' ≡ q)
       → OnErr r (y' ≡ y)
       → Counts e (is_err r) e'
@@ -94,7 +94,7 @@ module _ {S : Type 0} (chooser : Asks S) (x y y' : S) (c : Command) (n m : ℕ) 
   draws_more (Ok v) log tally answer same unasked counts =
       let number_is : q.number ≡ p.number = a.asks.turns.pass.number in
       let one : Answers chooser y p.number (logged c m v.reply v.number) y' =
-      (answer.0, answer.1, answer.2, answer.3, subst (λ (k : ℕ). Applies chooser answer.0 y k c m v.reply v.number answer.1 y') number_is answer.4) in
+      (answer.0, answer.1, answer.2, answer.3, subst (λ (k : ℕ). Applies chooser answer.0 y (entry k v.number c m v.reply) answer.1 y') number_is answer.4) in
       record {
         asks = asks_more c n m p q q' q'' e e' a.asks seen number tidies (Ok v) log tally same counts;
         drawn = answers_more chooser x y y' p.number a.asks.turns.pass.added (logged c m v.reply v.number) a.drawn one;

@@ -5,10 +5,10 @@ use Rattle.eu_base.specs.declared.tasks.Task.{Task}
 use Rattle.eu_book.specs.declared.journal.Logged.{Logged}
 use Rattle.eu_book.specs.Account.{logged}
 use Rattle.eu_book.proofs.HistoryLemmas.{nothing_plus, plus_assoc, plus_nothing}
-use Rattle.eu_desk.specs.declared.asks.Answer.{Answer}
-use Rattle.eu_desk.specs.declared.asks.Answer.TheVariants.{Did, Saw}
-use Rattle.eu_desk.specs.declared.asks.Ask.{Ask}
-use Rattle.eu_desk.specs.declared.asks.Ask.TheVariants.{Do, See}
+use Rattle.eu_model.specs.declared.asks.Answer.{Answer}
+use Rattle.eu_model.specs.declared.asks.Answer.TheVariants.{Did, Saw}
+use Rattle.eu_model.specs.declared.asks.Ask.{Ask}
+use Rattle.eu_model.specs.declared.asks.Ask.TheVariants.{Do, See}
 use Rattle.eu_json.specs.declared.batch_write.ItemAnswer.{ItemAnswer}
 use Rattle.eu_model.specs.Delta.{delta, plus}
 use Rattle.eu_peer.specs.declared.turn.Turn.{Turn}
@@ -16,8 +16,7 @@ use Rattle.eu_peer.specs.Turns.{Turns}
 use Rattle.eu_peer.proofs.KeepLemmas.{turns_keep}
 use Rattle.eu_shared.specs.Seat.{PassAsks}
 use Rattle.eu_session.specs.declared.faults.SessionFault.{SessionFault}
-use Rattle.eu_session.specs.Session.{Session}
-use Rattle.eu_session.specs.Turn.{State}
+use Rattle.eu_session.specs.Session.{Session, Streams, State}
 use Rattle.eu_session.proofs.KeepLemmas.{session_keeps}
 use Rattle.eu_settle.specs.Settled.{from_first}
 use Rattle.eu_shared.specs.Passes.{Caller, trimmed}
@@ -139,20 +138,20 @@ takes_within n limit p q e takes few = record { within = (takes.within.0, omega 
 -- ---- by who asks for it: sessions, and turns for a peer, over whatever holds the pass
 
 module _ {D C : Type 0} (pass : D → Caller) (tells : C → ℕ → C → Type 0) where
-  pub asked_by_session : (old new : State D C) (before after : Option (List ℕ)) (failed_reader failed_writer : Bool) (result : Result ℕ SessionFault)
-      → Session (λ s ask t r s'. PassAsks (pass s) ask t r (pass s')) tells old new before after failed_reader failed_writer result → IsAsked (pass old.desk) (pass new.desk)
-  asked_by_session old new before after failed_reader failed_writer result is =
+  pub asked_by_session : (old new : State D C) (s : Streams) (result : Result ℕ SessionFault)
+      → Session (λ s ask t r s'. PassAsks (pass s) ask t r (pass s')) tells old new s result → IsAsked (pass old.desk) (pass new.desk)
+  asked_by_session old new s result is =
       session_keeps (λ s ask t r s'. PassAsks (pass s) ask t r (pass s')) (λ a b. IsAsked (pass a) (pass b))
       (λ a b e. asked_nothing (pass a) (pass b) (ap pass e))
       (λ a b c. asked_more (pass a) (pass b) (pass c))
       (λ a ask t r b. asks (pass a) ask t r (pass b))
-      tells old new before after failed_reader failed_writer result is
+      tells old new s result is
 
-pub asked_by_turn : {D P C : Type 0} (a b : D) (pass : D → Caller) (told : P → List Task → Option (List ItemAnswer) → P → Type 0) (tells : C → ℕ → C → Type 0) (peer : ℕ) (p p' : P) (c c' : C) (result : Result Turn Fault)
-    → Turns (λ s ask t r s'. PassAsks (pass s) ask t r (pass s')) told tells peer a p c result b p' c' → IsAsked (pass a) (pass b)
-asked_by_turn a b pass told tells peer p p' c c' result is =
+pub asked_by_turn : {D P C : Type 0} (a b : D) (pass : D → Caller) (submits : P → List Task → Option (List ItemAnswer) → P → Type 0) (tells : C → ℕ → C → Type 0) (peer : ℕ) (p p' : P) (c c' : C) (result : Result Turn Fault)
+    → Turns (λ s ask t r s'. PassAsks (pass s) ask t r (pass s')) submits tells peer a p c result b p' c' → IsAsked (pass a) (pass b)
+asked_by_turn a b pass submits tells peer p p' c c' result is =
     turns_keep (λ s ask t r s'. PassAsks (pass s) ask t r (pass s')) (λ a b. IsAsked (pass a) (pass b))
     (λ a b e. asked_nothing (pass a) (pass b) (ap pass e))
     (λ a b c. asked_more (pass a) (pass b) (pass c))
     (λ a ask t r b. asks (pass a) ask t r (pass b))
-    told tells peer a p c result b p' c' is
+    submits tells peer a p c result b p' c' is

@@ -1,7 +1,7 @@
 -- All workers of a server
 use Rattle.std.specs.Prelude.{◌≡◌, ℕ}
-use Rattle.eu_choice.specs.Front.{Asks}
-use Rattle.eu_model.specs.declared.commands.Command.TheVariants.{Evict, Roll, Update}
+use Rattle.eu_clock.specs.Front.{Asks}
+use Rattle.eu_model.specs.declared.commands.Command.TheVariants.{Evict, EndMinute, Update}
 use Rattle.eu_shared.specs.Passes.{Caller}
 use Rattle.eu_workers.specs.declared.all.Job.{Job}
 use Rattle.eu_workers.specs.declared.all.Work.{Work}
@@ -16,7 +16,7 @@ use Rattle.eu_workers.specs.Timers.{AsksBy, AsksOnly}
 abbrev pub IsWorked : {S H P : Type 0} → Asks H → Work S H P → Work S H P → ℕ → Caller → Caller → Ended → Type 0
 IsWorked {S} {H} {P} chooser (Sessions source) left limit p q e = ((s : S) × (left ≡ Sessions s)) × TakesTurns limit p q e
 IsWorked {S} {H} {P} chooser (Evictor x) left limit p q e = (x' : H) × (left ≡ Evictor x') × AsksBy chooser x Evict limit p q e x'
-IsWorked {S} {H} {P} chooser Bucket left limit p q e = (left ≡ Bucket) × AsksOnly Roll limit p q e
+IsWorked {S} {H} {P} chooser Bucket left limit p q e = (left ≡ Bucket) × AsksOnly EndMinute limit p q e
 IsWorked {S} {H} {P} chooser Threshold left limit p q e = (left ≡ Threshold) × AsksOnly Update limit p q e
 IsWorked {S} {H} {P} chooser (Replicator number peer) left limit p q e = ((x : P) × (left ≡ Replicator number x)) × TakesTurns limit p q e
 

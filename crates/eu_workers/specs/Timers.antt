@@ -2,12 +2,12 @@
 use Rattle.std.specs.Prelude.{◌≡◌, ℕ, ◌+◌, ◌%◌, ◌==◌, Bool, false, List, [], ◌∷◌, length}
 use Rattle.std.specs.List.{AllByRecursion}
 use Rattle.eu_book.specs.declared.journal.Logged.{Logged}
-use Rattle.eu_book.specs.Account.{Account, Applies, IsLawful}
-use Rattle.eu_choice.specs.Front.{Asks}
+use Rattle.eu_book.specs.Account.{Account, Applies, IsLawful, entry}
+use Rattle.eu_clock.specs.Front.{Asks}
 use Rattle.eu_gate.specs.declared.timers.Timer.{Timer}
 use Rattle.eu_gate.specs.declared.timers.Timer.TheVariants.{Evictor, Bucket, Threshold}
 use Rattle.eu_model.specs.declared.commands.Command.{Command}
-use Rattle.eu_model.specs.declared.commands.Command.TheVariants.{Evict, Roll, Update}
+use Rattle.eu_model.specs.declared.commands.Command.TheVariants.{Evict, EndMinute, Update}
 use Rattle.eu_shared.specs.Passes.{Caller}
 use Rattle.eu_workers.specs.declared.ended.Ended.{Ended}
 use Rattle.eu_workers.specs.Returned.{TakesTurns}
@@ -15,7 +15,7 @@ use Rattle.eu_workers.specs.Returned.{TakesTurns}
 -- what each timer's worker asks for
 abbrev pub command_of : Timer → Command
 command_of Evictor = Evict
-command_of Bucket = Roll
+command_of Bucket = EndMinute
 command_of Threshold = Update
 
 -- the journal is to begin anew after so many turns of a timer's worker: after each 60th of the bucket's
@@ -34,7 +34,7 @@ pub record AsksOnly (command : Command) (limit : ℕ) (p q : Caller) (e : Ended)
 
 -- some lawful book answers the pass of that number so, by the chooser's next words, and leaves the chooser so
 abbrev pub Answers : {S : Type 0} → Asks S → S → ℕ → Logged → S → Type 0
-Answers chooser x pass l x' = (before : Account) × (after : Account) × IsLawful before × IsLawful after × Applies chooser before x pass l.command l.moment l.reply l.number after x'
+Answers chooser x pass l x' = (before : Account) × (after : Account) × IsLawful before × IsLawful after × Applies chooser before x (entry pass l.number l.command l.moment l.reply) after x'
 
 -- one after another, each by the words that follow those of the one before
 abbrev pub AnswersAll : {S : Type 0} → Asks S → S → ℕ → List Logged → S → Type 0

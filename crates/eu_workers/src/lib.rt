@@ -13,7 +13,7 @@ mod timers;
 
 pub use all::{Job, Work, Worker, run_all};
 pub use ended::Ended;
-pub use eu_gate::{Gate, Go, Point, Source};
+pub use eu_gate::{Gate, Go, Incoming, Point};
 pub use replicator::run_replicator;
 pub use sessions::run_sessions;
 pub use site::Site;

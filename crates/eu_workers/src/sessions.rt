@@ -6,7 +6,7 @@ use crate::ended::Ended;
 use crate::gated::{GatedSink, GatedSource};
 use crate::site::Site;
 use eu_clock::Clock;
-use eu_gate::{Gate, Go, Point, Source};
+use eu_gate::{Gate, Go, Incoming, Point};
 use eu_session::{SessionFault, serve_session};
 use eu_shared::{Label, Pass, Seat};
 use std::io::{Read, Write};
@@ -29,7 +29,7 @@ fn serve<K: Label, R: Wait, G: Gate, C: Clock, I: Read, O: Write>(
 }
 
 /// A turn with a connection: serves its session, ends it, and trims the log of the pass. Tells what came of the session.
-fn turn<K: Label, R: Wait, G: Gate, S: Source, C: Clock>(
+fn turn<K: Label, R: Wait, G: Gate, S: Incoming, C: Clock>(
     site: &Site<'_, K, R, G>,
     who: u32,
     seat: &mut Seat<'_, K, R>,
@@ -52,7 +52,7 @@ fn turn<K: Label, R: Wait, G: Gate, S: Source, C: Clock>(
 /// A turn passes the gate, takes the next connection, serves its session (`eu_session::serve_session`), ends the connection and trims
 /// the log of the pass (`Pass::trim`). Each read of the connection passes the gate first, and fails where that says `Stop`; and each
 /// response passes it before it is flushed. A session that ended by a fault is counted as refused, and the next one follows.
-pub fn run_sessions<K: Label, R: Wait, G: Gate, S: Source, C: Clock>(
+pub fn run_sessions<K: Label, R: Wait, G: Gate, S: Incoming, C: Clock>(
     site: &Site<'_, K, R, G>,
     who: u32,
     pass: Pass<K>,

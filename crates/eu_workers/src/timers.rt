@@ -1,6 +1,6 @@
 //! Workers that ask for the same command, turn after turn.
 ghost use Rattle.std.specs.Prelude.{◌≡◌, ◌<◌, ◌≤◌, ◌∷◌, ◌++◌, [], true, false, IfOk, OnOk, OnErr};
-ghost use Rattle.eu_book.specs.Account.{logged};
+ghost use Rattle.eu_book.specs.Account.{entry, logged};
 ghost use Rattle.eu_model.specs.Delta.{delta, plus};
 ghost use Rattle.eu_model.specs.declared.commands.Command.TheVariants as command;
 ghost use Rattle.eu_shared.specs.Passes.{Caller, IsAnswer};
@@ -27,7 +27,7 @@ fn command(timer: Timer) -> Command
 {
     match timer {
         Timer::Evictor => Command::Evict,
-        Timer::Bucket => Command::Roll,
+        Timer::Bucket => Command::EndMinute,
         Timer::Threshold => Command::Update,
     }
 }
@@ -59,7 +59,7 @@ pub(crate) trait Asks {
         ensures tally { IfOk result (λ r. (pass self.new).tally ≡ plus (pass self.old).tally (delta command r.reply)) }
         ensures number { (pass self.new).number ≡ (pass self.old).number }
         ensures seen { (pass self.old).seen ≤ (pass self.new).seen }
-        ensures answer { IfOk result (λ r. IsAnswer C.asks chooser.old (pass self.old) command moment r.reply r.number chooser.new (pass self.new)) }
+        ensures answer { IfOk result (λ r. IsAnswer C.asks chooser.old (pass self.old) (entry (pass self.old).number r.number command moment r.reply) chooser.new (pass self.new)) }
         ensures err { OnErr result (pass self.new ≡ pass self.old) }
         ensures unasked { OnErr result (chooser.new ≡ chooser.old) };
 
@@ -170,7 +170,7 @@ pub fn run_evictor<K: Label, R: Wait, G: Gate, C: Clock, H: Chooser>(
     run(site, Timer::Evictor, pass, clock, chooser, limit)
 }
 
-/// The bucket's worker (`MeasuredRate` in Eureka): as the evictor, with `Roll` for its command. It draws no words. After each 60th turn
+/// The bucket's worker (`MeasuredRate` in Eureka): as the evictor, with `EndMinute` for its command. It draws no words. After each 60th turn
 /// it has the journal begin anew (`Pass::checkpoint`), so once an hour where a turn is a minute; where no memory is left for it, it
 /// isn't, and no turn counts as refused for it.
 pub fn run_bucket<K: Label, R: Wait, G: Gate, C: Clock>(
@@ -179,7 +179,7 @@ pub fn run_bucket<K: Label, R: Wait, G: Gate, C: Clock>(
     clock: &mut C,
     limit: u64,
 ) -> (Pass<K>, Ended)
-    ensures asks { AsksOnly command.Roll limit pass result.0 result.1 }
+    ensures asks { AsksOnly command.EndMinute limit pass result.0 result.1 }
     ensures stops { result.1.turns < limit → G.stops site.now.gate.now }
 {
     run(site, Timer::Bucket, pass, clock, &mut FirstChooser, limit)

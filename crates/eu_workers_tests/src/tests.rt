@@ -1,4 +1,5 @@
 //! The tests, by what they are of.
+mod hands;
 mod memory;
 mod peers;
 mod points;

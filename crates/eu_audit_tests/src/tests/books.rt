@@ -47,7 +47,7 @@ pub fn tell_step<C: Chooser>(
     tell(alloc, book, command, moment(ms)?, chooser)
 }
 
-/// Ten clients come at 1,000 for 90 s, and two passes follow once they have expired. Tells how many each of these evicts.
+/// Ten clients come at 1,000 for 90 s, and two evictions follow once they have expired. Tells how many each of these takes.
 fn play(
     alloc: Global,
     book: &mut Book,
@@ -76,7 +76,7 @@ fn played(alloc: Global, percent: u32) -> Result<((usize, usize), bool), Fault> 
 }
 
 #[test]
-fn passes_of_a_book_are_a_run(rt: HostRuntime) {
+fn evictions_of_a_book_are_a_run(rt: HostRuntime) {
     assert!(rt; played(rt.alloc(), 85) == Ok(((2, 2), true)));
     assert!(rt; played(rt.alloc(), 50) == Ok(((5, 3), true)));
     assert!(rt; played(rt.alloc(), 0) == Ok(((10, 0), true)));

@@ -84,7 +84,7 @@ fn drawn_instance<D: Draw>(alloc: Global, rng: &mut D) -> Result<Instance, Fault
     let client = Client {
         id: id(rng),
         statuses: (status(rng), status(rng)),
-        dirty: u64::from(rng.below(8)),
+        last_dirty: u64::from(rng.below(8)),
         secs: rng.below(20).saturating_add(1),
     };
     instance(alloc, client)
@@ -103,7 +103,7 @@ fn renewal<D: Draw>(alloc: Global, rng: &mut D) -> Result<Command, Fault> {
     let key = drawn_key(alloc, rng)?;
     Ok(Command::Renew {
         key,
-        dirty: stamp(rng),
+        last_dirty: stamp(rng),
         overridden: status_or_none(rng),
         replicated: flip(rng),
     })
@@ -122,7 +122,7 @@ fn setting<D: Draw>(alloc: Global, rng: &mut D) -> Result<Command, Fault> {
     Ok(Command::SetStatus {
         key,
         status: status(rng),
-        dirty: stamp(rng),
+        last_dirty: stamp(rng),
         replicated: flip(rng),
     })
 }
@@ -132,7 +132,7 @@ fn unsetting<D: Draw>(alloc: Global, rng: &mut D) -> Result<Command, Fault> {
     Ok(Command::UnsetStatus {
         key,
         status: status_or_none(rng),
-        dirty: stamp(rng),
+        last_dirty: stamp(rng),
         replicated: flip(rng),
     })
 }
@@ -156,7 +156,7 @@ fn drawn_command<D: Draw>(alloc: Global, rng: &mut D) -> Result<Command, Fault> 
         4 | 5 => Ok(Command::Adopt {
             instance: BoxedInstance::new(alloc, drawn_instance(alloc, rng)?)?,
         }),
-        6 => Ok(Command::Roll),
+        6 => Ok(Command::EndMinute),
         7 => Ok(Command::Update),
         8 => reconfiguration(rng),
         9 | 10 => Ok(Command::Evict),
@@ -170,7 +170,7 @@ fn drawn_moment<D: Draw>(rng: &mut D, from: u64) -> Result<Moment, Fault> {
     moment(from.saturating_add(u64::from(rng.below(60_000))))
 }
 
-/// Tells a book so many drawn commands, and how many leases passes evict.
+/// Tells a book so many drawn commands, and how many leases evictions take.
 fn tell_drawn<D: Draw>(
     alloc: Global,
     book: &mut Book,
@@ -187,7 +187,7 @@ fn tell_drawn<D: Draw>(
     Ok(evicted)
 }
 
-/// What a run was: how many steps it had, whether passes evicted somebody, whether renewals were counted, and the verdict on it.
+/// What a run was: how many steps it had, whether evictions took somebody, whether renewals were counted, and the verdict on it.
 type Run = (u64, bool, bool, bool);
 
 /// The run of that seed, of so many commands, in a book without peers.

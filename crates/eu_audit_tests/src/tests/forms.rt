@@ -1,13 +1,11 @@
 //! States and entries, told in a few words. The application is A where an id alone names a lease, and each client is at the host h.
 use eu_audit::audit;
 use eu_base::{
-    Action, App, BoxedInstance, Codes, Config, Fault, Id, Instance, Key, LeaseSecs, Moment,
-    RenewalSecs, Rest, Stamp, Status, Task,
+    Action, App, BoxedInstance, Codes, Config, Fault, Id, Instance, Key, Keys, LeaseSecs, Moment,
+    RenewalSecs, Rest, Stamp, Status, Task, Tasks,
 };
 use eu_fixtures::moment;
-use eu_model::{
-    Command, Entry, Keys, Listed, Listing, Queue, Queues, Reply, Rows, State, Tasks, Times,
-};
+use eu_model::{Command, Entry, Listed, Listing, OverrideRows, Queue, Queues, Reply, State, Times};
 use std::alloc::Global;
 
 /// An instance.
@@ -18,7 +16,7 @@ pub struct Client {
     /// Its status, and the overridden one.
     pub statuses: (Status, Status),
     /// Its stamp.
-    pub dirty: u64,
+    pub last_dirty: u64,
     /// Its duration in seconds.
     pub secs: u32,
 }
@@ -63,9 +61,9 @@ pub enum Step {
     Restore(&'static str, Status),
     /// A peer tells of an instance.
     Adopt(Client),
-    Roll,
+    EndMinute,
     Update,
-    /// Whether self-preservation is on, the percentage, the seconds between renewals, the milliseconds between passes.
+    /// Whether self-preservation is on, the percentage, the seconds between renewals, the milliseconds between evictions.
     Reconfigure(bool, u32, u32, u32),
     Evict,
     /// What waits for a peer goes in flight.
@@ -98,11 +96,11 @@ pub type Line = (u64, Step, Answer);
 /// What a server is.
 #[derive(Clone, Copy)]
 pub struct Form {
-    /// Whether self-preservation is on, the percentage, the seconds between renewals, the milliseconds between passes.
+    /// Whether self-preservation is on, the percentage, the seconds between renewals, the milliseconds between evictions.
     pub config: (bool, u32, u32, u32),
     pub expected: u64,
     pub leases: &'static [Lease],
-    pub rows: &'static [(&'static str, Status)],
+    pub overrides: &'static [(&'static str, Status)],
     pub last: u64,
     pub since: u64,
     pub previous: Option<u64>,
@@ -115,7 +113,7 @@ pub const NEW: Form = Form {
     config: (true, 85, 30, 60_000),
     expected: 0,
     leases: &[],
-    rows: &[],
+    overrides: &[],
     last: 0,
     since: 0,
     previous: None,
@@ -126,7 +124,7 @@ pub const NEW: Form = Form {
 pub const CLIENT: Client = Client {
     id: "i1",
     statuses: (Status::Up, Status::Unknown),
-    dirty: 5,
+    last_dirty: 5,
     secs: 90,
 };
 
@@ -171,7 +169,7 @@ pub fn key(alloc: Global, name: &str) -> Result<Key, Fault> {
 }
 
 pub fn instance(alloc: Global, client: Client) -> Result<Instance, Fault> {
-    let dirty = Stamp::new(client.dirty).ok_or(Fault::BadValue)?;
+    let last_dirty = Stamp::new(client.last_dirty).ok_or(Fault::BadValue)?;
     let secs = LeaseSecs::new(client.secs).ok_or(Fault::BadValue)?;
     let key = key(alloc, client.id)?;
     let rest = Rest::of_host(alloc, "h")?;
@@ -179,7 +177,7 @@ pub fn instance(alloc: Global, client: Client) -> Result<Instance, Fault> {
         key,
         status: client.statuses.0,
         overridden: client.statuses.1,
-        dirty,
+        last_dirty,
         secs,
         interval: RenewalSecs::DEFAULT,
         rest,
@@ -241,14 +239,14 @@ fn codes(alloc: Global, codes: &[u16]) -> Result<Codes, Fault> {
 fn renewal(
     alloc: Global,
     id: &str,
-    dirty: Option<u64>,
+    last_dirty: Option<u64>,
     overridden: Option<Status>,
     replicated: bool,
 ) -> Result<Command, Fault> {
     let key = key(alloc, id)?;
     Ok(Command::Renew {
         key,
-        dirty: dirty.and_then(Stamp::new),
+        last_dirty: last_dirty.and_then(Stamp::new),
         overridden,
         replicated,
     })
@@ -283,7 +281,7 @@ fn setting(alloc: Global, id: &str, status: Status) -> Result<Command, Fault> {
     Ok(Command::SetStatus {
         key,
         status,
-        dirty: None,
+        last_dirty: None,
         replicated: false,
     })
 }
@@ -293,7 +291,7 @@ fn unsetting(alloc: Global, id: &str, status: Option<Status>) -> Result<Command,
     Ok(Command::UnsetStatus {
         key,
         status,
-        dirty: None,
+        last_dirty: None,
         replicated: false,
     })
 }
@@ -302,16 +300,16 @@ pub fn command(alloc: Global, step: Step) -> Result<Command, Fault> {
     match step {
         Step::Register(client) => registration(alloc, client, false),
         Step::Replicate(client) => registration(alloc, client, true),
-        Step::Renew(id, dirty, replicated) => renewal(alloc, id, dirty, None, replicated),
-        Step::Bring(id, dirty, overridden, replicated) => {
-            renewal(alloc, id, Some(dirty), Some(overridden), replicated)
+        Step::Renew(id, last_dirty, replicated) => renewal(alloc, id, last_dirty, None, replicated),
+        Step::Bring(id, last_dirty, overridden, replicated) => {
+            renewal(alloc, id, Some(last_dirty), Some(overridden), replicated)
         }
         Step::Cancel(id) => cancel(alloc, id),
         Step::Set(id, status) => setting(alloc, id, status),
         Step::Unset(id) => unsetting(alloc, id, None),
         Step::Restore(id, status) => unsetting(alloc, id, Some(status)),
         Step::Adopt(client) => adoption(alloc, client),
-        Step::Roll => Ok(Command::Roll),
+        Step::EndMinute => Ok(Command::EndMinute),
         Step::Update => Ok(Command::Update),
         Step::Reconfigure(preservation, percent, interval, evict_ms) => Ok(Command::Reconfigure {
             config: Config::new(preservation, percent, interval, evict_ms)?,
@@ -375,13 +373,13 @@ pub fn listing(alloc: Global, leases: &[Lease]) -> Result<Listing, Fault> {
     Ok(Listing::new(all))
 }
 
-fn rows(alloc: Global, told: &[(&str, Status)]) -> Result<Rows, Fault> {
-    let mut rows = Vec::with_capacity(alloc, told.len())?;
+fn overrides(alloc: Global, told: &[(&str, Status)]) -> Result<OverrideRows, Fault> {
+    let mut overrides = Vec::with_capacity(alloc, told.len())?;
     for (id, status) in told {
         let id = Id::read(alloc, id)?;
-        rows.push((id, *status))?;
+        overrides.push((id, *status))?;
     }
-    Ok(Rows::new(rows))
+    Ok(OverrideRows::new(overrides))
 }
 
 fn queue(alloc: Global, waiting: &[Told], flight: &[Told]) -> Result<Queue, Fault> {
@@ -410,13 +408,13 @@ pub fn state(alloc: Global, form: Form) -> Result<State, Fault> {
     let config = Config::new(preservation, percent, interval, evict_ms)?;
     let previous = moment_or_none(form.previous)?;
     let leases = listing(alloc, form.leases)?;
-    let rows = rows(alloc, form.rows)?;
+    let overrides = overrides(alloc, form.overrides)?;
     let queues = queues(alloc, form.queues)?;
     Ok(State {
         config,
         expected: form.expected,
         leases,
-        rows,
+        overrides,
         last: form.last,
         since: form.since,
         previous,

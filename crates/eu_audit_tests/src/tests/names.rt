@@ -110,7 +110,7 @@ const SHARED: [Case; 4] = [
         ],
         Form {
             leases: &[SET, UNDER_ROW],
-            rows: &[("x", Status::OutOfService)],
+            overrides: &[("x", Status::OutOfService)],
             since: 1,
             ..BOTH
         },
@@ -124,7 +124,7 @@ const SHARED: [Case; 4] = [
         ],
         Form {
             leases: &[SET, RENEWED],
-            rows: &[("x", Status::OutOfService)],
+            overrides: &[("x", Status::OutOfService)],
             since: 1,
             ..BOTH
         },
@@ -153,7 +153,7 @@ const SHARED: [Case; 4] = [
         ],
         Form {
             leases: &[SET, UNDER_ROW],
-            rows: &[("x", Status::OutOfService)],
+            overrides: &[("x", Status::OutOfService)],
             since: 1,
             ..BOTH
         },
@@ -166,28 +166,28 @@ fn rows_are_by_id_alone(rt: HostRuntime) {
     assert!(rt; first_wrong(rt.alloc(), SHARED.as_slice()) == Ok(None));
 }
 
-/// Two leases of one id with a row, of which a pass may take one.
+/// Two leases of one id with a row, of which an eviction may take one.
 const HALF: Form = Form {
     config: (false, 50, 30, 60_000),
     expected: 2,
-    rows: &[("x", Status::OutOfService)],
+    overrides: &[("x", Status::OutOfService)],
     ..BOTH
 };
 
-/// The same, of which a pass may take both.
+/// The same, of which an eviction may take both.
 const ALL: Form = Form {
     config: (false, 0, 30, 60_000),
     ..HALF
 };
 
-/// The row of an id goes with the lease that a pass takes, also where another lease of that id is left.
+/// The row of an id goes with the lease that an eviction takes, also where another lease of that id is left.
 const TAKEN: [Case; 5] = [
     (
         HALF,
         &[(91_001, Step::Evict, Answer::Evicted(&["B/x"]))],
         Form {
             leases: &[FIRST],
-            rows: &[],
+            overrides: &[],
             expected: 1,
             previous: Some(91_001),
             ..HALF
@@ -210,7 +210,7 @@ const TAKEN: [Case; 5] = [
         &[(91_001, Step::Evict, Answer::Evicted(&["B/x", "x"]))],
         Form {
             leases: &[],
-            rows: &[],
+            overrides: &[],
             expected: 0,
             previous: Some(91_001),
             ..ALL
@@ -222,7 +222,7 @@ const TAKEN: [Case; 5] = [
         &[(91_001, Step::Evict, Answer::Evicted(&["x"]))],
         Form {
             leases: &[SECOND],
-            rows: &[],
+            overrides: &[],
             expected: 1,
             previous: Some(91_001),
             ..ALL
@@ -234,7 +234,7 @@ const TAKEN: [Case; 5] = [
         &[(91_001, Step::Evict, Answer::Evicted(&["C/x", "x"]))],
         Form {
             leases: &[SECOND],
-            rows: &[],
+            overrides: &[],
             expected: 0,
             previous: Some(91_001),
             ..ALL
@@ -244,6 +244,6 @@ const TAKEN: [Case; 5] = [
 ];
 
 #[test]
-fn a_pass_takes_rows_by_id(rt: HostRuntime) {
+fn an_eviction_takes_rows_by_id(rt: HostRuntime) {
     assert!(rt; first_wrong(rt.alloc(), TAKEN.as_slice()) == Ok(None));
 }

@@ -3,8 +3,8 @@ use crate::tests::forms::{
     Answer, CLIENT, Case, Client, Form, LEASE, Lease, Line, NEW, Step, Told, entries, first_wrong,
     listed, listing, stands, state, task, tasks, verdict,
 };
-use eu_base::{Action, Config, Fault, Id, Moment, Status, Task};
-use eu_model::{Listed, Listing, Queue, Queues, State, Tasks};
+use eu_base::{Action, Config, Fault, Id, Moment, Status, Task, Tasks};
+use eu_model::{Listed, Listing, Queue, Queues, State};
 use std::alloc::Global;
 
 /// 2^62.
@@ -85,21 +85,21 @@ fn numbers_have_limits(rt: HostRuntime) {
 const ROWS: [(Form, bool); 3] = [
     (
         Form {
-            rows: &[("i1", Status::Up), ("i2", Status::Down)],
+            overrides: &[("i1", Status::Up), ("i2", Status::Down)],
             ..NEW
         },
         true,
     ),
     (
         Form {
-            rows: &[("i2", Status::Up), ("i1", Status::Down)],
+            overrides: &[("i2", Status::Up), ("i1", Status::Down)],
             ..NEW
         },
         false,
     ),
     (
         Form {
-            rows: &[("i1", Status::Up), ("i1", Status::Down)],
+            overrides: &[("i1", Status::Up), ("i1", Status::Down)],
             ..NEW
         },
         false,
@@ -116,7 +116,7 @@ fn rows_are_in_order_each_once(rt: HostRuntime) {
 /// Two leases and two rows, in order.
 const ORDERED: Form = Form {
     leases: &[I1, I2],
-    rows: &[("i1", Status::Up), ("i2", Status::Down)],
+    overrides: &[("i1", Status::Up), ("i2", Status::Down)],
     ..NEW
 };
 
@@ -134,13 +134,13 @@ const TWICE: Form = Form {
 
 /// The rows the other way round.
 const SWAPPED_ROWS: Form = Form {
-    rows: &[("i2", Status::Down), ("i1", Status::Up)],
+    overrides: &[("i2", Status::Down), ("i1", Status::Up)],
     ..ORDERED
 };
 
 /// A row twice.
 const ROW_TWICE: Form = Form {
-    rows: &[("i1", Status::Up), ("i1", Status::Up), ("i2", Status::Down)],
+    overrides: &[("i1", Status::Up), ("i1", Status::Up), ("i2", Status::Down)],
     ..ORDERED
 };
 
@@ -328,7 +328,7 @@ const GREATEST: Lease = Lease {
     client: Client {
         id: "i",
         statuses: (Status::Up, Status::OutOfService),
-        dirty: (1 << 63) - 1,
+        last_dirty: (1 << 63) - 1,
         secs: 2_147_483,
     },
     registered: MOST,

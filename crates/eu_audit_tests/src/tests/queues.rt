@@ -3,9 +3,9 @@ use crate::tests::forms::{
     Answer, CLIENT, Form, Lease, NEW, REGISTRATION, Step, command, entry, state, task, verdict,
 };
 use crate::tests::plain::{cancel, no_tasks};
-use eu_base::{Fault, Task};
+use eu_base::{Fault, Task, Tasks};
 use eu_fixtures::moment;
-use eu_model::{Entry, Queue, Queues, Reply, State, Tasks};
+use eu_model::{Entry, Queue, Queues, Reply, State};
 use std::alloc::Global;
 
 /// The tasks of these numbers, each of which cancels another lease.

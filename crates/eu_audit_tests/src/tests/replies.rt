@@ -21,7 +21,7 @@ const UNSET: Client = Client {
 const I3: Client = Client {
     id: "i3",
     statuses: (Status::Up, Status::OutOfService),
-    dirty: 7,
+    last_dirty: 7,
     secs: 90,
 };
 
@@ -112,7 +112,7 @@ pub const LINES: [Line; 19] = [
     ),
     (6_500, Step::Set("i1", Status::OutOfService), Answer::Done),
     (7_000, Step::Lose(0), Answer::Settled),
-    (7_500, Step::Roll, Answer::Last(3)),
+    (7_500, Step::EndMinute, Answer::Last(3)),
     (8_000, Step::Update, Answer::Expected(2)),
     (9_000, Step::Evict, Answer::Evicted(&[])),
     (9_500, Step::Cancel("i2"), Answer::Done),
@@ -140,7 +140,7 @@ pub const END: Form = Form {
             up: 0,
         },
     ],
-    rows: &[("i3", Status::OutOfService)],
+    overrides: &[("i3", Status::OutOfService)],
     last: 3,
     since: 0,
     previous: Some(9_000),
@@ -158,7 +158,10 @@ fn a_journal_with_each_reply_is_a_run(rt: HostRuntime) {
 }
 
 /// i1 with another stamp than it has.
-const CHANGED: Client = Client { dirty: 4, ..CLIENT };
+const CHANGED: Client = Client {
+    last_dirty: 4,
+    ..CLIENT
+};
 
 /// For each line another answer: of its kind, or of another where its kind has but one.
 const WRONG: [Answer; 19] = [
@@ -239,7 +242,7 @@ const LATER: Told = Told {
     ..LEFT
 };
 
-/// Ends in which what waits for the peer, or the previous pass, is another.
+/// Ends in which what waits for the peer, or the previous eviction, is another.
 const ENDS: [Form; 9] = [
     Form {
         queues: &[(&[AGAIN, NEWER, SECOND, UP_SET, LEFT, TAKEN_BACK], &[])],

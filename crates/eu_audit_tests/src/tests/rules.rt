@@ -22,7 +22,7 @@ const BROUGHT: Form = Form {
         updated: 92_000,
         ..LEASE
     }],
-    rows: &[("i1", Status::OutOfService)],
+    overrides: &[("i1", Status::OutOfService)],
     since: 1,
     ..NEW
 };
@@ -104,7 +104,10 @@ const SHORT: Client = Client {
 };
 
 /// It with an older stamp.
-const OLD: Client = Client { dirty: 4, ..SHORT };
+const OLD: Client = Client {
+    last_dirty: 4,
+    ..SHORT
+};
 
 /// A registration with an older stamp leaves the instance that is held, for as long as the newcomer says; one with the same stamp
 /// doesn't.
@@ -168,7 +171,7 @@ const OUT: Form = Form {
         updated: 2_000,
         up: 0,
     }],
-    rows: &[("i1", Status::OutOfService)],
+    overrides: &[("i1", Status::OutOfService)],
     ..NEW
 };
 
@@ -236,7 +239,7 @@ const ADOPTED: Form = Form {
         updated: 2_000,
         ..LEASE
     }],
-    rows: &[("i1", Status::OutOfService)],
+    overrides: &[("i1", Status::OutOfService)],
     ..NEW
 };
 
@@ -244,12 +247,15 @@ const ADOPTED: Form = Form {
 const ADOPTS: [Case; 2] = [
     (
         Form {
-            rows: &[("i1", Status::Down)],
+            overrides: &[("i1", Status::Down)],
             ..HELD
         },
         &[(
             2_000,
-            Step::Adopt(Client { dirty: 4, ..MARKED }),
+            Step::Adopt(Client {
+                last_dirty: 4,
+                ..MARKED
+            }),
             Answer::Again,
         )],
         ADOPTED,
@@ -257,16 +263,19 @@ const ADOPTS: [Case; 2] = [
     ),
     (
         Form {
-            rows: &[("i1", Status::Down)],
+            overrides: &[("i1", Status::Down)],
             ..HELD
         },
         &[(
             2_000,
-            Step::Adopt(Client { dirty: 4, ..MARKED }),
+            Step::Adopt(Client {
+                last_dirty: 4,
+                ..MARKED
+            }),
             Answer::Again,
         )],
         Form {
-            rows: &[("i1", Status::Down)],
+            overrides: &[("i1", Status::Down)],
             ..ADOPTED
         },
         false,
@@ -312,7 +321,7 @@ const EXPIRED: [Case; 5] = [
         &[(11_000, Step::Set("i1", Status::Down), Answer::Done)],
         Form {
             leases: &[DOWN],
-            rows: &[("i1", Status::Down)],
+            overrides: &[("i1", Status::Down)],
             ..BRIEF
         },
         true,
@@ -322,7 +331,7 @@ const EXPIRED: [Case; 5] = [
         &[(11_001, Step::Set("i1", Status::Down), Answer::Done)],
         Form {
             leases: &[DOWN_LATER],
-            rows: &[("i1", Status::Down)],
+            overrides: &[("i1", Status::Down)],
             ..BRIEF
         },
         false,
@@ -359,7 +368,7 @@ const EXPIRED: [Case; 5] = [
         Form {
             config: (true, 85, 30, 60_000),
             leases: &[DOWN_LATER],
-            rows: &[("i1", Status::Down)],
+            overrides: &[("i1", Status::Down)],
             ..BRIEF
         },
         true,
@@ -415,8 +424,8 @@ const CLOCK: Form = Form {
     ..BRIEF
 };
 
-/// It expires after 110,000. A pass at 110,001 comes 10,001 ms late after one at 40,000, so that it grants as much, and in time after one
-/// at 50,001.
+/// It expires after 110,000. An eviction at 110,001 comes 10,001 ms late after one at 40,000, so that it grants as much, and in time
+/// after one at 50,001.
 const BACK: [Case; 3] = [
     (
         CLOCK,
@@ -486,7 +495,7 @@ const I4: Lease = Lease {
     ..LEASE
 };
 
-/// Of these four, three have expired at 93,001, each at another moment, and a pass takes two.
+/// Of these four, three have expired at 93,001, each at another moment, and an eviction takes two.
 const FOUR: Form = Form {
     config: (false, 50, 30, 60_000),
     expected: 4,
@@ -494,7 +503,7 @@ const FOUR: Form = Form {
     ..NEW
 };
 
-/// The passes that leave these leases.
+/// The evictions that leave these leases.
 const TAKEN: [Case; 5] = [
     (
         FOUR,
@@ -554,7 +563,7 @@ const TAKEN: [Case; 5] = [
 ];
 
 #[test]
-fn a_pass_takes_its_share_of_what_has_expired(rt: HostRuntime) {
+fn an_eviction_takes_its_share_of_what_has_expired(rt: HostRuntime) {
     assert!(rt; first_wrong(rt.alloc(), TAKEN.as_slice()) == Ok(None));
 }
 

@@ -1,8 +1,9 @@
-//! Ten clients i0 to i9 come at 0, for 10 s each, and i0 renews eighteen times. A minute ends then, and passes follow at 100,000 ms.
+//! Ten clients i0 to i9 come at 0, for 10 s each, and i0 renews eighteen times. A minute ends then, and evictions follow at
+//! 100,000 ms.
 //!
-//! Self-preservation is on. Ten clients owe seventeen renewals a minute at 85%, so eighteen permit a pass. By 100,000 all have expired.
-//! A pass takes two of ten, two of eight, one of six and one of five. Each victim is one client fewer that is expected, so that fewer
-//! renewals are owed, and the next pass is permitted too.
+//! Self-preservation is on. Ten clients owe seventeen renewals a minute at 85%, so eighteen permit an eviction. By 100,000 all have
+//! expired. An eviction takes two of ten, two of eight, one of six and one of five. Each victim is one client fewer that is expected,
+//! so that fewer renewals are owed, and the next eviction is permitted too.
 use crate::tests::books::{audited, tell_step};
 use crate::tests::forms::{
     Answer, CLIENT, Client, Form, IDS, Lease, NEW, Step, entry, listing, state, verdict,
@@ -34,15 +35,15 @@ fn tell_clients(alloc: Global, book: &mut Book) -> Result<(), Fault> {
         let step = Step::Renew("i0", None, false);
         tell_step(alloc, book, 0, step, &mut FirstChooser)?;
     }
-    tell_step(alloc, book, 0, Step::Roll, &mut FirstChooser)?;
+    tell_step(alloc, book, 0, Step::EndMinute, &mut FirstChooser)?;
     Ok(())
 }
 
-/// How many leases each of the four passes evicts.
+/// How many leases each of the four evictions takes.
 type Evicted = (usize, usize, usize, usize);
 
-/// Four passes, each of which takes the first ones of those that have expired.
-fn tell_passes(alloc: Global, book: &mut Book) -> Result<Evicted, Fault> {
+/// Four evictions, each of which takes the first ones of those that have expired.
+fn tell_evictions(alloc: Global, book: &mut Book) -> Result<Evicted, Fault> {
     let first = tell_step(alloc, book, 100_000, Step::Evict, &mut FirstChooser)?;
     let second = tell_step(alloc, book, 100_000, Step::Evict, &mut FirstChooser)?;
     let third = tell_step(alloc, book, 100_000, Step::Evict, &mut FirstChooser)?;
@@ -50,10 +51,10 @@ fn tell_passes(alloc: Global, book: &mut Book) -> Result<Evicted, Fault> {
     Ok((first, second, third, fourth))
 }
 
-/// Tells a book all of that, and what its passes evict.
+/// Tells a book all of that, and what its evictions take.
 fn tell_all(alloc: Global, book: &mut Book) -> Result<Evicted, Fault> {
     tell_clients(alloc, book)?;
-    tell_passes(alloc, book)
+    tell_evictions(alloc, book)
 }
 
 /// A book that expects nobody when it is opened.
@@ -80,7 +81,7 @@ fn leases(alloc: Global, ids: &[&'static str]) -> Result<Listing, Fault> {
     listing(alloc, leases.as_slice())
 }
 
-/// The server after passes that leave these: as many are expected.
+/// The server after evictions that leave these: as many are expected.
 fn end(alloc: Global, left: &[&'static str]) -> Result<State, Fault> {
     let form = Form {
         expected: left.len() as u64,
@@ -102,8 +103,8 @@ fn ends_so(alloc: Global, book: &Book, left: &[&'static str]) -> Result<bool, Fa
     Ok(verdict?)
 }
 
-/// What the passes of a book evict, the verdict on the book, and on its entries up to the server that was worked out.
-fn four_passes(alloc: Global) -> Result<(Evicted, bool, bool), Fault> {
+/// What the evictions of a book take, the verdict on the book, and on its entries up to the server that was worked out.
+fn four_evictions(alloc: Global) -> Result<(Evicted, bool, bool), Fault> {
     let mut book = opened(alloc)?;
     let evicted = tell_all(alloc, &mut book);
     let verdict = audited(alloc, &book);
@@ -113,8 +114,8 @@ fn four_passes(alloc: Global) -> Result<(Evicted, bool, bool), Fault> {
 }
 
 #[test]
-fn four_passes_of_a_book_are_a_run(rt: HostRuntime) {
-    assert!(rt; four_passes(rt.alloc()) == Ok(((2, 2, 1, 1), true, true)));
+fn four_evictions_of_a_book_are_a_run(rt: HostRuntime) {
+    assert!(rt; four_evictions(rt.alloc()) == Ok(((2, 2, 1, 1), true, true)));
 }
 
 /// The journal of that book.
@@ -126,10 +127,10 @@ fn journal(alloc: Global) -> Result<Journal, Fault> {
     Ok(journal)
 }
 
-/// The ten registrations, the count, the eighteen renewals, the minute's end, and the first pass.
+/// The ten registrations, the count, the eighteen renewals, the minute's end, and the first eviction.
 const BEFORE: usize = 31;
 
-/// The verdict on that journal where the second pass has these victims instead and nothing follows, so that these are left.
+/// The verdict on that journal where the second eviction has these victims instead and nothing follows, so that these are left.
 fn ends_with(
     alloc: Global,
     victims: &'static [&'static str],
@@ -148,7 +149,7 @@ fn ends_with(
 }
 
 #[test]
-fn other_victims_of_the_second_pass_are_a_run(rt: HostRuntime) {
+fn other_victims_of_the_second_eviction_are_a_run(rt: HostRuntime) {
     let alloc = rt.alloc();
     let first = ["i4", "i5", "i6", "i7", "i8", "i9"];
     assert!(rt; ends_with(alloc, &["i2", "i3"], &first) == Ok(true));
@@ -157,7 +158,7 @@ fn other_victims_of_the_second_pass_are_a_run(rt: HostRuntime) {
 }
 
 #[test]
-fn one_victim_of_the_second_pass_is_no_run(rt: HostRuntime) {
+fn one_victim_of_the_second_eviction_is_no_run(rt: HostRuntime) {
     let left = ["i2", "i3", "i4", "i5", "i7", "i8", "i9"];
     assert!(rt; ends_with(rt.alloc(), &["i6"], &left) == Ok(false));
 }

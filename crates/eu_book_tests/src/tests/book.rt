@@ -1,6 +1,6 @@
 //! Accounts worked out by hand. What commands are answered is told in words at once.
-use eu_base::{Codes, Config, Fault, Moment, Stamp, Status, Task};
-use eu_book::{Book, Journal, Logged, LoggedReceipt, MOST_ENTRIES, Receipt};
+use eu_base::{Codes, Config, Fault, MOST_ENTRIES, Moment, Stamp, Status, Task};
+use eu_book::{Book, Journal, Logged, LoggedReceipt, Receipt};
 use eu_clock::{Chooser, FirstChooser, ListChooser};
 use eu_fixtures::{at, key, registration_for, settings};
 use eu_model::{Command, Entry, Query, Queue, Reply, State, Tally, View};
@@ -16,10 +16,10 @@ pub enum Step {
     /// A client sets i1 OUT_OF_SERVICE.
     Set,
     /// A minute ends.
-    Roll,
-    /// Self-preservation is off, at 50%, with a renewal each 15 s and a pass each 7 ms.
+    EndMinute,
+    /// Self-preservation is off, at 50%, with a renewal each 15 s and an eviction each 7 ms.
     Reconfigure,
-    /// A pass evicts.
+    /// An eviction.
     Evict,
     /// What waits for the first peer is drained.
     Drain,
@@ -30,11 +30,11 @@ pub enum Step {
 }
 
 /// A peer's renewal of i1 with this stamp.
-fn renewal(alloc: Global, dirty: u64) -> Result<Command, Fault> {
+fn renewal(alloc: Global, last_dirty: u64) -> Result<Command, Fault> {
     let key = key(alloc, "i1")?;
     Ok(Command::Renew {
         key,
-        dirty: Stamp::new(dirty),
+        last_dirty: Stamp::new(last_dirty),
         overridden: None,
         replicated: true,
     })
@@ -46,7 +46,7 @@ fn setting(alloc: Global) -> Result<Command, Fault> {
     Ok(Command::SetStatus {
         key,
         status: Status::OutOfService,
-        dirty: None,
+        last_dirty: None,
         replicated: false,
     })
 }
@@ -60,9 +60,9 @@ fn landing(alloc: Global, code: u16) -> Result<Command, Fault> {
 pub fn command(alloc: Global, step: Step) -> Result<Command, Fault> {
     match step {
         Step::Register(id) => registration_for(alloc, id, 10),
-        Step::Renew(dirty) => renewal(alloc, dirty),
+        Step::Renew(last_dirty) => renewal(alloc, last_dirty),
         Step::Set => setting(alloc),
-        Step::Roll => Ok(Command::Roll),
+        Step::EndMinute => Ok(Command::EndMinute),
         Step::Reconfigure => Ok(Command::Reconfigure {
             config: Config::new(false, 50, 15, 7)?,
         }),
@@ -135,7 +135,7 @@ fn first(alloc: Global, book: &mut Book, step: Step) -> (u64, &'static str) {
     tell(alloc, book, 0, step, at(0), &mut FirstChooser)
 }
 
-/// Without self-preservation, half of the leases may go in a pass.
+/// Without self-preservation, half of the leases may go in an eviction.
 fn opened(alloc: Global) -> Result<Book, Fault> {
     let config = Config::new(false, 50, 30, 60_000)?;
     Ok(Book::open(alloc, config, 0, 0)?)
@@ -204,17 +204,17 @@ fn each_command_is_an_entry(rt: HostRuntime) {
     assert!(rt; opens_and_keeps_entries(rt.alloc()) == Ok(true));
 }
 
-/// Tells the book that i1 to i4 register at 0, that i1 is renewed, that the minute ends, and that a pass evicts 90 seconds later.
+/// Tells the book that i1 to i4 register at 0, that i1 is renewed, that the minute ends, and that an eviction comes 90 seconds later.
 fn play(alloc: Global, book: &mut Book, chooser: &mut ListChooser) {
     for id in ["i1", "i2", "i3", "i4"] {
         tell(alloc, book, 0, Step::Register(id), at(0), chooser);
     }
     tell(alloc, book, 0, Step::Renew(5), at(0), chooser);
-    tell(alloc, book, 0, Step::Roll, at(0), chooser);
+    tell(alloc, book, 0, Step::EndMinute, at(0), chooser);
     tell(alloc, book, 1, Step::Evict, at(90_000), chooser);
 }
 
-/// The book that was told so, of which the pass took two leases.
+/// The book that was told so, of which the eviction took two leases.
 fn played(alloc: Global) -> Result<Book, Fault> {
     let words = Vec::from_slice(alloc, [3u64, 0].as_slice())?;
     let mut chooser = ListChooser::new(words);
@@ -243,7 +243,7 @@ fn what_was_done_is_summed_up(rt: HostRuntime) {
     assert!(rt; sums_up(rt.alloc(), sums, (2, 1)) == Ok(true));
 }
 
-/// Whether the last entry is a pass of these two victims.
+/// Whether the last entry is an eviction of these two victims.
 fn took(entries: &[Entry], first: &str, second: &str) -> bool {
     let Some(last) = entries.last() else {
         return false;
@@ -309,10 +309,10 @@ fn what_is_held_is_read(rt: HostRuntime) {
     assert!(rt; holds(rt.alloc(), "i1", "i3", 2) == Ok(true));
 }
 
-/// Whether two leases are held, no row, and a minute with one renewal has ended before a pass at 90,000.
+/// Whether two leases are held, no row, and a minute with one renewal has ended before an eviction at 90,000.
 fn is_left(state: &State) -> bool {
     state.leases.as_slice().len() == 2
-        && state.rows.as_slice().is_empty()
+        && state.overrides.as_slice().is_empty()
         && state.last == 1
         && state.since == 0
         && state.expected == 0
@@ -346,9 +346,9 @@ fn the_registry_is_shown_as_data(rt: HostRuntime) {
 }
 
 /// Ends so many minutes.
-fn roll(alloc: Global, book: &mut Book, times: usize) {
+fn end_minute(alloc: Global, book: &mut Book, times: usize) {
     for _ in 0..times {
-        first(alloc, book, Step::Roll);
+        first(alloc, book, Step::EndMinute);
     }
 }
 
@@ -375,9 +375,9 @@ fn retired(journal: Result<Box<Journal>, AllocError>) -> Result<usize, Fault> {
 }
 
 /// A book that was told so many minutes: its journal then, how many entries a checkpoint takes from it, and its journal after that.
-fn rolled(alloc: Global, times: usize) -> Result<(Extent, usize, Extent), Fault> {
+fn after_minute(alloc: Global, times: usize) -> Result<(Extent, usize, Extent), Fault> {
     let mut book = opened(alloc)?;
-    roll(alloc, &mut book, times);
+    end_minute(alloc, &mut book, times);
     let before = extent(&book);
     let taken = retired(book.checkpoint(alloc));
     let after = extent(&book);
@@ -388,9 +388,9 @@ fn rolled(alloc: Global, times: usize) -> Result<(Extent, usize, Extent), Fault>
 #[test]
 fn a_full_journal_begins_anew(rt: HostRuntime) {
     let full = ((0, 65_536, 0, 65_536), 65_536, (65_536, 0, 0, 65_536));
-    assert!(rt; rolled(rt.alloc(), MOST_ENTRIES) == Ok(full));
+    assert!(rt; after_minute(rt.alloc(), MOST_ENTRIES) == Ok(full));
     let more = ((65_536, 1, 0, 65_537), 1, (65_537, 0, 0, 65_537));
-    assert!(rt; rolled(rt.alloc(), MOST_ENTRIES + 1) == Ok(more));
+    assert!(rt; after_minute(rt.alloc(), MOST_ENTRIES + 1) == Ok(more));
 }
 
 /// Whether the book that was played begins its journal anew with what is left, and goes on with the eighth step.
@@ -418,7 +418,7 @@ fn a_checkpoint_keeps_what_is_left(rt: HostRuntime) {
 
 /// Whether i1 alone has an override, which is OUT_OF_SERVICE.
 fn has_override(state: &State) -> bool {
-    match state.rows.as_slice() {
+    match state.overrides.as_slice() {
         [row] => row.0.as_str() == "i1" && row.1 == Status::OutOfService,
         _ => false,
     }
@@ -452,10 +452,10 @@ fn a_checkpoint_keeps_overrides(rt: HostRuntime) {
 /// Whether a command that is refused leaves a full journal as it is, and the next one that isn't has it begin anew and hands it out.
 fn hands_out(alloc: Global) -> Result<bool, Fault> {
     let mut book = opened(alloc)?;
-    roll(alloc, &mut book, MOST_ENTRIES);
+    end_minute(alloc, &mut book, MOST_ENTRIES);
     let refused = first(alloc, &mut book, Step::Drain);
     let kept = extent(&book);
-    let (one, mine) = (Command::Roll, Command::Roll);
+    let (one, mine) = (Command::EndMinute, Command::EndMinute);
     let answer = book.apply_logged(alloc, 0, one, mine, at(0), &mut FirstChooser);
     let handed = entries_handed(&answer);
     drop(answer);

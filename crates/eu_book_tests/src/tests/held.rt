@@ -6,13 +6,13 @@ use crate::tests::asks::{Two, only, second_first};
 use crate::tests::checkpoints;
 use crate::tests::passes::{Refusal, refusal_of};
 use crate::tests::reads::{Seen, in_short};
-use eu_base::{Config, Fault};
+use eu_base::{Config, Fault, MOST_PASSES};
 use eu_book::Receipt;
 use eu_clock::FirstChooser;
 use eu_fixtures::{at, key, registration, renewal, settings};
 use eu_model::{Command, Query, Reply, Tally};
 use eu_settle::Closed;
-use eu_shared::{Blanks, Held, Label, MOST_PASSES, Pass};
+use eu_shared::{Blanks, Held, Label, Pass};
 use std::alloc::{AllocError, Global};
 use std::marker::Brand;
 use std::test::Fail;
@@ -314,9 +314,15 @@ fn make_all<K: Label>(
 ) -> Result<(), Fault> {
     for _ in 0..MOST_PASSES {
         let mut pass = held.pass(alloc)?;
-        let rolled = held.ask(alloc, &mut pass, Command::Roll, at(0), &mut FirstChooser);
+        let after_minute = held.ask(
+            alloc,
+            &mut pass,
+            Command::EndMinute,
+            at(0),
+            &mut FirstChooser,
+        );
         passes.push(pass)?;
-        drop(rolled?);
+        drop(after_minute?);
     }
     Ok(())
 }

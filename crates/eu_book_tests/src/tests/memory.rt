@@ -1,7 +1,7 @@
 //! Want of memory. In a usual run no allocation is refused; `tools/sweep_memory.sh` refuses one after another.
 use crate::tests::book::{Step, command, extent, opened_with_peer, word};
-use eu_base::{App, Fault};
-use eu_book::{Book, MOST_ENTRIES};
+use eu_base::{App, Fault, MOST_ENTRIES};
+use eu_book::Book;
 use eu_clock::FirstChooser;
 use eu_fixtures::{at, key, pause_or_go_on};
 use eu_model::{Command, Entry, Query, State, View};
@@ -34,7 +34,7 @@ fn tell_step(alloc: Global, book: &mut Book, step: Step) -> Told {
 }
 
 fn log(alloc: Global, book: &mut Book) -> Told {
-    let (command, mine) = (Command::Roll, Command::Roll);
+    let (command, mine) = (Command::EndMinute, Command::EndMinute);
     let logged = book.apply_logged(alloc, 0, command, mine, at(0), &mut FirstChooser)?;
     let told = (logged.logged.number, word(&logged.receipt.reply));
     drop(logged);
@@ -135,7 +135,7 @@ fn checkpoint(alloc: Global, twins: &mut Twins) -> bool {
 /// Minutes end until the journal is full. Whether each is an entry.
 fn fill(alloc: Global, twins: &mut Twins) -> bool {
     for number in 2..MOST_ENTRIES as u64 {
-        if both(alloc, twins, Step::Roll) != Ok((number, "other")) {
+        if both(alloc, twins, Step::EndMinute) != Ok((number, "other")) {
             return false;
         }
     }
@@ -154,7 +154,7 @@ fn begin(alloc: Global, twins: &mut Twins) -> bool {
 /// With a minute more the journal begins anew, and then once more.
 fn begin_anew(alloc: Global, twins: &mut Twins) -> bool {
     begin(alloc, twins)
-        && both(alloc, twins, Step::Roll) == Ok((65_536, "other"))
+        && both(alloc, twins, Step::EndMinute) == Ok((65_536, "other"))
         && extent(&twins.tried) == (65_536, 1, 1, 65_537)
         && stay_same(alloc, twins)
         && checkpoint(alloc, twins)
@@ -213,11 +213,11 @@ fn play_first(alloc: Global, twins: &mut Twins) -> bool {
         && are_seen(alloc, &twins.tried)
 }
 
-/// A peer's renewal meets a greater stamp; two minutes end, with a log and without; the settings are changed, and a pass finds nobody.
+/// A peer's renewal meets a greater stamp; two minutes end, with a log and without; the settings are changed, and an eviction finds nobody.
 fn play_second(alloc: Global, twins: &mut Twins) -> bool {
     both(alloc, twins, Step::Renew(4)) == Ok((7, "conflict"))
         && both_lines(alloc, twins, Line::Log) == Ok((8, "other"))
-        && both(alloc, twins, Step::Roll) == Ok((9, "other"))
+        && both(alloc, twins, Step::EndMinute) == Ok((9, "other"))
         && both(alloc, twins, Step::Reconfigure) == Ok((10, "done"))
         && both(alloc, twins, Step::Evict) == Ok((11, "other"))
         && stay_same(alloc, twins)

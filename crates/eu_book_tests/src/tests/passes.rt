@@ -2,9 +2,9 @@
 ghost use Rattle.std.specs.Prelude.{◌≡◌};
 
 use crate::tests::asks::{Two, WithTwo, only, open, play, with_both};
-use eu_base::Fault;
+use eu_base::{Fault, MOST_PASSES};
 use eu_model::Tally;
-use eu_shared::{Blanks, Label, MOST_PASSES, Pass, Shared, Unclosed, close};
+use eu_shared::{Blanks, Label, Pass, Shared, Unclosed, close};
 use std::alloc::Global;
 use std::marker::Brand;
 use std::sync::Wait;

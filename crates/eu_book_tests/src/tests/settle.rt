@@ -3,7 +3,7 @@
 use eu_base::{Fault, Moment};
 use eu_book::Logged;
 use eu_fixtures::{registration, renewal, settings};
-use eu_model::{Command, Entry, Listing, Queues, Reply, Rows, State, Tally};
+use eu_model::{Command, Entry, Listing, OverrideRows, Queues, Reply, State, Tally};
 use eu_settle::{Closed, PassLog, settle};
 use std::alloc::Global;
 
@@ -91,7 +91,7 @@ fn empty(alloc: Global) -> Result<State, Fault> {
         config,
         expected: 0,
         leases: Listing::new(Vec::new(alloc)),
-        rows: Rows::new(Vec::new(alloc)),
+        overrides: OverrideRows::new(Vec::new(alloc)),
         last: 0,
         since: 0,
         previous: None,

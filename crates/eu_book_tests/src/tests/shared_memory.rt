@@ -157,15 +157,11 @@ fn closed<K: Label>(answer: Result<Closed, Unclosed<K>>) -> Result<Closed, Fault
     }
 }
 
-/// Closes a book with its passes, at the second try where the first finds no memory, by what it hands back.
-fn close_held<K: Label>(
+/// A book that is closed, by what was handed back where there was no memory to close it.
+fn closed_again<K: Label>(
     alloc: Global,
-    held: Held<K>,
-    passes: Vec<Pass<K>>,
+    first: Result<Closed, Unclosed<K>>,
 ) -> Result<Closed, Fault> {
-    pause_or_go_on(alloc);
-    let first = held.close(alloc, passes);
-    pause_or_go_on(alloc);
     match first {
         Ok(closed) => Ok(closed),
         Err(
@@ -178,6 +174,18 @@ fn close_held<K: Label>(
         ) => closed(held.close(alloc, passes)),
         Err(unclosed) => closed::<K>(Err(unclosed)),
     }
+}
+
+/// Closes a book with its passes, at the second try where the first finds no memory, by what it hands back.
+fn close_held<K: Label>(
+    alloc: Global,
+    held: Held<K>,
+    passes: Vec<Pass<K>>,
+) -> Result<Closed, Fault> {
+    pause_or_go_on(alloc);
+    let first = held.close(alloc, passes);
+    pause_or_go_on(alloc);
+    closed_again(alloc, first)
 }
 
 fn close_both<K: Label>(alloc: Global, opened: Opened<K>) -> Result<Closed, Fault> {
@@ -325,18 +333,7 @@ fn close_shared<K: Label>(
     pause_or_go_on(alloc);
     let first = close(shared, alloc, passes);
     pause_or_go_on(alloc);
-    match first {
-        Ok(closed) => Ok(closed),
-        Err(
-            Unclosed {
-                fault: Fault::OutOfMemory,
-                passes,
-                held,
-                ..
-            },
-        ) => closed(held.close(alloc, passes)),
-        Err(unclosed) => closed::<K>(Err(unclosed)),
-    }
+    closed_again(alloc, first)
 }
 
 /// Whether the passes are told so through the lock, the journal is taken, and the book is settled.

@@ -10,9 +10,9 @@ pub fn is_same(config: &Config, other: &Config) -> bool {
         && config.evict_ms == other.evict_ms
 }
 
-/// Whether nothing is overridden, no minute and no eviction pass was, and so many renewals came.
+/// Whether nothing is overridden, no minute and no eviction was, and so many renewals came.
 pub fn counts_only(state: &State, renewals: u64) -> bool {
-    state.rows.as_slice().is_empty()
+    state.overrides.as_slice().is_empty()
         && state.last == 0
         && state.since == renewals
         && state.previous.is_none()

@@ -2,8 +2,7 @@
 ghost use Rattle.std.specs.Prelude.{◌≡◌};
 
 use crate::tests::asks::{WithOne, ask, close_alone, with_pass};
-use eu_base::{Codes, Fault};
-use eu_book::MOST_ENTRIES;
+use eu_base::{Codes, Fault, MOST_ENTRIES};
 use eu_fixtures::{registration, renewal, settings};
 use eu_model::Command;
 use eu_settle::settle;
@@ -22,7 +21,7 @@ enum Step {
     Drain,
     Lose,
     Land,
-    Roll,
+    EndMinute,
 }
 
 /// What is asked for, in order, with a word of the reply. The batch that has landed is a registration that was done and a heartbeat that
@@ -40,7 +39,7 @@ const STEPS: [(Step, &str); 8] = [
 
 /// What is asked for once the journal is full; and but for the last, with which no batch is in flight any more, once it is so again.
 const LATER: [(Step, &str); 3] = [
-    (Step::Roll, "other"),
+    (Step::EndMinute, "other"),
     (Step::Renew, "done"),
     (Step::Lose, "settled"),
 ];
@@ -70,7 +69,7 @@ fn command(alloc: Global, step: Step) -> Result<Command, Fault> {
         Step::Drain => Ok(Command::Drain { peer: 0 }),
         Step::Lose => Ok(Command::Lost { peer: 0 }),
         Step::Land => landing(alloc),
-        Step::Roll => Ok(Command::Roll),
+        Step::EndMinute => Ok(Command::EndMinute),
     }
 }
 
@@ -104,7 +103,7 @@ fn fills<K: Label, R: Wait>(
     to: u64,
 ) -> bool {
     for number in from..to {
-        if ask(rt, shared, alloc, pass, Ok(Command::Roll), 0) != (number, "other") {
+        if ask(rt, shared, alloc, pass, Ok(Command::EndMinute), 0) != (number, "other") {
             return false;
         }
     }

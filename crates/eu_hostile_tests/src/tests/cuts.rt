@@ -1,7 +1,7 @@
 //! A registration whose bytes end early.
-use crate::tests::fakes::{CHUNKED, SIZED, Shaky, registration, told};
+use crate::tests::fakes::{CHUNKED, SIZED, registration, told};
 use eu_base::Fault;
-use eu_fixtures::{BAD_CHUNK, BAD_HEAD, REGISTERED, joined};
+use eu_fixtures::{BAD_CHUNK, BAD_HEAD, REGISTERED, Torn, joined};
 use std::alloc::{AllocError, Global};
 use std::test::Fail;
 
@@ -39,7 +39,7 @@ fn is_told(
     let Some((first, _)) = bytes.split_at_checked(count) else {
         return Err(Fault::BadValue);
     };
-    let told = told(alloc, Shaky::steady(first, size))?;
+    let told = told(alloc, Torn::steady(first, size))?;
     Ok(told.as_str() == wanted)
 }
 

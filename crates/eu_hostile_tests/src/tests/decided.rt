@@ -1,11 +1,12 @@
 //! Refusals that the bytes have decided: each is answered at the last byte that it takes, also where the next read fails, and no earlier.
 use crate::tests::ends::{End, end_each};
-use crate::tests::fakes::{Shaky, told};
+use crate::tests::fakes::told;
 use crate::tests::long::repeated;
 use crate::tests::smuggling::status_of;
 use eu_base::Fault;
-use eu_fixtures::joined;
+use eu_fixtures::{Torn, joined};
 use std::alloc::{AllocError, Global};
+use std::io::ErrorKind;
 use std::test::Fail;
 
 /// Heads, up to their empty line, of which no byte behind is looked at.
@@ -251,7 +252,8 @@ const FAILED: &str = "fault 40 asks 0 next 1000 ";
 
 /// What a session of a text tells, read by 4,096 bytes, where the read behind it fails.
 fn told_before_a_failed_read(alloc: Global, text: &[u8]) -> Result<String, Fault> {
-    told(alloc, Shaky::new(text, 4_096, text.len().div_ceil(4_096)))
+    let fails_at = text.len().div_ceil(4_096);
+    told(alloc, Torn::new(text, 4_096, fails_at, ErrorKind::Other))
 }
 
 /// Whether a text is refused with its last byte, and not without it.

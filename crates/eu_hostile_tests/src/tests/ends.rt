@@ -1,11 +1,10 @@
 //! Requests whose lines end with a bare LF: each is answered at its last byte, and no later.
-ghost use Rattle.std.specs.Prelude.{None};
-
-use crate::tests::fakes::Shaky;
 use eu_base::Fault;
+use eu_fixtures::{Parts, Torn};
 use eu_framing::{EMPTY_ROOM, read_request};
-use eu_stream::{ReadFault, Source};
+use eu_stream::Source;
 use std::alloc::Global;
+use std::io::ErrorKind;
 
 /// A text that ends with the last byte of a request, or of a fault, and the fault.
 pub type End = (&'static [u8], Option<Fault>);
@@ -82,37 +81,6 @@ const TRAILERS: [End; 7] = [
     ),
 ];
 
-/// Gives two texts, no read over both, and fails then.
-#[derive(Drop)]
-struct Split<'a> {
-    first: &'a [u8],
-    second: &'a [u8],
-    has_failed: bool,
-}
-
-impl Source for Split<'_> {
-    ghost stream = { λ _. 0 };
-
-    ghost remaining = { λ _. None };
-
-    ghost failed = { λ s. s.has_failed };
-
-    fn read_some(&mut self, buffer: &mut [u8]) -> Result<usize, ReadFault> {
-        if self.first.is_empty() {
-            self.first = self.second;
-            self.second = b"".as_slice();
-        }
-        if self.first.is_empty() {
-            self.has_failed = true;
-            return Err(ReadFault);
-        }
-        let count = self.first.len().min(buffer.len());
-        buffer[..count].copy_from_slice(&self.first[..count]);
-        self.first = &self.first[count..];
-        Ok(count)
-    }
-}
-
 /// The fault of the first request of a reader.
 fn fault_by<R: Source + Drop>(alloc: Global, mut reader: R) -> Option<Fault> {
     let mut buffer = Vec::new(alloc);
@@ -126,7 +94,7 @@ fn fault_by<R: Source + Drop>(alloc: Global, mut reader: R) -> Option<Fault> {
 /// The fault of the first request of so many bytes of a text, one by one, where the read behind them fails.
 fn fault_of(alloc: Global, text: &[u8], count: usize) -> Option<Fault> {
     let (first, _) = text.split_at_checked(count)?;
-    fault_by(alloc, Shaky::new(first, 1, count))
+    fault_by(alloc, Torn::new(first, 1, count, ErrorKind::Other))
 }
 
 /// Whether nothing is answered before the last byte of a text.
@@ -142,12 +110,7 @@ fn waits(alloc: Global, text: &[u8]) -> bool {
 /// The fault of the first request of a text that is cut, where the read behind it fails.
 fn fault_by_cut(alloc: Global, text: &[u8], cut: usize) -> Option<Fault> {
     let (first, second) = text.split_at_checked(cut)?;
-    let reader = Split {
-        first,
-        second,
-        has_failed: false,
-    };
-    fault_by(alloc, reader)
+    fault_by(alloc, Parts::failing(first, second))
 }
 
 /// Whether a text is answered with its last byte, wherever it is cut.

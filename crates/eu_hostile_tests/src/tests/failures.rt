@@ -1,11 +1,10 @@
 //! A session of three requests with one read, or one write, that fails.
-use crate::tests::fakes::{
-    Brittle, CHUNKED, DELTA, LOOK, Noting, SIZED, Shaky, looked, registration, serve,
-};
+use crate::tests::fakes::{CHUNKED, DELTA, LOOK, Noting, SIZED, registration, serve};
 use eu_base::Fault;
-use eu_fixtures::{FORBIDDEN, REGISTERED, joined};
+use eu_fixtures::{Brittle, FORBIDDEN, REGISTERED, Torn, joined, looked};
 use eu_routes::Routes;
 use std::alloc::{AllocError, Global};
+use std::io::ErrorKind;
 use std::test::Fail;
 
 /// A session: its requests, and what the second is answered.
@@ -59,7 +58,7 @@ struct Came {
 fn came_of_reads(alloc: Global, play: &Play, size: usize, fails_at: usize) -> Result<Came, Fault> {
     let mut desk = Noting::new(alloc);
     let mut writer = Brittle::steady(alloc);
-    let mut reader = Shaky::new(play.text.as_bytes(), size, fails_at);
+    let mut reader = Torn::new(play.text.as_bytes(), size, fails_at, ErrorKind::Other);
     let (end, _) = serve(alloc, &play.routes, &mut desk, &mut reader, &mut writer)?;
     Ok(Came { end, desk, writer })
 }
@@ -140,7 +139,7 @@ fn what_stands_in_chunks_before_a_failed_read_is_answered(rt: HostRuntime) -> Re
 /// What comes of a session whose writer takes so many bytes at once, where one write or flush fails.
 fn came_of_writes(alloc: Global, play: &Play, size: usize, fails_at: usize) -> Result<Came, Fault> {
     let mut desk = Noting::new(alloc);
-    let mut writer = Brittle::new(alloc, size, fails_at);
+    let mut writer = Brittle::new(alloc, size, fails_at, None);
     let mut reader = play.text.as_bytes();
     let (end, _) = serve(alloc, &play.routes, &mut desk, &mut reader, &mut writer)?;
     Ok(Came { end, desk, writer })
@@ -149,7 +148,7 @@ fn came_of_writes(alloc: Global, play: &Play, size: usize, fails_at: usize) -> R
 /// Whether a session ended at a failed write: nothing was written behind it, and nothing was asked twice.
 fn is_cut(came: &Came, written: &str, fails_at: usize) -> bool {
     came.end == Err(41)
-        && came.writer.calls() == fails_at.saturating_add(1)
+        && came.writer.calls == fails_at.saturating_add(1)
         && written.starts_with(came.writer.text())
         && ASKS.starts_with(came.desk.asked())
         && came.desk.count() >= 1
@@ -158,7 +157,7 @@ fn is_cut(came: &Came, written: &str, fails_at: usize) -> bool {
 /// Whether a session with all its writes was answered whole, by so many of them.
 fn is_whole(came: &Came, written: &str, calls: usize) -> bool {
     came.end == Ok(3)
-        && came.writer.calls() == calls
+        && came.writer.calls == calls
         && came.writer.text() == written
         && came.desk.asked() == ASKS
 }

@@ -1,7 +1,7 @@
 //! Heads, trailers and bodies that are too long, and those that are just short enough.
-use crate::tests::fakes::{Shaky, told};
+use crate::tests::fakes::told;
 use eu_base::Fault;
-use eu_fixtures::joined;
+use eu_fixtures::{Torn, joined};
 use std::alloc::{AllocError, Global};
 use std::test::Fail;
 
@@ -118,7 +118,7 @@ fn is_refused(alloc: Global, message: &Message, size: usize) -> Result<bool, Fau
     let (before, part, times, behind, (line, fault)) = *message;
     let text = repeated(alloc, before, part, times, behind)?;
     let wanted = refused(alloc, line, fault)?;
-    let told = told(alloc, Shaky::steady(text.as_bytes(), size))?;
+    let told = told(alloc, Torn::steady(text.as_bytes(), size))?;
     Ok(told == wanted)
 }
 
@@ -199,7 +199,7 @@ fn is_taken(alloc: Global, message: &Taken, size: usize) -> Result<bool, Fault> 
     let (before, part, times, behind) = *message;
     let mut text = repeated(alloc, before, part, times, behind)?;
     text.push_str("GET /b HTTP/1.1\r\nHost: x\r\n\r\n")?;
-    let told = told(alloc, Shaky::steady(text.as_bytes(), size))?;
+    let told = told(alloc, Torn::steady(text.as_bytes(), size))?;
     Ok(told.as_str() == BOTH_TAKEN)
 }
 

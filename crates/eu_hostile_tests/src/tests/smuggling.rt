@@ -1,14 +1,15 @@
 //! Messages on which readers of HTTP are known to differ: what is made of each, request by request and by a session.
-use crate::tests::fakes::{Brittle, Noting, Shaky, serve, told};
+use crate::tests::fakes::{Noting, serve, told};
 use crate::tests::tables::{
     CHUNKS, CODINGS, CONNECTIONS, DIFFERENCES, FIELDS, LENGTHS, LINES, Row, TARGETS,
 };
 use eu_base::Fault;
-use eu_fixtures::{LAST_MISSING, MISSING, joined, push_each};
+use eu_fixtures::{Brittle, LAST_MISSING, MISSING, Torn, joined, push_each};
 use eu_framing::{EMPTY_ROOM, Request, Room, read_request};
 use eu_routes::Routes;
 use eu_stream::Source;
 use std::alloc::{AllocError, Global};
+use std::io::ErrorKind;
 use std::test::Fail;
 
 /// What is made of a message, in words, and what a session of it is to write.
@@ -136,7 +137,7 @@ fn is_served(
 /// Whether that is made of a message, read at once and one byte at a time, and answered by a session.
 fn is_made(alloc: Global, routes: &Routes, message: &[u8], words: &str) -> Result<bool, Fault> {
     let at_once = made_of(alloc, message)?;
-    let singly = made_of(alloc, Shaky::steady(message, 1))?;
+    let singly = made_of(alloc, Torn::steady(message, 1))?;
     let is_so = at_once.words.as_str() == words && singly.words.as_str() == words;
     Ok(is_so && is_served(alloc, routes, message, &at_once.responses)?)
 }
@@ -266,8 +267,14 @@ const HELD_BACK: [(&str, &str); 2] = [
 fn is_awaited(alloc: Global, head: &str, body: &str) -> Result<bool, Fault> {
     let text = joined(alloc, &[head, body])?;
     let answered = joined(alloc, &["fault 40 asks 0 next 1001 ", MISSING])?;
-    let before = told(alloc, Shaky::new(text.as_bytes(), head.len(), 1))?;
-    let behind = told(alloc, Shaky::new(text.as_bytes(), head.len(), 2))?;
+    let before = told(
+        alloc,
+        Torn::new(text.as_bytes(), head.len(), 1, ErrorKind::Other),
+    )?;
+    let behind = told(
+        alloc,
+        Torn::new(text.as_bytes(), head.len(), 2, ErrorKind::Other),
+    )?;
     Ok(before.as_str() == "fault 40 asks 0 next 1000 " && behind == answered)
 }
 

@@ -1,10 +1,9 @@
 //! Batches as peers send them, and what they are answered, byte for byte.
-use crate::tests::responses::{conflict, is_answered, is_asked, is_refused, is_said};
+use crate::tests::responses::{came, conflict, is_answered, is_asked, is_refused, is_said};
 use eu_base::Fault;
-use eu_desk::Answer;
 use eu_fixtures::{ITEM_DONE, ITEM_MISSING};
 use eu_http::Outcome;
-use eu_model::{Reply, View};
+use eu_model::{Answer, Reply, View};
 use std::alloc::{AllocError, Global};
 
 /// Where peers send their batches.
@@ -87,26 +86,11 @@ fn a_batch_is_answered(rt: HostRuntime) {
     let alloc = rt.alloc();
     let refused =
         "HTTP/1.1 400 Bad Request\r\nContent-Type: application/json\r\nContent-Length: 12\r\n\r\n{\"fault\":31}";
-    assert!(rt;
-        is_said(
-            alloc,
-            LINE,
-            Outcome::Refused(Fault::BadBatch),
-            false,
-            refused
-        )
-    );
+    assert!(rt; is_said(alloc, Outcome::Refused(Fault::BadBatch), false, refused));
     let nothing =
         "HTTP/1.1 200 OK\r\nContent-Type: application/json\r\nContent-Length: 19\r\n\r\n{\"responseList\":[]}";
-    assert!(rt;
-        is_said(
-            alloc,
-            LINE,
-            Outcome::Answers(Vec::new(alloc)),
-            false,
-            nothing
-        )
-    );
+    let none = came(alloc, LINE, Vec::new(alloc)).unwrap_or(Outcome::Forbidden);
+    assert!(rt; is_said(alloc, none, false, nothing));
 }
 
 #[test]
@@ -154,10 +138,10 @@ fn push_three(answers: &mut Vec<Result<Answer, Fault>>) -> Result<(), AllocError
 }
 
 /// A refusal and two replies.
-fn three(alloc: Global) -> Result<Outcome, AllocError> {
+fn three(alloc: Global) -> Result<Outcome, Fault> {
     let mut answers = Vec::new(alloc);
     push_three(&mut answers)?;
-    Ok(Outcome::Answers(answers))
+    came(alloc, LINE, answers)
 }
 
 #[test]
@@ -165,5 +149,5 @@ fn items_are_answered_in_order(rt: HostRuntime) {
     let three = three(rt.alloc()).unwrap_or(Outcome::Forbidden);
     let text =
         "HTTP/1.1 200 OK\r\nContent-Type: application/json\r\nContent-Length: 75\r\n\r\n{\"responseList\":[{\"statusCode\":503},{\"statusCode\":404},{\"statusCode\":200}]}";
-    assert!(rt; is_said(rt.alloc(), LINE, three, false, text));
+    assert!(rt; is_said(rt.alloc(), three, false, text));
 }

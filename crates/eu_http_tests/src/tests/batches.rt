@@ -60,11 +60,13 @@ fn is_renewal(commands: &[Command], id: &str, stamp: Option<u64>, status: Option
         [
             Command::Renew {
                 key,
-                dirty,
+                last_dirty,
                 overridden,
                 replicated,
             },
-        ] => { *replicated && is_own(key, id) && value(*dirty) == stamp && *overridden == status }
+        ] => {
+            *replicated && is_own(key, id) && value(*last_dirty) == stamp && *overridden == status
+        }
         _ => false,
     }
 }
@@ -84,10 +86,10 @@ fn is_override(commands: &[Command], id: &str, given: Status, stamp: Option<u64>
             Command::SetStatus {
                 key,
                 status,
-                dirty,
+                last_dirty,
                 replicated,
             },
-        ] => *replicated && is_own(key, id) && *status == given && value(*dirty) == stamp,
+        ] => *replicated && is_own(key, id) && *status == given && value(*last_dirty) == stamp,
         _ => false,
     }
 }
@@ -104,10 +106,10 @@ fn is_override_end(
             Command::UnsetStatus {
                 key,
                 status,
-                dirty,
+                last_dirty,
                 replicated,
             },
-        ] => *replicated && is_own(key, id) && *status == given && value(*dirty) == stamp,
+        ] => *replicated && is_own(key, id) && *status == given && value(*last_dirty) == stamp,
         _ => false,
     }
 }

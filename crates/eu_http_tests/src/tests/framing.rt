@@ -1,74 +1,8 @@
-ghost use Rattle.std.specs.Prelude.{None};
-
 use eu_base::Fault;
+use eu_fixtures::Parts;
 use eu_framing::{EMPTY_ROOM, MAX_FIELDS, MAX_HEAD, MAX_RAW, MAX_TRAILER, Request, read_request};
-use eu_stream::{ReadFault, Source};
+use eu_stream::Source;
 use std::alloc::{AllocError, Global};
-
-/// Gives two texts, so many bytes at a time and no read over both, and then ends or fails.
-#[derive(Drop)]
-struct Parts<'a> {
-    first: &'a [u8],
-    second: &'a [u8],
-    size: usize,
-    fails: bool,
-    has_failed: bool,
-}
-
-impl<'a> Parts<'a> {
-    fn ending(first: &'a [u8], second: &'a [u8]) -> Parts<'a> {
-        Parts {
-            first,
-            second,
-            size: usize::MAX,
-            fails: false,
-            has_failed: false,
-        }
-    }
-
-    fn failing(first: &'a [u8], second: &'a [u8]) -> Parts<'a> {
-        Parts {
-            first,
-            second,
-            size: usize::MAX,
-            fails: true,
-            has_failed: false,
-        }
-    }
-
-    fn pieces(text: &'a [u8], size: usize) -> Parts<'a> {
-        Parts {
-            first: text,
-            second: b"".as_slice(),
-            size,
-            fails: false,
-            has_failed: false,
-        }
-    }
-}
-
-impl Source for Parts<'_> {
-    ghost stream = { λ _. 0 };
-
-    ghost remaining = { λ _. None };
-
-    ghost failed = { λ s. s.has_failed };
-
-    fn read_some(&mut self, buffer: &mut [u8]) -> Result<usize, ReadFault> {
-        if self.first.is_empty() {
-            self.first = self.second;
-            self.second = b"".as_slice();
-        }
-        if self.first.is_empty() && self.fails {
-            self.has_failed = true;
-            return Err(ReadFault);
-        }
-        let count = self.first.len().min(self.size).min(buffer.len());
-        buffer[..count].copy_from_slice(&self.first[..count]);
-        self.first = &self.first[count..];
-        Ok(count)
-    }
-}
 
 const INSTANCE: &[u8] =
     b"{\"instance\":{\"instanceId\":\"i1\",\"hostName\":\"h\",\"app\":\"a\",\"ipAddr\":\"10.0.0.1\",\"status\":\"UP\",\"lastDirtyTimestamp\":\"5\",\"dataCenterInfo\":{\"name\":\"MyOwn\"}}}";
@@ -182,7 +116,7 @@ fn wrong_cut(alloc: Global, text: &[u8]) -> Option<usize> {
 /// Whether a text gives the three requests with any cut, and byte by byte.
 fn is_cut_freely(alloc: Global, text: Result<Vec<u8>, AllocError>) -> Result<bool, AllocError> {
     let text = text?;
-    let is_whole = are_the_three(alloc, Parts::pieces(&text, 1));
+    let is_whole = are_the_three(alloc, Parts::new(&text, 1, false));
     Ok(is_whole && wrong_cut(alloc, &text).is_none())
 }
 
@@ -195,7 +129,7 @@ fn any_cut_gives_the_same_requests(rt: HostRuntime) {
 
 /// Whether a text has that fault, read at once and so many bytes at a time.
 fn is_fault(alloc: Global, text: &[u8], size: usize, fault: Option<Fault>) -> bool {
-    fault_of(alloc, text) == fault && fault_of(alloc, Parts::pieces(text, size)) == fault
+    fault_of(alloc, text) == fault && fault_of(alloc, Parts::new(text, size, false)) == fault
 }
 
 /// The same of a text that is made first.
@@ -429,7 +363,7 @@ const TARGETS: [(&str, &str, &str); 4] = [
 
 /// Whether a request has that path and that query.
 fn is_for(request: &Request, path: &str, query: &str) -> bool {
-    request.path() == path && request.query() == query
+    request.parts() == (path, query)
 }
 
 /// Whether the request of a text has that path and that query.

@@ -41,7 +41,7 @@ fn is_registered(instance: &Instance) -> bool {
         && instance.key.id.as_str() == "i1"
         && instance.status == Status::Up
         && instance.overridden == Status::Unknown
-        && instance.dirty.value() == 5
+        && instance.last_dirty.value() == 5
         && instance.secs.secs() == 90
         && instance.interval.secs() == 30
 }
@@ -414,16 +414,16 @@ fn overridden_statuses_in_any_case(rt: HostRuntime) {
 }
 
 /// The stamp of the instance with this member.
-fn dirty(alloc: Global, before: &str, json: &str) -> Result<u64, Fault> {
+fn last_dirty(alloc: Global, before: &str, json: &str) -> Result<u64, Fault> {
     let instance = with(alloc, before, json, "")?;
-    let dirty = instance.dirty.value();
+    let last_dirty = instance.last_dirty.value();
     drop(instance);
-    Ok(dirty)
+    Ok(last_dirty)
 }
 
 /// Whether this stamp is read as that number, or is none.
 fn is_stamp(alloc: Global, json: &str, stamp: Option<u64>) -> bool {
-    dirty(alloc, r#","lastDirtyTimestamp":"#, json) == stamp.ok_or(Fault::BadStamp)
+    last_dirty(alloc, r#","lastDirtyTimestamp":"#, json) == stamp.ok_or(Fault::BadStamp)
 }
 
 /// Stamps as JSON, with what is read of each.
@@ -449,7 +449,7 @@ const STAMPS: [(&str, Option<u64>); 17] = [
 
 #[test]
 fn stamps_as_numbers_and_as_texts(rt: HostRuntime) {
-    assert!(rt; dirty(rt.alloc(), "", "") == Ok(1000));
+    assert!(rt; last_dirty(rt.alloc(), "", "") == Ok(1000));
     for (text, stamp) in &STAMPS {
         assert!(rt; is_stamp(rt.alloc(), text, *stamp), "at {text}");
     }

@@ -1,11 +1,10 @@
 //! Requests as clients send them, and responses byte for byte.
-use eu_base::{App, BoxedInstance, Config, Fault, Instance, Key, Stamp, Status};
-use eu_desk::{Answer, Ask};
+use eu_base::{App, BoxedInstance, Config, Fault, Instance, Key, Keys, Stamp, Status};
 use eu_fixtures::{MISSING, REGISTRATION, moment, push_each};
 use eu_framing::{EMPTY_ROOM, Request, read_request};
-use eu_http::{Asked, Outcome, answer, asks};
+use eu_http::{Asked, Outcome, Wanted, answer, asks};
 use eu_json::read_instance;
-use eu_model::{Command, Counts, Keys, Listed, Listing, Query, Reply, Times, View};
+use eu_model::{Answer, Ask, Command, Counts, Listed, Listing, Query, Reply, Times, View};
 use eu_routes::Routes;
 use std::alloc::{AllocError, Global};
 
@@ -89,11 +88,11 @@ fn tell_status_of(
     word: &str,
     key: &Key,
     status: Option<Status>,
-    dirty: Option<Stamp>,
+    last_dirty: Option<Stamp>,
 ) -> Result<(), AllocError> {
     tell_key(out, word, key)?;
     tell_status(out, status)?;
-    tell_stamp(out, dirty)
+    tell_stamp(out, last_dirty)
 }
 
 /// Writes an override, or the end of one, as words.
@@ -102,15 +101,15 @@ fn tell_override(out: &mut String, command: &Command) -> Result<(), AllocError> 
         Command::SetStatus {
             key,
             status,
-            dirty,
+            last_dirty,
             ..
-        } => tell_status_of(out, "set", key, Some(*status), *dirty),
+        } => tell_status_of(out, "set", key, Some(*status), *last_dirty),
         Command::UnsetStatus {
             key,
             status,
-            dirty,
+            last_dirty,
             ..
-        } => tell_status_of(out, "unset", key, *status, *dirty),
+        } => tell_status_of(out, "unset", key, *status, *last_dirty),
         _ => out.push_str("other"),
     }
 }
@@ -120,10 +119,10 @@ fn tell_stamp_of(
     out: &mut String,
     word: &str,
     key: &Key,
-    dirty: Option<Stamp>,
+    last_dirty: Option<Stamp>,
 ) -> Result<(), AllocError> {
     tell_key(out, word, key)?;
-    tell_stamp(out, dirty)
+    tell_stamp(out, last_dirty)
 }
 
 /// Writes settings as words.
@@ -137,15 +136,15 @@ fn tell_settings(out: &mut String, config: &Config) -> Result<(), AllocError> {
 fn tell_change(out: &mut String, command: &Command) -> Result<(), AllocError> {
     match command {
         Command::Register { instance, .. } => {
-            tell_stamp_of(out, "register", &instance.key, Some(instance.dirty))
+            tell_stamp_of(out, "register", &instance.key, Some(instance.last_dirty))
         }
         Command::Renew {
             key,
-            dirty,
+            last_dirty,
             overridden,
             ..
         } => {
-            tell_stamp_of(out, "renew", key, *dirty)?;
+            tell_stamp_of(out, "renew", key, *last_dirty)?;
             tell_status(out, *overridden)
         }
         Command::Cancel { key, .. } => tell_key(out, "cancel", key),
@@ -204,7 +203,7 @@ fn tell_asks(out: &mut String, asks: &[Ask]) -> Result<(), AllocError> {
 /// Writes what is asked as words.
 fn tell(out: &mut String, asked: &Asked) -> Result<(), AllocError> {
     match asked {
-        Asked::Asks(asks) => tell_asks(out, asks),
+        Asked::Asks { wanted: _, asks } => tell_asks(out, asks),
         _ => out.push_str("forbidden"),
     }
 }
@@ -220,11 +219,8 @@ fn words(alloc: Global, asked: Asked) -> Result<String, AllocError> {
 
 /// What a request asks at 1000, as words.
 fn request_told(alloc: Global, request: &Request) -> Result<String, Fault> {
-    let now = moment(1000)?;
-    let routes = Routes::new(alloc)?;
-    let asked = asks(alloc, &routes, request, now);
-    drop(routes);
-    Ok(words(alloc, asked?)?)
+    let asked = asked(alloc, request)?;
+    Ok(words(alloc, asked)?)
 }
 
 /// The same of the request of a head and a body.
@@ -248,17 +244,9 @@ pub fn is_refused(alloc: Global, line: &str, body: &[u8], fault: Fault) -> bool 
     told(alloc, line, "", body).err() == Some(fault)
 }
 
-/// The response to the request of a line.
-fn response(alloc: Global, line: &str, outcome: &Outcome, close: bool) -> Result<Vec<u8>, Fault> {
-    let request = request(alloc, line, "", b"")?;
-    let bytes = answer(alloc, &request, outcome, close);
-    drop(request);
-    Ok(bytes?)
-}
-
-/// Whether that is the response to the request of a line, for what came of it.
-pub fn is_said(alloc: Global, line: &str, outcome: Outcome, close: bool, text: &str) -> bool {
-    let response = response(alloc, line, &outcome, close);
+/// Whether that is the response, for what came of a request.
+pub fn is_said(alloc: Global, outcome: Outcome, close: bool, text: &str) -> bool {
+    let response = answer(alloc, &outcome, close);
     drop(outcome);
     match response {
         Ok(bytes) => bytes.as_slice() == text.as_bytes(),
@@ -266,17 +254,50 @@ pub fn is_said(alloc: Global, line: &str, outcome: Outcome, close: bool, text: &
     }
 }
 
-/// What comes of a request with this answer alone.
-fn only(alloc: Global, answer: Result<Answer, Fault>) -> Result<Outcome, AllocError> {
+/// What a request asks at 1000.
+fn asked(alloc: Global, request: &Request) -> Result<Asked, Fault> {
+    let now = moment(1000)?;
+    let routes = Routes::new(alloc)?;
+    let asked = asks(alloc, &routes, request, now);
+    drop(routes);
+    asked
+}
+
+/// The kind of answer that the request of a line and a body wants.
+fn wanted(alloc: Global, line: &str, body: &[u8]) -> Result<Option<Wanted>, Fault> {
+    let request = request(alloc, line, "", body)?;
+    let asked = asked(alloc, &request);
+    drop(request);
+    Ok(match asked? {
+        Asked::Asks { wanted, asks: _ } => Some(wanted),
+        Asked::Forbidden => None,
+    })
+}
+
+/// What comes of the request of a line with these answers. A batch has no item.
+pub fn came(
+    alloc: Global,
+    line: &str,
+    answers: Vec<Result<Answer, Fault>>,
+) -> Result<Outcome, Fault> {
+    let body = br#"{"replicationList":[]}"#;
+    Ok(match wanted(alloc, line, body)? {
+        Some(wanted) => Outcome::Answers { wanted, answers },
+        None => Outcome::Forbidden,
+    })
+}
+
+/// What comes of it with this answer alone.
+fn only(alloc: Global, line: &str, answer: Result<Answer, Fault>) -> Result<Outcome, Fault> {
     let mut answers = Vec::new(alloc);
     answers.push(answer)?;
-    Ok(Outcome::Answers(answers))
+    came(alloc, line, answers)
 }
 
 /// Whether that is the response, where an answer is the only one.
 pub fn is_answered(alloc: Global, line: &str, answer: Result<Answer, Fault>, text: &str) -> bool {
-    let outcome = only(alloc, answer).unwrap_or(Outcome::Forbidden);
-    is_said(alloc, line, outcome, false, text)
+    let outcome = only(alloc, line, answer).unwrap_or(Outcome::Forbidden);
+    is_said(alloc, outcome, false, text)
 }
 
 fn did(alloc: Global, reply: Reply, text: &str) -> bool {
@@ -454,7 +475,7 @@ fn views(alloc: Global) -> Result<Outcome, Fault> {
     let mut answers = Vec::new(alloc);
     answers.push(Ok(Answer::Saw(View::Counts(counts))))?;
     answers.push(Ok(Answer::Saw(View::All(all))))?;
-    Ok(Outcome::Answers(answers))
+    came(alloc, "GET /eureka/status", answers)
 }
 
 #[test]
@@ -462,7 +483,7 @@ fn a_status_page_is_written(rt: HostRuntime) {
     let page = views(rt.alloc()).unwrap_or(Outcome::Forbidden);
     let text =
         "HTTP/1.1 200 OK\r\nContent-Type: text/plain; charset=utf-8\r\nContent-Length: 81\r\nConnection: close\r\n\r\nheld 1\nexpected 2\nthreshold 3\nlast 0\npreservation on\npermitted no\nstatuses UP_1_\n";
-    assert!(rt; is_said(rt.alloc(), "GET /eureka/status", page, true, text));
+    assert!(rt; is_said(rt.alloc(), page, true, text));
 }
 
 /// Faults, with the responses that tell them before the connection ends.
@@ -495,10 +516,10 @@ fn refusals_are_written(rt: HostRuntime) {
     let line = "GET /eureka/apps/A";
     for (fault, text) in &REFUSALS {
         let refused = Outcome::Refused(*fault);
-        assert!(rt; is_said(alloc, line, refused, true, text), "at {fault:?}");
+        assert!(rt; is_said(alloc, refused, true, text), "at {fault:?}");
     }
     let forbidden = "HTTP/1.1 403 Forbidden\r\nContent-Length: 0\r\n\r\n";
-    assert!(rt; is_said(alloc, line, Outcome::Forbidden, false, forbidden));
+    assert!(rt; is_said(alloc, Outcome::Forbidden, false, forbidden));
     let full =
         "HTTP/1.1 503 Service Unavailable\r\nContent-Type: application/json\r\nContent-Length: 11\r\n\r\n{\"fault\":7}";
     assert!(rt; is_answered(alloc, line, Err(Fault::Full), full));

@@ -42,15 +42,23 @@ fn tell_settings(text: &mut String, config: &Config) -> Result<(), AllocError> {
 /// Writes what a change of a status asks for.
 fn tell_change(text: &mut String, route: &Route) -> Result<(), AllocError> {
     match route {
-        Route::SetStatus { key, status, dirty } => {
+        Route::SetStatus {
+            key,
+            status,
+            last_dirty,
+        } => {
             tell_key(text, "set", key)?;
             write!(text, " {status:?}")?;
-            tell_stamp(text, dirty)
+            tell_stamp(text, last_dirty)
         }
-        Route::UnsetStatus { key, status, dirty } => {
+        Route::UnsetStatus {
+            key,
+            status,
+            last_dirty,
+        } => {
             tell_key(text, "unset", key)?;
             tell_status(text, status)?;
-            tell_stamp(text, dirty)
+            tell_stamp(text, last_dirty)
         }
         _ => Ok(()),
     }
@@ -63,11 +71,11 @@ fn tell_lease(text: &mut String, route: &Route) -> Result<(), AllocError> {
         Route::One(key) => tell_key(text, "one", key),
         Route::Renew {
             key,
-            dirty,
+            last_dirty,
             overridden,
         } => {
             tell_key(text, "renew", key)?;
-            tell_stamp(text, dirty)?;
+            tell_stamp(text, last_dirty)?;
             tell_status(text, overridden)
         }
         _ => tell_change(text, route),

@@ -1,7 +1,8 @@
 //! Journals that were changed by hand and sealed anew: only the auditor, or the form of a line, can tell.
 ghost use Rattle.std.specs.Prelude.{None, false};
 
-use crate::tests::reading::{LINES, begins_value, text_of};
+use crate::tests::reading::{LINES, begins_value};
+use eu_fixtures::text_of;
 use eu_journal_audit::{AuditFault, answer_journal_audit, run_journal_audit};
 use eu_stream::{Sink, WriteFault};
 use sha2::{Digest, Sha256};

@@ -1,13 +1,13 @@
 //! Journals whose reader fails at each place in turn, and audits whose writer does.
-use crate::tests::reading::{LINES, text_of};
-use eu_fixtures::{Brittle, KINDS, Torn, reads_of};
+use crate::tests::reading::LINES;
+use eu_fixtures::{Brittle, KINDS, Torn, reads_of, text_of};
 use eu_journal_audit::{AuditFault, answer_journal_audit, run_journal_audit};
 use std::alloc::{AllocError, Global};
 use std::io::ErrorKind;
 use std::test::Fail;
 
 /// The audit of the journal: a run of three entries.
-const VERDICT: &[u8] = b"audit yes 3\n";
+pub const VERDICT: &[u8] = b"audit yes 3\n";
 
 /// Whether an audit over std's readers ends so, and nothing is asked of its writer.
 fn stays_silent(alloc: Global, mut reader: Torn<'_>, wanted: AuditFault) -> bool {

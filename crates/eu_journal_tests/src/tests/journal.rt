@@ -1,11 +1,13 @@
 //! The text of a journal, line by line, and lines that are refused. The digest was computed by another program.
-use eu_base::{App, Fault, Id, Instance, Key, LeaseSecs, Moment, RenewalSecs, Rest, Stamp, Status};
-use eu_fixtures::settings;
+use eu_base::{
+    App, Fault, Id, Instance, Key, Keys, LeaseSecs, Moment, RenewalSecs, Rest, Stamp, Status,
+};
+use eu_fixtures::{settings, text_of};
 use eu_journal::JournalLine;
 use eu_journal_text::{journal_text, read_line};
 use eu_journal_values::LineFault;
-use eu_model::{Command, Entry, Keys, Listed, Listing, Queues, Reply, Rows, State, Times};
-use std::alloc::{AllocError, Global};
+use eu_model::{Command, Entry, Listed, Listing, OverrideRows, Queues, Reply, State, Times};
+use std::alloc::Global;
 
 const BASE: &str =
     "{\"config\":{\"evict_ms\":60000,\"interval\":30,\"percent\":85,\"preservation\":true},\"expected\":1,\"journal\":1,\"last\":0,\"line\":\"head\",\"previous\":null,\"since\":0}";
@@ -33,14 +35,14 @@ fn key(alloc: Global) -> Result<Key, Fault> {
 }
 
 fn instance(alloc: Global) -> Result<Instance, Fault> {
-    let dirty = Stamp::new(1_700_000_000_000).ok_or(Fault::BadStamp)?;
+    let last_dirty = Stamp::new(1_700_000_000_000).ok_or(Fault::BadStamp)?;
     let key = key(alloc)?;
     let rest = Rest::of_host(alloc, "a")?;
     Ok(Instance {
         key,
         status: Status::Up,
         overridden: Status::Unknown,
-        dirty,
+        last_dirty,
         secs: LeaseSecs::DEFAULT,
         interval: RenewalSecs::DEFAULT,
         rest,
@@ -58,7 +60,7 @@ fn state(
         config,
         expected,
         leases: Listing::new(leases),
-        rows: Rows::new(Vec::new(alloc)),
+        overrides: OverrideRows::new(Vec::new(alloc)),
         last: 0,
         since: 0,
         previous,
@@ -106,18 +108,9 @@ fn text(alloc: Global) -> Result<String, Fault> {
     Ok(text)
 }
 
-fn lines(alloc: Global, lines: &[&str]) -> Result<String, AllocError> {
-    let mut text = String::new(alloc);
-    for line in lines {
-        text.push_str(line)?;
-        text.push_str("\n")?;
-    }
-    Ok(text)
-}
-
 fn is_written(alloc: Global) -> Result<bool, Fault> {
     let text = text(alloc)?;
-    let wanted = lines(alloc, &[BASE, LEASE, ASKED, ANSWERED, VICTIM, END, DIGEST])?;
+    let wanted = text_of(alloc, &[BASE, LEASE, ASKED, ANSWERED, VICTIM, END, DIGEST])?;
     Ok(text.as_str() == wanted.as_str())
 }
 

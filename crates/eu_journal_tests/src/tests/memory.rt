@@ -1,10 +1,9 @@
 //! Want of memory. In a usual run no allocation is refused; `tools/sweep_memory.sh` refuses one after another.
-use crate::tests::reading::{LINES, text_of};
+use crate::tests::failures::VERDICT;
+use crate::tests::reading::LINES;
+use eu_fixtures::text_of;
 use eu_journal_audit::{AuditFault, run_journal_audit};
 use std::alloc::{AllocError, Global};
-
-/// The audit of the journal: a run of three entries.
-const VERDICT: &[u8] = b"audit yes 3\n";
 
 /// Whether a journal is found to be a run, or want of memory is told and nothing written.
 fn is_judged(alloc: Global, text: &str) -> Result<bool, AllocError> {

@@ -1,5 +1,6 @@
 //! Journals that are read, and texts that say none. The lines and their digest were written by another program.
 use eu_audit::audit;
+use eu_fixtures::text_of;
 use eu_journal_read::{JournalFault, Recorded, read_journal};
 use eu_journal_text::journal_text;
 use eu_model::Reply;
@@ -22,16 +23,6 @@ pub static LINES: [&str; 14] = [
     "{\"line\":\"flight\",\"rest\":{\"hostName\":\"h\",\"port\":8080},\"task\":{\"action\":\"Register\",\"instance\":{\"dirty\":7,\"interval\":30,\"key\":{\"app\":\"A\",\"id\":\"i1\"},\"overridden\":\"UNKNOWN\",\"secs\":90,\"status\":\"UP\"},\"key\":{\"app\":\"A\",\"id\":\"i1\"},\"queued\":0,\"status\":null}}",
     "{\"line\":\"digest\",\"sha256\":\"c972a2b4269190bd8d2b1c351603c48151ef846646f89b67d52c115e95d3310b\"}",
 ];
-
-/// These lines, each with its end.
-pub fn text_of(alloc: Global, lines: &[&str]) -> Result<String, AllocError> {
-    let mut text = String::new(alloc);
-    for line in lines {
-        text.push_str(line)?;
-        text.push_str("\n")?;
-    }
-    Ok(text)
-}
 
 fn read(alloc: Global, text: &[u8]) -> Result<Recorded, JournalFault> {
     let mut reader = text;

@@ -1,9 +1,13 @@
 //! Journals in a file, and what is told where it isn't there.
 use crate::tests::files::{Place, holds, place_of};
-use crate::tests::runs::{Broken, run, run_at};
-use std::alloc::{AllocError, Global};
-use std::sync::Mutex;
+use crate::tests::runs::{Broken, Ran, run, run_at};
+use eu_fixtures::text_of;
+use std::alloc::Global;
+use std::net::{Net, TcpListener, TcpStream};
+use std::sync::{Mutex, Wait};
 use std::test::Fail;
+use std::thread::Threads;
+use std::time::Clock;
 
 /// The journal of a script that opens a registry for two clients and ends a minute: no renewal was counted.
 const JOURNAL: [&str; 5] = [
@@ -23,16 +27,6 @@ const FORGED: [&str; 5] = [
     "{\"line\":\"digest\",\"sha256\":\"e2e2d4fdba2cf37a3a9a33fc1da10f5355e0ea3e7f0f2015e049e7d104a5de1a\"}",
 ];
 
-/// The text of these lines.
-fn text_of(alloc: Global, lines: &[&str]) -> Result<String, AllocError> {
-    let mut text = String::new(alloc);
-    for line in lines {
-        text.push_str(*line)?;
-        text.push_str("\n")?;
-    }
-    Ok(text)
-}
-
 /// A script that has that journal.
 const SCRIPT: &str = "open 2\nroll 1000\n";
 
@@ -43,17 +37,29 @@ const WORDS: [&str; 4] = ["eureka", "script", "--journal", "kept.journal"];
 /// The words of an audit of the journal in that file.
 const AUDIT: [&str; 4] = ["eureka", "audit", "--journal", "kept.journal"];
 
+/// Runs a script that leaves its journal in that file.
+fn scripted<R: Threads + Wait + Clock + Net<Listener = TcpListener, Stream = TcpStream> + Sync>(
+    rt: &R,
+    alloc: Global,
+    script: &'static str,
+    place: &Place,
+) -> Ran {
+    run_at(rt, alloc, WORDS.as_slice(), script, Broken::Nothing, place)
+}
+
+/// Runs an audit of the journal in that file.
+pub fn audited<R: Threads + Wait + Clock + Net<Listener = TcpListener, Stream = TcpStream> + Sync>(
+    rt: &R,
+    alloc: Global,
+    place: &Place,
+) -> Ran {
+    run_at(rt, alloc, AUDIT.as_slice(), "", Broken::Nothing, place)
+}
+
 #[test]
 fn a_script_creates_the_file_of_its_journal(rt: HostRuntime) -> Result<(), Fail> {
     let place: Place = Mutex::new(None);
-    let ran = run_at(
-        &rt,
-        rt.alloc(),
-        WORDS.as_slice(),
-        SCRIPT,
-        Broken::Nothing,
-        &place,
-    );
+    let ran = scripted(&rt, rt.alloc(), SCRIPT, &place);
     assert!(rt; ran.status == 0);
     assert!(rt; ran.out.as_slice() == PRINTED);
     assert!(rt; ran.err.is_empty());
@@ -65,14 +71,7 @@ fn a_script_creates_the_file_of_its_journal(rt: HostRuntime) -> Result<(), Fail>
 fn what_the_file_of_a_journal_held_before_is_lost(rt: HostRuntime) -> Result<(), Fail> {
     let text = text_of(rt.alloc(), JOURNAL.as_slice())?;
     let place = place_of(rt.alloc(), &format!(in rt.alloc(); "{text}{text}")?)?;
-    let ran = run_at(
-        &rt,
-        rt.alloc(),
-        WORDS.as_slice(),
-        SCRIPT,
-        Broken::Nothing,
-        &place,
-    );
+    let ran = scripted(&rt, rt.alloc(), SCRIPT, &place);
     assert!(rt; ran.status == 0);
     assert!(rt; ran.out.as_slice() == PRINTED);
     assert!(rt; holds(place, &text));
@@ -85,14 +84,7 @@ fn a_script_that_ends_early_leaves_the_file_of_its_journal_empty(
 ) -> Result<(), Fail> {
     let place = place_of(rt.alloc(), "before\n")?;
     let script = "open 2\nroll x\n";
-    let ran = run_at(
-        &rt,
-        rt.alloc(),
-        WORDS.as_slice(),
-        script,
-        Broken::Nothing,
-        &place,
-    );
+    let ran = scripted(&rt, rt.alloc(), script, &place);
     assert!(rt; ran.status == 2);
     assert!(rt; ran.err.as_slice() == b"line 2: bad line\n".as_slice());
     assert!(rt; holds(place, ""));
@@ -122,14 +114,7 @@ fn a_server_writes_its_journal_to_the_file(rt: HostRuntime) -> Result<(), Fail> 
     );
     assert!(rt; ran.status == 0);
     assert!(rt; ran.out.as_slice() == b"served 0\n".as_slice());
-    let audited = run_at(
-        &rt,
-        rt.alloc(),
-        AUDIT.as_slice(),
-        "",
-        Broken::Nothing,
-        &place,
-    );
+    let audited = audited(&rt, rt.alloc(), &place);
     assert!(rt; audited.status == 0);
     assert!(rt; audited.out.starts_with(b"audit yes "));
     Ok(())
@@ -138,14 +123,7 @@ fn a_server_writes_its_journal_to_the_file(rt: HostRuntime) -> Result<(), Fail> 
 #[test]
 fn a_journal_is_audited(rt: HostRuntime) -> Result<(), Fail> {
     let place = place_of(rt.alloc(), &text_of(rt.alloc(), JOURNAL.as_slice())?)?;
-    let ran = run_at(
-        &rt,
-        rt.alloc(),
-        AUDIT.as_slice(),
-        "",
-        Broken::Nothing,
-        &place,
-    );
+    let ran = audited(&rt, rt.alloc(), &place);
     assert!(rt; ran.status == 0);
     assert!(rt; ran.out.as_slice() == b"audit yes 1\n".as_slice());
     assert!(rt; ran.err.is_empty());
@@ -155,14 +133,7 @@ fn a_journal_is_audited(rt: HostRuntime) -> Result<(), Fail> {
 #[test]
 fn a_journal_that_is_no_run_is_told_so(rt: HostRuntime) -> Result<(), Fail> {
     let place = place_of(rt.alloc(), &text_of(rt.alloc(), FORGED.as_slice())?)?;
-    let ran = run_at(
-        &rt,
-        rt.alloc(),
-        AUDIT.as_slice(),
-        "",
-        Broken::Nothing,
-        &place,
-    );
+    let ran = audited(&rt, rt.alloc(), &place);
     assert!(rt; ran.status == 3);
     assert!(rt; ran.out.as_slice() == b"audit no 1\n".as_slice());
     assert!(rt; ran.err.is_empty());
@@ -188,14 +159,7 @@ fn a_verdict_that_is_not_taken_is_told_by_its_fault(rt: HostRuntime) -> Result<(
 #[test]
 fn a_journal_that_is_not_whole_is_told_so(rt: HostRuntime) -> Result<(), Fail> {
     let place = place_of(rt.alloc(), &text_of(rt.alloc(), &JOURNAL[..4])?)?;
-    let ran = run_at(
-        &rt,
-        rt.alloc(),
-        AUDIT.as_slice(),
-        "",
-        Broken::Nothing,
-        &place,
-    );
+    let ran = audited(&rt, rt.alloc(), &place);
     assert!(rt; ran.status == 2);
     assert!(rt; ran.out.is_empty());
     assert!(rt; ran.err.as_slice() == b"the journal isn't whole\n".as_slice());
@@ -206,14 +170,7 @@ fn a_journal_that_is_not_whole_is_told_so(rt: HostRuntime) -> Result<(), Fail> {
 fn a_bad_line_of_a_journal_is_told_by_its_number(rt: HostRuntime) -> Result<(), Fail> {
     let lines = [JOURNAL[0], "{}", JOURNAL[2]];
     let place = place_of(rt.alloc(), &text_of(rt.alloc(), lines.as_slice())?)?;
-    let ran = run_at(
-        &rt,
-        rt.alloc(),
-        AUDIT.as_slice(),
-        "",
-        Broken::Nothing,
-        &place,
-    );
+    let ran = audited(&rt, rt.alloc(), &place);
     assert!(rt; ran.status == 2);
     assert!(rt; ran.out.is_empty());
     assert!(rt; ran.err.as_slice() == b"line 2: bad line\n".as_slice());

@@ -4,7 +4,7 @@ use eu_options::{command, config_of, journal_of, seed_of, serving_of};
 use std::alloc::{AllocError, Global};
 use std::test::Fail;
 
-/// What words give: whether preservation is on, the percentage, the interval and the time between passes.
+/// What words give: whether preservation is on, the percentage, the interval and the time between evictions.
 #[derive(Debug, PartialEq, Eq, Clone, Copy)]
 enum Given {
     Settings(bool, u32, u32, u32),

@@ -1,5 +1,6 @@
 //! Whole runs of the program, on a machine whose words and input are given and whose output is kept.
 use crate::tests::files::{Kept, Place, holds_all, open_kept};
+use crate::tests::journals::audited;
 use eu_program::start;
 use std::alloc::{Alloc, Allocator, Global};
 use std::env::FillError;
@@ -334,7 +335,7 @@ pub fn run<R: Threads + Wait + Clock + Net<Listener = TcpListener, Stream = TcpS
     run_broken(rt, alloc, words, input, Broken::Nothing)
 }
 
-/// Four leases that have expired, a pass, and the status page.
+/// Four leases that have expired, an eviction, and the status page.
 const SCRIPT: &str =
     "open 4\nregister 0 A i0 1 UP UNKNOWN 0 c\nregister 0 A i1 1 UP UNKNOWN 0 c\nregister 0 A i2 1 UP UNKNOWN 0 c\nregister 0 A i3 1 UP UNKNOWN 0 c\nevict 10000\npage 10000\n";
 
@@ -393,9 +394,9 @@ fn without_a_seed_the_first_are_evicted(rt: HostRuntime) -> Result<(), Fail> {
     Ok(())
 }
 
-/// A pass that comes later after the one before than `--evict-ms` says gives each lease as much time more.
+/// An eviction that comes later after the one before than `--evict-ms` says gives each lease as much time more.
 #[test]
-fn a_script_has_the_interval_of_its_passes(rt: HostRuntime) {
+fn a_script_has_the_interval_of_its_evictions(rt: HostRuntime) {
     let words = [
         "eureka",
         "script",
@@ -432,8 +433,8 @@ fn a_script_is_audited(rt: HostRuntime) {
     assert!(rt; ran.err.is_empty());
 }
 
-/// Four leases that have expired, and a pass by which two of them may go; then a renewal of i0, and what a peer is to be told of it. Where
-/// i0 went, nothing is to be told, and the last line is refused.
+/// Four leases that have expired, and an eviction by which two of them may go; then a renewal of i0, and what a peer is to be told of it.
+/// Where i0 went, nothing is to be told, and the last line is refused.
 const RENEWED: &str =
     "open 4 1\nregister 0 A i0 1 UP UNKNOWN 0 r\nregister 0 A i1 1 UP UNKNOWN 0 r\nregister 0 A i2 1 UP UNKNOWN 0 r\nregister 0 A i3 1 UP UNKNOWN 0 r\nevict 10000\nrenew 10000 A i0 - - c\ndrain 10000 0\n";
 
@@ -835,7 +836,7 @@ impl Visited {
         }
     }
 
-    /// Which two a pass leaves. Without a seed the first in key order go.
+    /// Which two an eviction leaves. Without a seed the first in key order go.
     fn left(self) -> [&'static str; 2] {
         match self {
             Visited::WithJournal | Visited::WithSeed => ["i0", "i2"],
@@ -886,15 +887,7 @@ fn a_server_with_a_journal_evicts_by_its_seed(rt: HostRuntime) -> Result<(), Fai
     assert!(rt; seen?);
     assert!(rt; ran.status == 0);
     assert!(rt; ran.out.as_slice() == b"served 7\n".as_slice());
-    let words = ["eureka", "audit", "--journal", "kept.journal"];
-    let audited = run_at(
-        &rt,
-        rt.alloc(),
-        words.as_slice(),
-        "",
-        Broken::Nothing,
-        &place,
-    );
+    let audited = audited(&rt, rt.alloc(), &place);
     assert!(rt; audited.status == 0);
     assert!(rt; audited.out.starts_with(b"audit yes "));
     assert!(rt; holds_all(place, CLIENTS.as_slice()));

@@ -1,9 +1,9 @@
 //! The leases beside a plain list of them, on the same drawn calls; and how few deadlines are read.
 use eu_base::{Fault, Instance, Key, LeaseSecs, Moment, RenewalSecs, Rest, Stamp, Status};
 use eu_clock::{Chooser, RngChooser};
-use eu_fixtures::{key_of, moment};
+use eu_fixtures::{ids, key_of, moment};
 use eu_lease::Lease;
-use eu_store::{Amendment, Held, Leases, Place};
+use eu_store::{Amendment, HeldLease, Leases, Place};
 use std::alloc::{AllocError, Global};
 
 /// The key of that number, of application A.
@@ -45,7 +45,7 @@ impl Term {
 
 /// An instance of that number, whose lease lasts so long.
 fn instance(alloc: Global, number: u64, term: Term) -> Result<Instance, Fault> {
-    let dirty = Stamp::new(0).ok_or(Fault::BadStamp)?;
+    let last_dirty = Stamp::new(0).ok_or(Fault::BadStamp)?;
     let secs = term.secs()?;
     let key = key(alloc, number)?;
     let rest = Rest::of_host(alloc, "h")?;
@@ -53,7 +53,7 @@ fn instance(alloc: Global, number: u64, term: Term) -> Result<Instance, Fault> {
         key,
         status: Status::Up,
         overridden: Status::Unknown,
-        dirty,
+        last_dirty,
         secs,
         interval: RenewalSecs::DEFAULT,
         rest,
@@ -61,11 +61,11 @@ fn instance(alloc: Global, number: u64, term: Term) -> Result<Instance, Fault> {
 }
 
 /// A lease of that number, made at that moment.
-fn held(alloc: Global, number: u64, ms: u64, term: Term) -> Result<Held, Fault> {
+fn held(alloc: Global, number: u64, ms: u64, term: Term) -> Result<HeldLease, Fault> {
     let moment = moment(ms)?;
     let instance = instance(alloc, number, term)?;
     let lease = Lease::fresh(moment, instance.secs);
-    Ok(Held::new(Box::new(alloc, instance)?, lease))
+    Ok(HeldLease::new(Box::new(alloc, instance)?, lease))
 }
 
 /// Puts a lease of that number, made at that moment, in the place of the one that is held, if any.
@@ -185,15 +185,6 @@ fn ids_of(alloc: Global, numbers: &[u64]) -> Result<String, AllocError> {
     Ok(text)
 }
 
-/// The ids of these keys, each after a space.
-pub fn ids(alloc: Global, keys: &[Key]) -> Result<String, AllocError> {
-    let mut text = String::new(alloc);
-    for key in keys {
-        write!(text, " {}", key.id.as_str())?;
-    }
-    Ok(text)
-}
-
 /// Whether these are the ids of what has expired, in order, and no more deadlines were read than twice as many and one.
 fn are_expired(
     alloc: Global,
@@ -282,7 +273,7 @@ fn changes_held_alike(
             moment,
             status: Status::Down,
             overridden: Status::Unknown,
-            dirty: None,
+            last_dirty: None,
             comes_up: call == 6,
         },
     };

@@ -30,7 +30,7 @@ fn word(reply: &Reply) -> (&'static str, u64) {
         Reply::Registered { .. } => ("registered", 0),
         Reply::Done => ("done", 0),
         Reply::NotFound => ("none", 0),
-        Reply::Conflict(held) => ("conflict", held.dirty.value()),
+        Reply::Conflict(held) => ("conflict", held.last_dirty.value()),
         Reply::Last(renewals) => ("last", *renewals),
         Reply::Evicted(keys) => ("evicted", keys.as_slice().len() as u64),
         _ => ("other", 0),
@@ -47,11 +47,11 @@ fn call(alloc: Global, registry: &mut Registry, call: Call, ms: u64) -> Told {
 fn word_of(stepped: &Stepped) -> (&'static str, u64) {
     let Answered {
         reply,
-        told,
+        answer,
         logged,
     } = &stepped.answered;
     match logged {
-        Some(logged) if word(reply) == word(told) && word(reply) == word(logged) => {
+        Some(logged) if word(reply) == word(answer) && word(reply) == word(logged) => {
             (word(reply).0, stepped.held.len() as u64)
         }
         _ => ("other", 0),
@@ -165,7 +165,7 @@ fn set_and_unset(alloc: Global, twins: &mut Twins) -> bool {
         && calls(alloc, twins, Call::Renew("i1"), 2) == Ok(("done", 0))
         && calls(alloc, twins, Call::Unset("i1", None), 3) == Ok(("done", 0))
         && calls(alloc, twins, Call::Renew("i1"), 4) == Ok(("none", 0))
-        && calls(alloc, twins, Call::Roll, 5) == Ok(("last", 1))
+        && calls(alloc, twins, Call::EndMinute, 5) == Ok(("last", 1))
 }
 
 /// A peer's heartbeat is told of a newer instance, an instance is adopted with its override, and both leases are evicted.
@@ -191,10 +191,10 @@ fn step_once(alloc: Global, twins: &mut Twins) -> bool {
         && steps(alloc, twins, Step::Cancel) == Ok(("done", 0))
 }
 
-/// A peer's instance is adopted, the minute ends, an update is made, the settings are changed, and a pass comes.
+/// A peer's instance is adopted, the minute ends, an update is made, the settings are changed, and an eviction comes.
 fn step_again(alloc: Global, twins: &mut Twins) -> bool {
     steps(alloc, twins, Step::Adopt) == Ok(("registered", 1))
-        && steps(alloc, twins, Step::Roll) == Ok(("last", 0))
+        && steps(alloc, twins, Step::EndMinute) == Ok(("last", 0))
         && steps(alloc, twins, Step::Update) == Ok(("other", 0))
         && steps(alloc, twins, Step::Reconfigure) == Ok(("done", 0))
         && both(alloc, twins, Line::Step(Step::Evict), 3_000_000) == Ok(("evicted", 0))

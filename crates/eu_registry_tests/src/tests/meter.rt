@@ -1,6 +1,6 @@
 //! Rates and thresholds, worked out by hand.
 use eu_base::{Config, Fault, Percent};
-use eu_meter::{Rate, Threshold, evict_limit};
+use eu_lease::{Rate, Threshold, evict_limit};
 
 /// The threshold for so many clients, with a renewal each 30 s.
 fn opened(preservation: bool, percent: u32, expected: u32) -> Result<Threshold, Fault> {
@@ -22,8 +22,8 @@ fn counted_twice() -> Result<Rate, Fault> {
 fn minutes() -> Result<(u64, u64, u64, u64), Fault> {
     let mut rate = counted_twice()?;
     let before = rate.last();
-    let ended = rate.roll();
-    Ok((before, ended, rate.last(), rate.roll()))
+    let ended = rate.end_minute();
+    Ok((before, ended, rate.last(), rate.end_minute()))
 }
 
 #[test]
@@ -83,8 +83,8 @@ fn clients_come_and_leave(rt: HostRuntime) {
     assert!(rt; clients(joined_again()) == Ok((0, true)));
 }
 
-/// The clients that are expected, the threshold and the milliseconds between two passes, of ten clients at 85% each 30 s, and then with
-/// other settings.
+/// The clients that are expected, the threshold and the milliseconds between two evictions, of ten clients at 85% each 30 s, and then
+/// with other settings.
 fn reconfigured() -> Result<[(u64, u64, u32); 3], Fault> {
     let mut threshold = opened(true, 85, 10)?;
     let before = seen(&threshold);
@@ -160,14 +160,14 @@ fn clients_are_counted_anew(rt: HostRuntime) {
     assert!(rt; counted_anew() == Ok((20, 18, 30)));
 }
 
-/// How many of so many leases a pass may evict at that percentage.
+/// How many of so many leases an eviction may take at that percentage.
 fn limit(size: usize, percent: u32) -> Result<usize, Fault> {
     let percent = Percent::new(percent).ok_or(Fault::BadPercent)?;
     Ok(evict_limit(size, percent))
 }
 
 #[test]
-fn a_pass_may_evict_all_but_the_percentage(rt: HostRuntime) {
+fn an_eviction_may_take_all_but_the_percentage(rt: HostRuntime) {
     assert!(rt; limit(4, 0) == Ok(4));
     assert!(rt; limit(4, 100) == Ok(0));
     assert!(rt; limit(10, 85) == Ok(2));

@@ -1,10 +1,12 @@
 //! Values from the rules of Eureka's registry, worked out by hand.
 use crate::tests::texts::push_numbers;
-use eu_base::{App, Config, Fault, Instance, LeaseSecs, Moment, RenewalSecs, Rest, Stamp, Status};
+use eu_base::{
+    App, Config, Fault, Instance, Keys, LeaseSecs, Moment, RenewalSecs, Rest, Stamp, Status,
+};
 use eu_clock::{Chooser, FirstChooser, ListChooser};
 use eu_core::Registry;
 use eu_fixtures::{joined, key, key_of, moment, push_number};
-use eu_model::{Keys, Listed, Reply, Times};
+use eu_model::{Listed, Reply, Times};
 use std::alloc::{AllocError, Global};
 
 /// A call of a registry, with the id that it names. Each application is A.
@@ -26,9 +28,9 @@ pub enum Call {
     Cancel(&'static str),
     /// The same id leaves under another application.
     CancelOther(&'static str),
-    Roll,
+    EndMinute,
     Update,
-    /// Whether self-preservation is on, the percentage, the seconds between renewals, the milliseconds between passes.
+    /// Whether self-preservation is on, the percentage, the seconds between renewals, the milliseconds between evictions.
     Reconfigure(bool, u32, u32, u32),
     Evict,
 }
@@ -50,14 +52,14 @@ pub fn instance(
     alloc: Global,
     id: &str,
     statuses: (Status, Status),
-    dirty: u64,
+    last_dirty: u64,
     secs: u32,
 ) -> Result<Instance, Fault> {
     Ok(Instance {
         key: key(alloc, id)?,
         status: statuses.0,
         overridden: statuses.1,
-        dirty: Stamp::new(dirty).ok_or(Fault::BadStamp)?,
+        last_dirty: Stamp::new(last_dirty).ok_or(Fault::BadStamp)?,
         secs: LeaseSecs::new(secs).ok_or(Fault::BadDuration)?,
         interval: RenewalSecs::DEFAULT,
         rest: Rest::of_host(alloc, "h")?,
@@ -69,11 +71,11 @@ fn join(
     registry: &mut Registry,
     id: &str,
     statuses: (Status, Status),
-    dirty: u64,
+    last_dirty: u64,
     secs: u32,
     now: Moment,
 ) -> Result<Reply, Fault> {
-    let instance = instance(alloc, id, statuses, dirty, secs)?;
+    let instance = instance(alloc, id, statuses, last_dirty, secs)?;
     registry.register(alloc, &instance, false, now)
 }
 
@@ -82,11 +84,11 @@ fn adopt(
     registry: &mut Registry,
     id: &str,
     over: Status,
-    dirty: u64,
+    last_dirty: u64,
     secs: u32,
     now: Moment,
 ) -> Result<Reply, Fault> {
-    let instance = instance(alloc, id, (Status::Up, over), dirty, secs)?;
+    let instance = instance(alloc, id, (Status::Up, over), last_dirty, secs)?;
     registry.adopt(alloc, &instance, now)
 }
 
@@ -145,9 +147,9 @@ pub fn answer<C: Chooser>(
     chooser: &mut C,
 ) -> Result<Reply, Fault> {
     match call {
-        Call::Join(id, status, dirty, secs) => {
+        Call::Join(id, status, last_dirty, secs) => {
             let statuses = (status, Status::Unknown);
-            join(alloc, registry, id, statuses, dirty, secs, now)
+            join(alloc, registry, id, statuses, last_dirty, secs, now)
         }
         Call::Override(id, over) => join(alloc, registry, id, (Status::Up, over), 0, 90, now),
         Call::Renew(id) => renew(alloc, registry, id, None, None, false, now),
@@ -159,10 +161,12 @@ pub fn answer<C: Chooser>(
         }
         Call::Set(id, status) => set(alloc, registry, id, status, now),
         Call::Unset(id, status) => unset(alloc, registry, id, status, now),
-        Call::Adopt(id, over, dirty, secs) => adopt(alloc, registry, id, over, dirty, secs, now),
+        Call::Adopt(id, over, last_dirty, secs) => adopt(
+            alloc, registry, id, over, last_dirty, secs, now,
+        ),
         Call::Cancel(id) => cancel(alloc, registry, "A", id),
         Call::CancelOther(id) => cancel(alloc, registry, "B", id),
-        Call::Roll => Ok(registry.roll()),
+        Call::EndMinute => Ok(registry.end_minute()),
         Call::Update => Ok(registry.update()),
         Call::Reconfigure(preservation, percent, interval, evict_ms) => {
             let config = Config::new(preservation, percent, interval, evict_ms)?;
@@ -180,7 +184,7 @@ pub fn tell(out: &mut String, reply: &Reply) -> Result<(), AllocError> {
         Reply::Done => out.push_str("done "),
         Reply::NotFound => out.push_str("none "),
         Reply::Stale => out.push_str("stale "),
-        Reply::Conflict(held) => tell_number(out, "conflict", held.dirty.value()),
+        Reply::Conflict(held) => tell_number(out, "conflict", held.last_dirty.value()),
         Reply::Last(renewals) => tell_number(out, "last", *renewals),
         Reply::Expected(clients) => tell_number(out, "expected", *clients),
         Reply::Evicted(victims) => tell_ids(out, victims),
@@ -240,8 +244,8 @@ fn tell_found(out: &mut String, found: Option<(&Instance, Times)>) -> Result<(),
     let Some((instance, times)) = found else {
         return out.push_str("hidden ");
     };
-    let (dirty, secs) = (instance.dirty.value(), instance.secs.secs());
-    let numbers = [dirty, u64::from(secs), times.updated];
+    let (last_dirty, secs) = (instance.last_dirty.value(), instance.secs.secs());
+    let numbers = [last_dirty, u64::from(secs), times.updated];
     tell_lease(out, instance.status, numbers.as_slice())
 }
 
@@ -413,8 +417,8 @@ fn nobody_is_expected_where_none_was(rt: HostRuntime) {
 const MINUTES: [(u64, Line); 4] = [
     (0, UP),
     (0, Line::Do(Call::Renew("i1"))),
-    (1, Line::Do(Call::Roll)),
-    (2, Line::Do(Call::Roll)),
+    (1, Line::Do(Call::EndMinute)),
+    (2, Line::Do(Call::EndMinute)),
 ];
 
 #[test]
@@ -530,7 +534,7 @@ fn half_of_the_expired_are_drawn(rt: HostRuntime) {
     assert!(rt; tells == Ok(true));
 }
 
-/// A pass, and then a cancel of one that it evicted and of one that is held.
+/// An eviction, and then a cancel of one that it took and of one that is held.
 const FEWER: [(u64, Line); 10] = [
     (0, Line::Do(Call::Join("i0", Status::Up, 0, 90))),
     (0, Line::Do(Call::Join("i1", Status::Up, 0, 90))),
@@ -621,7 +625,7 @@ const STAMPS: [(u64, Line); 8] = [
     (1, Line::Do(Call::Stamped("i1", 9, true))),
     (1, Line::Do(Call::Stamped("i1", 10, true))),
     (1, Line::Do(Call::Stamped("i1", 11, true))),
-    (1, Line::Do(Call::Roll)),
+    (1, Line::Do(Call::EndMinute)),
 ];
 
 #[test]
@@ -638,7 +642,7 @@ const SET: [(u64, Line); 8] = [
     (3, Line::Do(Call::Unset("i1", None))),
     (4, Line::Do(Call::Renew("i1"))),
     (5, Line::Do(Call::Set("i2", Status::Up))),
-    (6, Line::Do(Call::Roll)),
+    (6, Line::Do(Call::EndMinute)),
 ];
 
 #[test]
@@ -672,16 +676,16 @@ fn a_peer_brings_a_row(rt: HostRuntime) {
     assert!(rt; tells(rt.alloc(), (true, 85, 0), BROUGHT.as_slice(), words) == Ok(true));
 }
 
-/// Other settings between a renewal, a minute's end and passes.
+/// Other settings between a renewal, a minute's end and evictions.
 const SETTINGS: [(u64, Line); 11] = [
     (0, UP),
     (0, Line::Do(Call::Renew("i1"))),
-    (0, Line::Do(Call::Roll)),
+    (0, Line::Do(Call::EndMinute)),
     (0, Line::Do(Call::Renew("i1"))),
     (0, Line::Counts),
     (0, Line::Do(Call::Reconfigure(false, 50, 15, 90_000))),
     (0, Line::Counts),
-    (0, Line::Do(Call::Roll)),
+    (0, Line::Do(Call::EndMinute)),
     (0, Line::Do(Call::Evict)),
     (270_000, Line::Do(Call::Reconfigure(true, 0, 30, 90_001))),
     (270_000, Line::Counts),
@@ -695,7 +699,7 @@ fn settings_change_and_all_else_stays(rt: HostRuntime) {
     assert!(rt; tells(rt.alloc(), (true, 85, 2), SETTINGS.as_slice(), words) == Ok(true));
 }
 
-/// A lease of 90 s, a pass at 0, another interval between passes, and a pass at 200,000.
+/// A lease of 90 s, an eviction at 0, another interval between evictions, and an eviction at 200,000.
 fn interval(evict_ms: u32) -> [(u64, Line); 4] {
     [
         (0, UP),

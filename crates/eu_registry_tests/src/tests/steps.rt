@@ -26,17 +26,23 @@ pub enum Step {
     Down(&'static str, Option<u64>),
     /// And takes that back of i1; it may be UP.
     Up,
-    Roll,
+    EndMinute,
     Update,
     /// Self-preservation is off, with a renewal each 15 s.
     Reconfigure,
     Evict,
 }
 
-fn join(alloc: Global, id: &str, status: Status, dirty: u64, secs: u32) -> Result<Command, Fault>
+fn join(
+    alloc: Global,
+    id: &str,
+    status: Status,
+    last_dirty: u64,
+    secs: u32,
+) -> Result<Command, Fault>
     ensures { IfOk result (λ c. is_for_peers c ≡ false) }
 {
-    let instance = instance(alloc, id, (status, Status::Unknown), dirty, secs)?;
+    let instance = instance(alloc, id, (status, Status::Unknown), last_dirty, secs)?;
     Ok(Command::Register {
         instance: BoxedInstance::new(alloc, instance)?,
         replicated: false,
@@ -57,7 +63,7 @@ fn renewal(alloc: Global, stamp: Option<u64>) -> Result<Command, Fault>
 {
     Ok(Command::Renew {
         key: key(alloc, "i1")?,
-        dirty: stamp.and_then(Stamp::new),
+        last_dirty: stamp.and_then(Stamp::new),
         overridden: None,
         replicated: true,
     })
@@ -79,7 +85,7 @@ fn down(alloc: Global, id: &str, stamp: Option<u64>) -> Result<Command, Fault>
     Ok(Command::SetStatus {
         key: key(alloc, id)?,
         status: Status::Down,
-        dirty: stamp.and_then(Stamp::new),
+        last_dirty: stamp.and_then(Stamp::new),
         replicated: false,
     })
 }
@@ -91,7 +97,7 @@ fn up(alloc: Global) -> Result<Command, Fault>
     Ok(Command::UnsetStatus {
         key: key(alloc, "i1")?,
         status: Some(Status::Up),
-        dirty: None,
+        last_dirty: None,
         replicated: false,
     })
 }
@@ -100,13 +106,13 @@ pub fn command(alloc: Global, step: Step) -> Result<Command, Fault>
     ensures { IfOk result (λ c. is_for_peers c ≡ false) }
 {
     match step {
-        Step::Join(id, status, dirty, secs) => join(alloc, id, status, dirty, secs),
+        Step::Join(id, status, last_dirty, secs) => join(alloc, id, status, last_dirty, secs),
         Step::Adopt => adoption(alloc),
         Step::Renew(stamp) => renewal(alloc, stamp),
         Step::Cancel => cancel(alloc),
         Step::Down(id, stamp) => down(alloc, id, stamp),
         Step::Up => up(alloc),
-        Step::Roll => Ok(Command::Roll),
+        Step::EndMinute => Ok(Command::EndMinute),
         Step::Update => Ok(Command::Update),
         Step::Reconfigure => Ok(Command::Reconfigure {
             config: Config::new(false, 85, 15, 0)?,
@@ -117,14 +123,14 @@ pub fn command(alloc: Global, step: Step) -> Result<Command, Fault>
 
 fn tell_copy(out: &mut String, held: &Instance) -> Result<(), AllocError> {
     out.push_str(held.status.name())?;
-    let (dirty, secs) = (held.dirty.value(), held.secs.secs());
-    push_numbers(out, [dirty, u64::from(secs)].as_slice())
+    let (last_dirty, secs) = (held.last_dirty.value(), held.secs.secs());
+    push_numbers(out, [last_dirty, u64::from(secs)].as_slice())
 }
 
 /// Writes the reply as a journal keeps it, as who asked is told it, and as their log keeps it, where they have one.
 fn tell_replies(out: &mut String, answered: &Answered<Reply>) -> Result<(), AllocError> {
     tell(out, &answered.reply)?;
-    tell(out, &answered.told)?;
+    tell(out, &answered.answer)?;
     match &answered.logged {
         Some(logged) => tell(out, logged),
         None => Ok(()),
@@ -242,7 +248,7 @@ fn nothing_is_copied_of_nobody(rt: HostRuntime) {
 const MINUTE: [Step; 5] = [
     Step::Join("i1", Status::Up, 5, 90),
     Step::Renew(None),
-    Step::Roll,
+    Step::EndMinute,
     Step::Update,
     Step::Reconfigure,
 ];
@@ -269,7 +275,7 @@ fn join_three<C: Chooser>(
     Ok(())
 }
 
-/// What comes of a pass, as words.
+/// What comes of an eviction, as words.
 fn pass<C: Chooser>(
     alloc: Global,
     registry: &mut Registry,
@@ -291,7 +297,7 @@ fn passes<C: Chooser>(
     pass(alloc, registry, chooser)
 }
 
-/// Whether that comes of such a pass.
+/// Whether that comes of such an eviction.
 fn passes_tell<C: Chooser>(alloc: Global, chooser: &mut C, words: &str) -> Result<bool, Fault> {
     let mut registry = opened(alloc, false, 0)?;
     let told = passes(alloc, &mut registry, chooser);
@@ -315,8 +321,8 @@ fn each_reply_tells_the_victims(rt: HostRuntime) {
     assert!(rt; draws_tell(rt.alloc(), [1u64, 1].as_slice(), drawn) == Ok(true));
 }
 
-fn tell_rows(out: &mut String, rows: &[(Id, Status)]) -> Result<(), AllocError> {
-    for row in rows {
+fn tell_rows(out: &mut String, overrides: &[(Id, Status)]) -> Result<(), AllocError> {
+    for row in overrides {
         out.push_str(" ")?;
         out.push_str(row.0.as_str())?;
         out.push_str("=")?;
@@ -332,7 +338,7 @@ fn tell_state(out: &mut String, state: &State) -> Result<(), AllocError> {
         out.push_str(" ")?;
         out.push_str(lease.instance.key.id.as_str())?;
     }
-    tell_rows(out, state.rows.as_slice())
+    tell_rows(out, state.overrides.as_slice())
 }
 
 /// What a registry is as plain data.

@@ -3,16 +3,16 @@ use eu_base::{App, Fault, Key, LeaseSecs, Moment, Stamp, Status};
 use eu_fixtures::{instance, key, key_of, moment};
 use eu_lease::Lease;
 use eu_model::Listed;
-use eu_store::{Amendment, Held, Leases, Place};
+use eu_store::{Amendment, HeldLease, Leases, Place};
 use std::alloc::{AllocError, Global};
 use std::test::Fail;
 
 /// A lease of 10 s that is made at 0, of an instance that is UP.
-fn held(alloc: Global, id: &str) -> Result<Held, Fault> {
+fn held(alloc: Global, id: &str) -> Result<HeldLease, Fault> {
     let moment = moment(0)?;
     let instance = instance(alloc, id, 7, 10)?;
     let lease = Lease::fresh(moment, instance.secs);
-    Ok(Held::new(Box::new(alloc, instance)?, lease))
+    Ok(HeldLease::new(Box::new(alloc, instance)?, lease))
 }
 
 /// Puts such a lease under that key, where none is held.
@@ -107,18 +107,18 @@ fn up(moment: Moment) -> Amendment {
         moment,
         status: Status::Up,
         overridden: Status::Unknown,
-        dirty: None,
+        last_dirty: None,
         comes_up: true,
     }
 }
 
 /// What renews a lease and puts its instance DOWN, with that stamp.
-fn down(moment: Moment, dirty: Option<Stamp>) -> Amendment {
+fn down(moment: Moment, last_dirty: Option<Stamp>) -> Amendment {
     Amendment::InStatuses {
         moment,
         status: Status::Down,
         overridden: Status::Down,
-        dirty,
+        last_dirty,
         comes_up: false,
     }
 }
@@ -173,14 +173,21 @@ fn a_hint_may_be_old(rt: HostRuntime) -> Result<(), Fail> {
 /// The stamp and the duration of a held instance.
 fn stamp(leases: &Leases, key: &Key) -> Option<(u64, u32)> {
     match leases.get(key) {
-        Some(held) => Some((held.instance().dirty.value(), held.instance().secs.secs())),
+        Some(held) => Some((
+            held.instance().last_dirty.value(),
+            held.instance().secs.secs(),
+        )),
         None => None,
     }
 }
 
 /// The same of i1, when it is renewed and DOWN with that stamp.
-fn amended(alloc: Global, leases: &mut Leases, dirty: u64) -> Result<Option<(u64, u32)>, Fault> {
-    let (now, stamped) = (moment(5)?, Stamp::new(dirty));
+fn amended(
+    alloc: Global,
+    leases: &mut Leases,
+    last_dirty: u64,
+) -> Result<Option<(u64, u32)>, Fault> {
+    let (now, stamped) = (moment(5)?, Stamp::new(last_dirty));
     let first = key(alloc, "i1")?;
     let place = place(leases, &first);
     if !leases.amend(&first, place, down(now, stamped)) {

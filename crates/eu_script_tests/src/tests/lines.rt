@@ -1,5 +1,6 @@
 ghost use Rattle.std.specs.Prelude.{None, false};
 
+use eu_fixtures::Parts;
 use eu_lines::{Answerer, LONGEST_LINE, Limits, LineError, MOST_BYTES, ScriptFault, answer_lines};
 use eu_stream::{Discarding, ReadFault, Reading, Sink, Source, WriteFault, Writing};
 use std::alloc::{AllocError, Global};
@@ -28,45 +29,6 @@ impl Answerer<u64> for Lengths {
         }
         *context = context.wrapping_add(1);
         Ok(())
-    }
-}
-
-/// Gives a text, so many bytes at a time, and then ends or fails.
-#[derive(Drop)]
-struct Parts<'a> {
-    text: &'a [u8],
-    size: usize,
-    fails: bool,
-    has_failed: bool,
-}
-
-impl<'a> Parts<'a> {
-    fn new(text: &'a [u8], size: usize, fails: bool) -> Parts<'a> {
-        Parts {
-            text,
-            size,
-            fails,
-            has_failed: false,
-        }
-    }
-}
-
-impl Source for Parts<'_> {
-    ghost stream = { λ _. 0 };
-
-    ghost remaining = { λ _. None };
-
-    ghost failed = { λ s. s.has_failed };
-
-    fn read_some(&mut self, buffer: &mut [u8]) -> Result<usize, ReadFault> {
-        if self.text.is_empty() && self.fails {
-            self.has_failed = true;
-            return Err(ReadFault);
-        }
-        let count = self.text.len().min(self.size).min(buffer.len());
-        buffer[..count].copy_from_slice(&self.text[..count]);
-        self.text = &self.text[count..];
-        Ok(count)
     }
 }
 

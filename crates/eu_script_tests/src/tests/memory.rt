@@ -7,7 +7,7 @@ use eu_script::{run_audit, run_script, run_script_with_journal};
 use std::alloc::{AllocError, Global};
 
 /// A script, with what each line prints: one peer is told of a client, and loses what it is told then; an instance is adopted; the settings are changed,
-/// and a pass evicts.
+/// and an eviction comes.
 pub const LINES: [(&str, &str); 20] = [
     ("open 0 1", "opened"),
     ("register 0 A i1 90 UP UNKNOWN 5 c", "204"),

@@ -24,7 +24,7 @@ fn ends_by<R: Read>(
     result == wanted && out.as_slice() == printed
 }
 
-/// The same where self-preservation is on, at 85%, with a renewal each 30 s and an eviction pass each minute.
+/// The same where self-preservation is on, at 85%, with a renewal each 30 s and an eviction each minute.
 pub fn ends<R: Read>(
     alloc: Global,
     reader: &mut R,
@@ -394,7 +394,7 @@ const SETTINGS: [(bool, u32, &[u8], &[u8]); 7] = [
         b"open 3\nregister 0 A i1 10 UP UNKNOWN - c\ncounts 10001\nevict 10001\ncounts 10001\ncancel 10001 A i1 c\ncounts 10001\n",
         b"opened\n204\nheld 1 expected 4 threshold 6 last 0 permitted yes\nevicted 1 A i1\nheld 0 expected 3 threshold 5 last 0 permitted yes\n404\nheld 0 expected 3 threshold 5 last 0 permitted yes\n",
     ),
-    // a pass without a victim leaves the number
+    // an eviction without a victim leaves the number
     (
         false,
         85,
@@ -419,7 +419,7 @@ const PASSES: [(&[u8], &[u8]); 4] = [
         b"open 0\nregister 0 A i1 90 UP UNKNOWN 0 c\nrenew 30000 A i1 - - c\nevict 210000\nevict 210001\n",
         b"opened\n204\n200\nevicted 0\nevicted 1 A i1\n",
     ),
-    // the second pass comes 140,000 ms later than an interval after the first
+    // the second eviction comes 140,000 ms later than an interval after the first
     (
         b"open 0\nregister 0 A i1 90 UP UNKNOWN 0 c\nevict 0\nevict 200000\nevict 230001\n",
         b"opened\n204\nevicted 0\nevicted 0\nevicted 1 A i1\n",
@@ -431,13 +431,13 @@ const PASSES: [(&[u8], &[u8]); 4] = [
 ];
 
 #[test]
-fn passes_evict(rt: HostRuntime) {
+fn evictions_take_what_expired(rt: HostRuntime) {
     for (text, printed) in PASSES.as_slice() {
         assert!(rt; prints(rt.alloc(), false, text, printed));
     }
 }
 
-/// A minute's end, and four passes with counts after each.
+/// A minute's end, and four evictions with counts after each.
 const FOUR_PASSES: &str =
     "roll 0\nevict 100000\ncounts 100000\nevict 100000\ncounts 100000\nevict 100000\ncounts 100000\nevict 100000\ncounts 100000\n";
 
@@ -480,7 +480,7 @@ const SHARED: &str =
     "last 18\nevicted 2 A i0 A i1\nheld 8 expected 8 threshold 13 last 18 permitted yes\nevicted 2 A i2 A i3\nheld 6 expected 6 threshold 10 last 18 permitted yes\nevicted 1 A i4\nheld 5 expected 5 threshold 8 last 18 permitted yes\nevicted 1 A i5\nheld 4 expected 4 threshold 6 last 18 permitted yes\n";
 
 #[test]
-fn passes_keep_the_share(rt: HostRuntime) {
+fn evictions_keep_the_share(rt: HostRuntime) {
     assert!(rt; waves_print(rt.alloc(), 18, FOUR_PASSES, SHARED) == Ok(true));
 }
 
@@ -488,11 +488,11 @@ const FORBIDDEN: &str =
     "last 17\nevicted 0\nheld 10 expected 10 threshold 17 last 17 permitted no\nevicted 0\nheld 10 expected 10 threshold 17 last 17 permitted no\nevicted 0\nheld 10 expected 10 threshold 17 last 17 permitted no\nevicted 0\nheld 10 expected 10 threshold 17 last 17 permitted no\n";
 
 #[test]
-fn preservation_forbids_passes(rt: HostRuntime) {
+fn preservation_forbids_evictions(rt: HostRuntime) {
     assert!(rt; waves_print(rt.alloc(), 17, FOUR_PASSES, FORBIDDEN) == Ok(true));
 }
 
-/// Between two passes fourteen renewals, which are no more than the threshold was before the first one.
+/// Between two evictions fourteen renewals, which are no more than the threshold was before the first one.
 const FEWER: &str =
     "roll 0\nevict 100000\nrenew 100000 A i9 - - c\nrenew 100000 A i9 - - c\nrenew 100000 A i9 - - c\nrenew 100000 A i9 - - c\nrenew 100000 A i9 - - c\nrenew 100000 A i9 - - c\nrenew 100000 A i9 - - c\nrenew 100000 A i9 - - c\nrenew 100000 A i9 - - c\nrenew 100000 A i9 - - c\nrenew 100000 A i9 - - c\nrenew 100000 A i9 - - c\nrenew 100000 A i9 - - c\nrenew 100000 A i9 - - c\nroll 100000\nevict 100000\ncounts 100000\n";
 
@@ -501,7 +501,7 @@ const FEWER_PRINTED: &str =
     "last 18\nevicted 2 A i0 A i1\n200\n200\n200\n200\n200\n200\n200\n200\n200\n200\n200\n200\n200\n200\nlast 14\nevicted 2 A i2 A i3\nheld 6 expected 6 threshold 10 last 14 permitted yes\n";
 
 #[test]
-fn a_pass_lowers_the_threshold_of_the_next(rt: HostRuntime) {
+fn an_eviction_lowers_the_threshold_of_the_next(rt: HostRuntime) {
     assert!(rt; waves_print(rt.alloc(), 18, FEWER, FEWER_PRINTED) == Ok(true));
 }
 
@@ -512,7 +512,7 @@ const MANY_PRINTED: &str =
     "evicted 45 A i0 A i1 A i10 A i100 A i101 A i102 A i103 A i104 A i105 A i106 A i107 A i108 A i109 A i11 A i110 A i111 A i112 A i113 A i114 A i115 A i116 A i117 A i118 A i119 A i12 A i120 A i121 A i122 A i123 A i124 A i125 A i126 A i127 A i128 A i129 A i13 A i130 A i131 A i132 A i133 A i134 A i135 A i136 A i137 A i138\nheld 255 expected 0 threshold 0 last 0 permitted yes\n";
 
 #[test]
-fn a_pass_evicts_many(rt: HostRuntime) {
+fn an_eviction_takes_many(rt: HostRuntime) {
     assert!(rt; joined_prints(rt.alloc(), false, 0, 300, MANY, MANY_PRINTED) == Ok(true));
 }
 

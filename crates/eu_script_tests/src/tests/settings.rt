@@ -17,7 +17,7 @@ fn the_threshold_is_that_of_the_new_settings_at_once(rt: HostRuntime) {
     assert!(rt; ends(rt.alloc(), &mut reader, wanted, THRESHOLDS_PRINTED));
 }
 
-/// Ten leases of 10 s, of which the first is renewed fourteen times, a minute's end, and two passes, between which the percentage falls.
+/// Ten leases of 10 s, of which the first is renewed fourteen times, a minute's end, and two evictions, between which the percentage falls.
 fn falling(alloc: Global) -> Result<String, AllocError> {
     let mut text = joined(alloc, 0, 10, 10)?;
     text.push_str("update 0\n")?;
@@ -51,13 +51,14 @@ fn falls(alloc: Global) -> Result<bool, AllocError> {
 }
 
 #[test]
-fn a_lower_percentage_lets_a_pass_evict(rt: HostRuntime) {
+fn a_lower_percentage_permits_an_eviction(rt: HostRuntime) {
     assert!(rt; falls(rt.alloc()) == Ok(true));
 }
 
-/// A lease of 90 s, a pass at 0, other settings, and a pass. The lease goes where 90,000 and the extra time are before that pass.
+/// A lease of 90 s, an eviction at 0, other settings, and an eviction. The lease goes where 90,000 and the extra time are before the
+/// latter.
 const INTERVALS: [(&[u8], &[u8]); 5] = [
-    // 60,000 ms between passes: an extra time of 140,000
+    // 60,000 ms between evictions: an extra time of 140,000
     (
         b"open 0\nregister 0 A i1 90 UP UNKNOWN - c\nevict 0\nconfig 100000 off 85 30 60000\nevict 200000\n",
         b"opened\n204\nevicted 0\n200\nevicted 0\n",

@@ -19,9 +19,9 @@ fn tell_instance(
     instance: &Instance,
 ) -> Result<(), AllocError> {
     tell_key(text, verb, moment, &instance.key)?;
-    let (secs, dirty) = (instance.secs.secs(), instance.dirty.value());
+    let (secs, last_dirty) = (instance.secs.secs(), instance.last_dirty.value());
     let (status, overridden) = (instance.status, instance.overridden);
-    write!(text, " {secs} {status:?} {overridden:?} {dirty}")
+    write!(text, " {secs} {status:?} {overridden:?} {last_dirty}")
 }
 
 fn number(stamp: &Option<Stamp>) -> Option<u64> {
@@ -44,33 +44,33 @@ fn tell_stamped(text: &mut String, moment: &Moment, command: &Command) -> Result
     match command {
         Command::Renew {
             key,
-            dirty,
+            last_dirty,
             overridden,
             replicated,
         } => {
             tell_key(text, "renew", moment, key)?;
-            let dirty = number(dirty);
-            write!(text, " {dirty:?} {overridden:?} {replicated}")
+            let last_dirty = number(last_dirty);
+            write!(text, " {last_dirty:?} {overridden:?} {replicated}")
         }
         Command::SetStatus {
             key,
             status,
-            dirty,
+            last_dirty,
             replicated,
         } => {
             tell_key(text, "set", moment, key)?;
-            let dirty = number(dirty);
-            write!(text, " {status:?} {dirty:?} {replicated}")
+            let last_dirty = number(last_dirty);
+            write!(text, " {status:?} {last_dirty:?} {replicated}")
         }
         Command::UnsetStatus {
             key,
             status,
-            dirty,
+            last_dirty,
             replicated,
         } => {
             tell_key(text, "unset", moment, key)?;
-            let dirty = number(dirty);
-            write!(text, " {status:?} {dirty:?} {replicated}")
+            let last_dirty = number(last_dirty);
+            write!(text, " {status:?} {last_dirty:?} {replicated}")
         }
         _ => Ok(()),
     }
@@ -104,7 +104,7 @@ fn tell_command(text: &mut String, moment: &Moment, command: &Command) -> Result
             write!(text, " {replicated}")
         }
         Command::Adopt { instance } => tell_instance(text, "adopt", moment, instance),
-        Command::Roll => write!(text, "roll {}", moment.ms()),
+        Command::EndMinute => write!(text, "roll {}", moment.ms()),
         Command::Update => write!(text, "update {}", moment.ms()),
         Command::Reconfigure { config } => tell_settings(text, moment, config),
         Command::Evict => write!(text, "evict {}", moment.ms()),

@@ -1,7 +1,7 @@
 //! Connections as they are accepted, and timers by their pace.
 
-use eu_accept::{Acceptor, Connections, Pace, Timeouts};
-use eu_gate::{Admission, BUCKET, EVICTOR, Gate, Go, Periods, Point, Source, THRESHOLD};
+use eu_accept::{Acceptor, Admission, Connections, Pace, Timeouts};
+use eu_gate::{BUCKET, EVICTOR, Gate, Go, Incoming, Periods, Point, THRESHOLD};
 use std::io::ErrorKind;
 use std::net::{Net, TcpListener, TcpStream};
 use std::sync::Wait;

@@ -493,7 +493,7 @@ fn timers_evict_and_count_anew(rt: HostRuntime) -> Result<(), Fail> {
 const EMPTY: &str =
     "HTTP/1.1 200 OK\r\nContent-Type: text/plain; charset=utf-8\r\nContent-Length: 78\r\nConnection: close\r\n\r\nheld 0\nexpected 1\nthreshold 1\nlast 0\npreservation off\npermitted yes\nstatuses \n";
 
-/// Whether a client that registers for a second between the first pass and the second, three seconds apart, is evicted by the second.
+/// Whether a client that registers for a second between the first eviction and the second, three seconds apart, is taken by the second.
 fn is_evicted_by_the_second<R: Net<Stream = TcpStream> + Clock>(
     rt: &R,
     alloc: Global,
@@ -506,10 +506,10 @@ fn is_evicted_by_the_second<R: Net<Stream = TcpStream> + Clock>(
     Ok(registered && is_answered_on(alloc, last, LOOK, EMPTY))
 }
 
-/// A pass that comes in time, by the settings, grants no lease any time. (Where it granted what lies between two passes, the lease would
-/// be there until the third.)
+/// An eviction that comes in time, by the settings, grants no lease any time. (Where it granted what lies between two evictions, the
+/// lease would be there until the third.)
 #[test]
-fn a_pass_in_time_grants_nothing(rt: HostRuntime) -> Result<(), Fail> {
+fn an_eviction_in_time_grants_nothing(rt: HostRuntime) -> Result<(), Fail> {
     let (listener, address) = listen(&rt)?;
     let mut plan = plan(2, 10_000)?;
     plan.config = Config::new(false, 85, 30, 60_000)?;
@@ -527,7 +527,7 @@ fn a_pass_in_time_grants_nothing(rt: HostRuntime) -> Result<(), Fail> {
     Ok(())
 }
 
-/// Settings whose interval between two passes is some fifty days.
+/// Settings whose interval between two evictions is some fifty days.
 const OTHER_SETTINGS: &str =
     "PUT /eureka/config?preservation=off&percent=85&interval=30&evictMs=4294967295 HTTP/1.1\r\nHost: x\r\nConnection: close\r\n\r\n";
 

@@ -1,10 +1,10 @@
 //! Batches of peers, as sessions with a book answer them.
-use crate::tests::served::{answers, looked, opened, opened_with, registered};
+use crate::tests::served::{answers, opened, opened_with, registered};
 use crate::tests::sessions::RENEWED;
 use eu_base::{Fault, Moment};
 use eu_book::{Book, Receipt};
 use eu_clock::FirstChooser;
-use eu_fixtures::{ITEM_DONE, ITEM_MISSING, RENEWAL, joined, push_number};
+use eu_fixtures::{ITEM_DONE, ITEM_MISSING, RENEWAL, joined, looked, push_number};
 use eu_model::{Command, Reply};
 use std::alloc::{AllocError, Global};
 

@@ -6,7 +6,7 @@ use eu_base::Fault;
 use eu_book::Book;
 use eu_clock::ListClock;
 use eu_fixtures::{
-    LISTED, MISSING, REGISTERED, REGISTRATION, RENEWAL, clock, joined, pause_or_go_on,
+    MISSING, REGISTERED, REGISTRATION, RENEWAL, clock, joined, looked, pause_or_go_on,
 };
 use eu_routes::Routes;
 use eu_session::{SessionFault, serve_session};
@@ -21,7 +21,7 @@ const UNAVAILABLE: &str =
 #[derive(Drop)]
 struct Play {
     text: String,
-    shown: String,
+    looked: String,
     routes: Routes,
     book: Book,
     clock: ListClock,
@@ -40,20 +40,10 @@ fn text(alloc: Global) -> Result<String, AllocError> {
     )
 }
 
-fn shown(alloc: Global) -> Result<String, AllocError> {
-    joined(
-        alloc,
-        &[
-            "HTTP/1.1 200 OK\r\nContent-Type: application/json\r\nContent-Length: 345\r\n\r\n",
-            LISTED,
-        ],
-    )
-}
-
 fn make_play(alloc: Global) -> Result<Play, Fault> {
     Ok(Play {
         text: text(alloc)?,
-        shown: shown(alloc)?,
+        looked: looked(alloc)?,
         routes: Routes::new(alloc)?,
         book: opened(alloc)?,
         clock: clock(alloc, &[1000, 1001, 1002])?,
@@ -101,7 +91,7 @@ fn responses(text: &str, wanted: &[&str]) -> Option<u32> {
 /// How many whole responses a session wrote.
 fn written(play: &Play) -> Option<u32> {
     let text = str::from_utf8(&play.out).unwrap_or("?");
-    responses(text, &[REGISTERED, play.shown.as_str(), RENEWED])
+    responses(text, &[REGISTERED, play.looked.as_str(), RENEWED])
 }
 
 /// Whether a session of three requests answers them all, or ends by want of memory behind whole responses, and asked for no more than

@@ -1,16 +1,18 @@
 //! Sessions with a registry, as clients hold them.
-use crate::tests::sessions::{LONG, LONG_REFUSED, Parts, RENEWED};
-use eu_base::{Fault, Moment};
-use eu_book::{Book, MOST_ENTRIES};
+use crate::tests::sessions::{LONG, LONG_REFUSED, RENEWED};
+use eu_base::{Fault, MOST_ENTRIES, Moment};
+use eu_book::Book;
 use eu_clock::{FirstChooser, ListClock};
-use eu_fixtures::{FORBIDDEN, LISTED, MISSING, REGISTRATION, RENEWAL, clock, joined, settings};
+use eu_fixtures::{
+    FORBIDDEN, LISTED, MISSING, Parts, REGISTRATION, RENEWAL, clock, joined, looked, settings,
+};
 use eu_model::Command;
 use eu_routes::Routes;
 use eu_session::{serve_session, sessions_are_runs};
 use eu_stream::Writing;
 use std::alloc::{AllocError, Global};
 
-/// Self-preservation is on, at 85%, with a renewal each 30 s and an eviction pass each minute. Nobody is expected.
+/// Self-preservation is on, at 85%, with a renewal each 30 s and an eviction each minute. Nobody is expected.
 pub fn opened_with(alloc: Global, peers: u32) -> Result<Book, Fault> {
     if peers > 8 {
         return Err(Fault::BadValue);
@@ -326,20 +328,9 @@ fn targets_are_read_as_clients_write_them(rt: HostRuntime) {
     assert!(rt; registered_targeted(rt.alloc(), TARGETS.as_slice()) == Ok(true));
 }
 
-/// What a look at the lease of the client is answered.
-pub fn looked(alloc: Global) -> Result<String, AllocError> {
-    joined(
-        alloc,
-        &[
-            "HTTP/1.1 200 OK\r\nContent-Type: application/json\r\nContent-Length: 345\r\n\r\n",
-            LISTED,
-        ],
-    )
-}
-
 /// Whether the end of a minute is told to the book.
 fn is_rolled(alloc: Global, book: &mut Book, now: Moment) -> bool {
-    book.apply(alloc, 0, Command::Roll, now, &mut FirstChooser)
+    book.apply(alloc, 0, Command::EndMinute, now, &mut FirstChooser)
         .is_ok()
 }
 

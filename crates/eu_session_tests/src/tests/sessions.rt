@@ -4,10 +4,9 @@ ghost use Rattle.std.specs.Prelude.{None};
 use crate::tests::texts::repeated;
 use eu_base::{App, Fault, Moment};
 use eu_clock::{Clock, ListClock};
-use eu_desk::{Answer, Ask, Desk};
-use eu_fixtures::{LISTED, REGISTRATION, RENEWAL, clock, joined, push_number};
+use eu_fixtures::{LISTED, Parts, REGISTRATION, RENEWAL, clock, done, joined, push_number};
 use eu_json::read_instance;
-use eu_model::{Command, Listed, Query, Reply, Times, View};
+use eu_model::{Answer, Ask, Command, Desk, Listed, Query, Reply, Times, View};
 use eu_routes::Routes;
 use eu_session::{MAX_REQUESTS, SessionFault, serve_session};
 use eu_stream::{ReadFault, Sink, Source, WriteFault};
@@ -22,58 +21,6 @@ pub const LONG: &str = "POST /eureka/apps/a HTTP/1.1\r\nHost: x\r\nContent-Lengt
 
 pub const LONG_REFUSED: &str =
     "HTTP/1.1 413 Payload Too Large\r\nContent-Type: application/json\r\nContent-Length: 12\r\nConnection: close\r\n\r\n{\"fault\":34}";
-
-/// Gives two texts, no read over both, and then ends or fails.
-#[derive(Drop)]
-pub struct Parts<'a> {
-    first: &'a [u8],
-    second: &'a [u8],
-    fails: bool,
-    has_failed: bool,
-}
-
-impl<'a> Parts<'a> {
-    pub fn ending(first: &'a [u8], second: &'a [u8]) -> Parts<'a> {
-        Parts {
-            first,
-            second,
-            fails: false,
-            has_failed: false,
-        }
-    }
-
-    fn failing(text: &'a [u8]) -> Parts<'a> {
-        Parts {
-            first: text,
-            second: b"".as_slice(),
-            fails: true,
-            has_failed: false,
-        }
-    }
-}
-
-impl Source for Parts<'_> {
-    ghost stream = { λ _. 0 };
-
-    ghost remaining = { λ _. None };
-
-    ghost failed = { λ s. s.has_failed };
-
-    fn read_some(&mut self, buffer: &mut [u8]) -> Result<usize, ReadFault> {
-        if self.first.is_empty() {
-            self.first = self.second;
-            self.second = b"".as_slice();
-        }
-        if self.first.is_empty() && self.fails {
-            self.has_failed = true;
-            return Err(ReadFault);
-        }
-        let count = self.first.len().min(buffer.len());
-        buffer[..count].copy_from_slice(&self.first[..count]);
-        self.first = &self.first[count..];
-        Ok(count)
-    }
-}
 
 /// Holds what is written, and fails where it is full.
 #[derive(Drop)]
@@ -146,39 +93,17 @@ impl Desk for Stored {
 
     fn ask(&mut self, alloc: Global, ask: Ask, moment: Moment) -> Result<Answer, Fault> {
         self.count = self.count.saturating_add(1);
-        let kind = kind_of(&ask);
+        let reply = done(&ask);
         let noted = note_ask(&mut self.asked, &ask, moment);
         drop(ask);
         noted?;
-        match self.faults.pop() {
-            Some(fault) => Err(fault),
-            None => found(alloc, kind),
+        if let Some(fault) = self.faults.pop() {
+            return Err(fault);
         }
-    }
-}
-
-/// What kind of ask it is.
-#[derive(Clone, Copy)]
-enum Kind {
-    Registration,
-    Other,
-    Query,
-}
-
-fn kind_of(ask: &Ask) -> Kind {
-    match ask {
-        Ask::Do(Command::Register { .. }) => Kind::Registration,
-        Ask::Do(_) => Kind::Other,
-        Ask::See(_) => Kind::Query,
-    }
-}
-
-/// What is answered to an ask of a kind.
-fn found(alloc: Global, kind: Kind) -> Result<Answer, Fault> {
-    match kind {
-        Kind::Registration => Ok(Answer::Did(Reply::Registered { fresh: true })),
-        Kind::Other => Ok(Answer::Did(Reply::Done)),
-        Kind::Query => Ok(Answer::Saw(View::One(Some(listed(alloc)?)))),
+        match reply {
+            Some(reply) => Ok(Answer::Did(reply)),
+            None => Ok(Answer::Saw(View::One(Some(listed(alloc)?)))),
+        }
     }
 }
 
@@ -190,7 +115,7 @@ fn note_ask(out: &mut String, ask: &Ask, moment: Moment) -> Result<(), AllocErro
                 instance,
                 replicated: false,
             },
-        ) => note_number(out, "register", instance.dirty.value(), moment),
+        ) => note_number(out, "register", instance.last_dirty.value(), moment),
         Ask::See(Query::One(key)) => note(out, key.app.as_str(), key.id.as_str(), moment),
         _ => note(out, "other", "", moment),
     }
@@ -441,7 +366,7 @@ fn tells_of_the_reader(alloc: Global) -> Result<bool, Fault> {
     let mut desk = Stored::of(alloc);
     let text = joined(alloc, &[RENEWAL, "PUT /eureka/apps/A/i1 HTTP/1.1\r\n"])?;
     let session = joined(alloc, &["fault 40 asks 1 next 1001 ", RENEWED])?;
-    let mut reader = Parts::failing(text.as_bytes());
+    let mut reader = Parts::failing(text.as_bytes(), b"");
     let told = served(alloc, &mut desk, &mut reader, usize::MAX)?;
     Ok(told == session)
 }

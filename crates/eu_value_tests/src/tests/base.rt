@@ -197,14 +197,14 @@ fn settings_have_limits(rt: HostRuntime) {
 }
 
 fn instance(alloc: Global, overridden: Status) -> Result<Instance, Fault> {
-    let dirty = Stamp::new(7).ok_or(Fault::BadStamp)?;
+    let last_dirty = Stamp::new(7).ok_or(Fault::BadStamp)?;
     let key = key_of(alloc, "a", "i1")?;
     let rest = Rest::of_host(alloc, "i1")?;
     Ok(Instance {
         key,
         status: Status::Starting,
         overridden,
-        dirty,
+        last_dirty,
         secs: LeaseSecs::DEFAULT,
         interval: RenewalSecs::DEFAULT,
         rest,
@@ -233,7 +233,7 @@ fn have_same_members(alloc: Global, rest: &Rest, other: &Rest) -> Result<bool, A
 fn is_out_of_service(instance: &Instance) -> bool {
     instance.status == Status::Starting
         && instance.overridden == Status::OutOfService
-        && instance.dirty.value() == 7
+        && instance.last_dirty.value() == 7
         && instance.secs.secs() == 90
         && instance.interval.secs() == 30
 }

@@ -1,6 +1,5 @@
 //! Draws, with what they leave worked out by hand.
-use eu_choice::choose;
-use eu_clock::{FirstChooser, ListChooser, RngChooser};
+use eu_clock::{FirstChooser, ListChooser, RngChooser, choose};
 use std::test::Fail;
 
 #[test]

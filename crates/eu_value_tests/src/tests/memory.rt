@@ -1,7 +1,7 @@
 //! Want of memory. In a usual run no allocation is refused; `tools/sweep_memory.sh` refuses one after another.
-use eu_base::{Action, Fault, Status, Task};
+use eu_base::{Action, Fault, Status, Task, Tasks};
 use eu_fixtures::{key, moment};
-use eu_model::{Queue, Tasks};
+use eu_model::Queue;
 use eu_outbox::Outbox;
 use std::alloc::{AllocError, Global};
 

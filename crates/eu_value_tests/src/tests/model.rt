@@ -1,7 +1,9 @@
 //! Lists of keys and of leases.
-use eu_base::{Action, App, BoxedInstance, Config, Fault, Id, Key, Moment, Stamp, Status, Task};
+use eu_base::{
+    Action, App, BoxedInstance, Config, Fault, Id, Key, Keys, Moment, Stamp, Status, Task, Tasks,
+};
 use eu_fixtures::{instance, key, settings};
-use eu_model::{Command, Keys, Listed, Listing, Reply, Rows, Tally, Tasks, Times};
+use eu_model::{Command, Listed, Listing, OverrideRows, Reply, Tally, Times};
 use std::alloc::Global;
 
 /// The list of that key.
@@ -54,17 +56,17 @@ fn listings_are_shown(rt: HostRuntime) {
     assert!(rt; shows_a_lease(rt.alloc()) == Ok(true));
 }
 
-fn rows(alloc: Global) -> Result<Rows, Fault> {
+fn overrides(alloc: Global) -> Result<OverrideRows, Fault> {
     let id = Id::read(alloc, "i1")?;
     let mut list = Vec::new(alloc);
     list.push((id, Status::Down))?;
-    Ok(Rows::new(list))
+    Ok(OverrideRows::new(list))
 }
 
 /// Whether a list of a row shows it.
 fn shows_a_row(alloc: Global) -> Result<bool, Fault> {
-    let rows = rows(alloc)?;
-    Ok(match rows.as_slice() {
+    let overrides = overrides(alloc)?;
+    Ok(match overrides.as_slice() {
         [(id, status)] => id.as_str() == "i1" && status.name() == "DOWN",
         _ => false,
     })
@@ -111,7 +113,7 @@ fn keys_are_copied(rt: HostRuntime) {
 /// A reply as a word and a number: of a conflict the stamp of its instance.
 fn in_short(reply: &Reply) -> (&'static str, u64) {
     match reply {
-        Reply::Conflict(held) => ("conflict", held.dirty.value()),
+        Reply::Conflict(held) => ("conflict", held.last_dirty.value()),
         Reply::Registered { fresh: true } => ("fresh", 0),
         Reply::Last(renewals) => ("last", *renewals),
         _ => ("other", 0),
@@ -127,9 +129,9 @@ fn is_reply_copied(alloc: Global, reply: &Reply, short: (&str, u64)) -> Result<b
 }
 
 /// Whether a conflict is copied, with an instance of that stamp.
-fn is_conflict_copied(alloc: Global, dirty: u64) -> Result<bool, Fault> {
+fn is_conflict_copied(alloc: Global, last_dirty: u64) -> Result<bool, Fault> {
     let conflict = Reply::Conflict(BoxedInstance::new(alloc, instance(alloc, "i1", 7, 90)?)?);
-    let copied = is_reply_copied(alloc, &conflict, ("conflict", dirty));
+    let copied = is_reply_copied(alloc, &conflict, ("conflict", last_dirty));
     drop(conflict);
     copied
 }
@@ -142,7 +144,7 @@ fn is_same_copy(alloc: Global, reply: &Reply) -> Result<bool, Fault> {
     Ok(same)
 }
 
-/// Whether that is so of a pass that took a lease out.
+/// Whether that is so of an eviction that took a lease out.
 fn is_pass_copied(alloc: Global) -> Result<bool, Fault> {
     let pass = Reply::Evicted(two_keys(alloc)?);
     let copied = is_same_copy(alloc, &pass);
@@ -174,7 +176,7 @@ fn renewal(alloc: Global, replicated: bool) -> Result<Command, Fault> {
     let key = key(alloc, "i1")?;
     Ok(Command::Renew {
         key,
-        dirty: Stamp::new(9),
+        last_dirty: Stamp::new(9),
         overridden: Some(Status::Down),
         replicated,
     })
@@ -185,7 +187,7 @@ fn renewed_stamp(command: &Command) -> u64 {
     match command {
         Command::Renew {
             key: _,
-            dirty: Some(stamp),
+            last_dirty: Some(stamp),
             overridden: Some(Status::Down),
             replicated: true,
         } => stamp.value(),
@@ -261,9 +263,8 @@ fn boxed_secs(alloc: Global) -> Result<(u32, u32), Fault> {
     let copy = boxed.copy_boxed(alloc)?;
     let copied = copy.secs.secs();
     drop(copy);
-    let instance = boxed.into_inner();
-    let secs = instance.secs.secs();
-    drop(instance);
+    let secs = boxed.secs.secs();
+    drop(boxed);
     Ok((secs, copied))
 }
 
@@ -272,7 +273,7 @@ fn instances_lie_on_the_heap(rt: HostRuntime) {
     assert!(rt; boxed_secs(rt.alloc()) == Ok((90, 90)));
 }
 
-/// What an eviction pass did that took out one lease.
+/// What an eviction did that took out one lease.
 fn eviction_tally(alloc: Global) -> Result<Tally, Fault> {
     let victims = Reply::Evicted(keys(alloc, "i1")?);
     let tally = Tally::of(&Command::Evict, &victims);
@@ -285,7 +286,7 @@ fn renewal_tally(alloc: Global, reply: &Reply) -> Result<Tally, Fault> {
     let key = key(alloc, "i1")?;
     let renewal = Command::Renew {
         key,
-        dirty: None,
+        last_dirty: None,
         overridden: None,
         replicated: false,
     };
@@ -459,8 +460,8 @@ fn changes_of_settings_are_compared_and_copied(rt: HostRuntime) {
     assert!(rt; is_change_copied(rt.alloc()) == Ok(true));
 }
 
-/// Whether a pass that took i1 out is answered so.
-fn is_pass(alloc: Global, reply: &Reply) -> Result<bool, Fault> {
+/// Whether an eviction that took i1 out is answered so.
+fn is_evict(alloc: Global, reply: &Reply) -> Result<bool, Fault> {
     let pass = Reply::Evicted(keys(alloc, "i1")?);
     let same = pass.same(reply);
     drop(pass);
@@ -469,7 +470,7 @@ fn is_pass(alloc: Global, reply: &Reply) -> Result<bool, Fault> {
 
 fn is_same_pass(alloc: Global, id: &str) -> Result<bool, Fault> {
     let pass = Reply::Evicted(keys(alloc, id)?);
-    let same = is_pass(alloc, &pass);
+    let same = is_evict(alloc, &pass);
     drop(pass);
     same
 }

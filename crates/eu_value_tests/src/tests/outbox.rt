@@ -1,7 +1,6 @@
 //! Values from the rules of Eureka's batches, worked out by hand.
-use eu_base::{Action, Fault, Moment, Status, Task};
+use eu_base::{Action, Fault, Moment, Status, Task, Tasks};
 use eu_fixtures::{key, moment};
-use eu_model::Tasks;
 use eu_outbox::Outbox;
 use std::alloc::{AllocError, Global};
 

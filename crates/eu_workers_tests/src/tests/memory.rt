@@ -115,9 +115,9 @@ fn opened(alloc: Global) -> Result<Pair, Fault> {
 }
 
 /// Tells a book of i1 with this stamp, as a peer does.
-fn tell_of(alloc: Global, book: &mut Book, dirty: u64) -> Result<(), Fault> {
-    match tell(alloc, book, replicated(alloc, "i1", dirty)) {
-        Err(Fault::OutOfMemory) => tell(alloc, book, replicated(alloc, "i1", dirty)),
+fn tell_of(alloc: Global, book: &mut Book, last_dirty: u64) -> Result<(), Fault> {
+    match tell(alloc, book, replicated(alloc, "i1", last_dirty)) {
+        Err(Fault::OutOfMemory) => tell(alloc, book, replicated(alloc, "i1", last_dirty)),
         answer => answer,
     }
 }

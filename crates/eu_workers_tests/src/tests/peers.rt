@@ -2,13 +2,12 @@
 ghost use Rattle.std.specs.Prelude.{◌≡◌};
 
 use crate::tests::replicas::Open;
-use crate::tests::servers::{clock, leases};
+use crate::tests::servers::{clock, leases, open};
 use crate::tests::victims::register as register_by;
 use eu_base::{Fault, Moment};
 use eu_clock::ListClock;
-use eu_fixtures::settings;
+use eu_in_process::InProcess;
 use eu_model::Query;
-use eu_peer::InProcess;
 use eu_routes::Routes;
 use eu_shared::{Blanks, Label, Seat, Shared};
 use eu_workers::{Ended, Site, run_replicator};
@@ -151,15 +150,6 @@ fn meet<K: Label + Send + Sync, L: Label + Send + Sync, R: Threads + Wait + Sync
         held_here: held(rt, alloc, here)?,
         held_there: held(rt, alloc, there)?,
     })
-}
-
-/// A server with one peer.
-fn open<K: Label>(alloc: Global, blanks: Blanks) -> Result<Shared<K>, Fault>
-    requires names { (blanks.steps.name ≡ K.steps) × (blanks.counted.name ≡ K.counted) × (blanks.added.name ≡ K.added) × (blanks.removed.name ≡ K.removed) }
-    requires parts { (blanks.steps.parts ≡ K.parts) × (blanks.counted.parts ≡ K.parts) × (blanks.added.parts ≡ K.parts) × (blanks.removed.parts ≡ K.parts) × (K.parts ≡ 1025) }
-{
-    let config = settings()?;
-    Ok(Shared::open(alloc, config, 0, 1, blanks)?)
 }
 
 /// The same of a server and another one that is opened for it.

@@ -1,15 +1,15 @@
 //! The points of the gate that workers pass, with their numbers, and what it does to say `Stop` there.
 ghost use Rattle.std.specs.Prelude.{◌≡◌};
 
+use crate::tests::hands::{push, push_timers, work_through};
 use crate::tests::replicas::registers;
 use eu_base::{Fault, Task};
 use eu_clock::{FirstChooser, ListClock};
 use eu_fixtures::settings;
 use eu_model::Command;
 use eu_peer::{ItemAnswer, Lost, Peer};
-use eu_routes::Routes;
 use eu_shared::{Blanks, Label, Pass, Shared};
-use eu_workers::{Ended, Gate, Go, Job, Point, Site, Source, Work, Worker, run_all};
+use eu_workers::{Ended, Gate, Go, Incoming, Point, Work, Worker};
 use std::alloc::Global;
 use std::io::{self, ErrorKind, Write};
 use std::marker::Brand;
@@ -104,7 +104,7 @@ struct Once<'a> {
     answered: &'a AtomicU64,
 }
 
-impl<'a> Source for Once<'a> {
+impl<'a> Incoming for Once<'a> {
     type Reader = &'static [u8];
 
     type Writer = Keeping<'a>;
@@ -131,7 +131,7 @@ struct Losing<'a> {
 impl Peer for Losing<'_> {
     ghost use Rattle.std.specs.Prelude.{◌≡◌, None};
 
-    ghost told = { λ before batch answers after. answers ≡ None };
+    ghost submits = { λ before batch answers after. answers ≡ None };
 
     fn submit(&mut self, _alloc: Global, batch: &[Task]) -> Result<Vec<ItemAnswer>, Lost> {
         self.sent.fetch_add(batch.len() as u64, Ordering::SeqCst);
@@ -188,50 +188,6 @@ struct Told {
     all: Ended,
 }
 
-/// A worker for one turn, with this pass.
-fn ready<'a, K: Label>(
-    alloc: Global,
-    pass: Pass<K>,
-    work: Work<Once<'a>, FirstChooser, Losing<'a>>,
-) -> Hand<'a, K> {
-    Worker::Ready(Job {
-        pass,
-        clock: ListClock::new(Vec::new(alloc)),
-        limit: 1,
-        work,
-    })
-}
-
-/// Adds a worker for one turn, with a pass of its own.
-fn push<'a, K: Label, R: Wait>(
-    rt: &R,
-    alloc: Global,
-    shared: &Shared<K>,
-    hands: &mut Vec<Hand<'a, K>>,
-    work: Work<Once<'a>, FirstChooser, Losing<'a>>,
-) -> Result<(), Fault> {
-    match shared.pass(rt, alloc) {
-        Ok(pass) => Ok(hands.push(ready(alloc, pass, work))?),
-        Err(fault) => {
-            drop(work);
-            Err(fault)
-        }
-    }
-}
-
-/// Adds each timer's worker.
-fn push_timers<'a, K: Label, R: Wait>(
-    rt: &R,
-    alloc: Global,
-    shared: &Shared<K>,
-    hands: &mut Vec<Hand<'a, K>>,
-) -> Result<(), Fault> {
-    let chooser = FirstChooser;
-    push(rt, alloc, shared, hands, Work::Evictor { chooser })?;
-    push(rt, alloc, shared, hands, Work::Bucket)?;
-    push(rt, alloc, shared, hands, Work::Threshold)
-}
-
 /// Adds the replicators of peers 7 and 0.
 fn push_replicators<'a, K: Label, R: Wait>(
     rt: &R,
@@ -242,7 +198,8 @@ fn push_replicators<'a, K: Label, R: Wait>(
 ) -> Result<(), Fault> {
     for number in [7, 0] {
         let peer = Losing { sent };
-        push(rt, alloc, shared, hands, Work::Replicator { number, peer })?;
+        let work = Work::Replicator { number, peer };
+        push(rt, alloc, shared, hands, 1, work)?;
     }
     Ok(())
 }
@@ -274,7 +231,7 @@ fn push_all<'a, K: Label, R: Wait>(
 ) -> Result<(), Fault> {
     push_timers(rt, alloc, shared, hands)?;
     let source = connection(alloc, counts, is_broken);
-    push(rt, alloc, shared, hands, Work::Sessions { source })?;
+    push(rt, alloc, shared, hands, 1, Work::Sessions { source })?;
     push_replicators(rt, alloc, shared, hands, &counts.sent)
 }
 
@@ -311,27 +268,6 @@ fn tell<K: Label>(told: &mut Told, hand: Hand<'_, K>) {
     }
 }
 
-/// Has them work at a book that is shared.
-fn run_at<K: Label + Send + Sync, R: Threads + Wait + Sync>(
-    rt: &R,
-    alloc: Global,
-    shared: &Shared<K>,
-    gate: &Counting<'_>,
-    workers: &mut [Hand<'_, K>],
-) -> Result<(), Fault> {
-    let routes = Routes::new(alloc)?;
-    let site = Site {
-        rt,
-        alloc,
-        shared,
-        routes: &routes,
-        gate,
-    };
-    run_all(&site, workers);
-    drop(routes);
-    Ok(())
-}
-
 /// Adds all to a list without workers, and has each work in one turn.
 fn run_hands<'a, K: Label + Send + Sync, R: Threads + Wait + Sync>(
     rt: &R,
@@ -343,7 +279,7 @@ fn run_hands<'a, K: Label + Send + Sync, R: Threads + Wait + Sync>(
     is_broken: bool,
 ) -> Result<(), Fault> {
     push_all(rt, alloc, shared, hands, counts, is_broken)?;
-    run_at(rt, alloc, shared, gate, hands.as_mut_slice())
+    work_through(rt, alloc, shared, gate, hands.as_mut_slice())
 }
 
 /// What was counted, before what any worker did.
@@ -565,29 +501,8 @@ fn push_sixteen<'a, K: Label, R: Wait>(
             ended: answered,
             answered,
         };
-        push(rt, alloc, shared, hands, Work::Sessions { source })?;
+        push(rt, alloc, shared, hands, 1, Work::Sessions { source })?;
     }
-    Ok(())
-}
-
-/// Has workers come to the gate.
-fn come_by<K: Label + Send + Sync, R: Threads + Wait + Sync>(
-    rt: &R,
-    alloc: Global,
-    shared: &Shared<K>,
-    gate: &Register,
-    workers: &mut [Hand<'_, K>],
-) -> Result<(), Fault> {
-    let routes = Routes::new(alloc)?;
-    let site = Site {
-        rt,
-        alloc,
-        shared,
-        routes: &routes,
-        gate,
-    };
-    run_all(&site, workers);
-    drop(routes);
     Ok(())
 }
 
@@ -601,7 +516,7 @@ fn come_all<'a, K: Label + Send + Sync, R: Threads + Wait + Sync>(
     answered: &'a AtomicU64,
 ) -> Result<(), Fault> {
     push_sixteen(rt, alloc, shared, workers, answered)?;
-    come_by(rt, alloc, shared, gate, workers.as_mut_slice())
+    work_through(rt, alloc, shared, gate, workers.as_mut_slice())
 }
 
 /// By which numbers they come to the gate, a bit for each.

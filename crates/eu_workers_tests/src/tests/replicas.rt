@@ -7,8 +7,9 @@ use eu_base::{Config, Fault, Moment, Task};
 use eu_book::Book;
 use eu_clock::{FirstChooser, ListClock};
 use eu_fixtures::{registration, settings};
+use eu_in_process::InProcess;
 use eu_model::{Command, Query};
-use eu_peer::{InProcess, ItemAnswer, Lost, Peer};
+use eu_peer::{ItemAnswer, Lost, Peer};
 use eu_routes::Routes;
 use eu_shared::{Blanks, Label, Pass, Shared};
 use eu_workers::{Ended, Gate, Go, Point, Site, run_replicator};
@@ -209,7 +210,7 @@ fn all_done(alloc: Global, batch: &[Task]) -> Result<Vec<ItemAnswer>, AllocError
 }
 
 impl<K: Label, R: Wait> Peer for TakenForLost<'_, K, R> {
-    ghost told = { λ _ _ _ _. Unit {0} };
+    ghost submits = { λ _ _ _ _. Unit {0} };
 
     fn submit(&mut self, alloc: Global, batch: &[Task]) -> Result<Vec<ItemAnswer>, Lost> {
         self.batches = self.batches.saturating_add(1);

@@ -5,8 +5,9 @@ use crate::tests::turns::is_accepted;
 use eu_base::{Fault, Moment};
 use eu_clock::{FirstChooser, ListClock};
 use eu_fixtures::{registration, settings};
+use eu_in_process::InProcess;
 use eu_model::{Query, View};
-use eu_peer::{InProcess, Turn, replicate_turn};
+use eu_peer::{Turn, replicate_turn};
 use eu_shared::{Blanks, Label, Pass, Seat, Shared};
 use std::alloc::Global;
 use std::marker::Brand;
@@ -167,7 +168,7 @@ fn meet<K: Label, L: Label, R: Wait>(
 }
 
 /// A server with one peer.
-fn open<K: Label>(alloc: Global, blanks: Blanks) -> Result<Shared<K>, Fault>
+pub fn open<K: Label>(alloc: Global, blanks: Blanks) -> Result<Shared<K>, Fault>
     requires names { (blanks.steps.name ≡ K.steps) × (blanks.counted.name ≡ K.counted) × (blanks.added.name ≡ K.added) × (blanks.removed.name ≡ K.removed) }
     requires parts { (blanks.steps.parts ≡ K.parts) × (blanks.counted.parts ≡ K.parts) × (blanks.added.parts ≡ K.parts) × (blanks.removed.parts ≡ K.parts) × (K.parts ≡ 1025) }
 {

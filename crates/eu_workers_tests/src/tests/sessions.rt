@@ -1,14 +1,14 @@
 //! Two session workers at once, beside the timers.
 ghost use Rattle.std.specs.Prelude.{◌≡◌};
 
+use crate::tests::hands::{push, push_timers, work_through};
 use eu_base::{Fault, Task};
 use eu_clock::{FirstChooser, ListClock};
 use eu_fixtures::{REGISTERED, settings};
 use eu_peer::{ItemAnswer, Lost, Peer};
-use eu_routes::Routes;
 use eu_settle::{Closed, settle};
 use eu_shared::{Blanks, Label, Pass, Shared, close};
-use eu_workers::{Ended, Gate, Go, Job, Point, Site, Source, Work, Worker, run_all};
+use eu_workers::{Ended, Gate, Go, Incoming, Point, Work, Worker};
 use std::alloc::Global;
 use std::io::{self, Read};
 use std::marker::Brand;
@@ -101,7 +101,7 @@ struct Once<'a> {
     answered: &'a AtomicU64,
 }
 
-impl Source for Once<'_> {
+impl Incoming for Once<'_> {
     type Reader = Pieces;
 
     type Writer = Vec<u8>;
@@ -144,7 +144,7 @@ struct Nobody;
 impl Peer for Nobody {
     ghost use Rattle.std.specs.Prelude.{◌≡◌, None};
 
-    ghost told = { λ before batch answers after. answers ≡ None };
+    ghost submits = { λ before batch answers after. answers ≡ None };
 
     fn submit(&mut self, _alloc: Global, _batch: &[Task]) -> Result<Vec<ItemAnswer>, Lost> {
         Err(Lost)
@@ -152,38 +152,6 @@ impl Peer for Nobody {
 }
 
 type Hand<'a, K> = Worker<K, Once<'a>, ListClock, FirstChooser, Nobody>;
-
-fn hand<'a, K: Label>(
-    alloc: Global,
-    pass: Pass<K>,
-    limit: u64,
-    work: Work<Once<'a>, FirstChooser, Nobody>,
-) -> Hand<'a, K> {
-    Worker::Ready(Job {
-        pass,
-        clock: ListClock::new(Vec::new(alloc)),
-        limit,
-        work,
-    })
-}
-
-/// Adds a worker with a pass of its own.
-fn push<'a, K: Label, R: Wait>(
-    rt: &R,
-    alloc: Global,
-    shared: &Shared<K>,
-    hands: &mut Vec<Hand<'a, K>>,
-    limit: u64,
-    work: Work<Once<'a>, FirstChooser, Nobody>,
-) -> Result<(), Fault> {
-    match shared.pass(rt, alloc) {
-        Ok(pass) => Ok(hands.push(hand(alloc, pass, limit, work))?),
-        Err(fault) => {
-            drop(work);
-            Err(fault)
-        }
-    }
-}
 
 /// Adds two session workers.
 fn push_sessions<'a, K: Label, R: Wait>(
@@ -197,19 +165,6 @@ fn push_sessions<'a, K: Label, R: Wait>(
     push(rt, alloc, shared, hands, 9, first)?;
     let second = serving(alloc, LISTING, "", LISTED, answered);
     push(rt, alloc, shared, hands, 9, second)
-}
-
-/// Adds each timer's worker, for one turn.
-fn push_timers<'a, K: Label, R: Wait>(
-    rt: &R,
-    alloc: Global,
-    shared: &Shared<K>,
-    hands: &mut Vec<Hand<'a, K>>,
-) -> Result<(), Fault> {
-    let chooser = FirstChooser;
-    push(rt, alloc, shared, hands, 1, Work::Evictor { chooser })?;
-    push(rt, alloc, shared, hands, 1, Work::Bucket)?;
-    push(rt, alloc, shared, hands, 1, Work::Threshold)
 }
 
 /// Adds two session workers, and each timer's for one turn.
@@ -313,27 +268,6 @@ fn new_gate<R: Clock>(rt: &R) -> Crossing<'_, R> {
         held: AtomicBool::new(false),
         replied: AtomicBool::new(false),
     }
-}
-
-/// Has them work at a book that is shared, through a gate.
-fn work_through<K: Label + Send + Sync, R: Threads + Wait + Clock + Sync>(
-    rt: &R,
-    alloc: Global,
-    shared: &Shared<K>,
-    gate: &Crossing<'_, R>,
-    workers: &mut [Hand<'_, K>],
-) -> Result<(), Fault> {
-    let routes = Routes::new(alloc)?;
-    let site = Site {
-        rt,
-        alloc,
-        shared,
-        routes: &routes,
-        gate,
-    };
-    run_all(&site, workers);
-    drop(routes);
-    Ok(())
 }
 
 /// Has them work at a book that is shared.

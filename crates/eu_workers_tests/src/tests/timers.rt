@@ -1,6 +1,7 @@
 //! Turns of the timers.
 ghost use Rattle.std.specs.Prelude.{◌≡◌};
 
+use crate::tests::trims::first_number;
 use eu_base::{Fault, Moment};
 use eu_clock::{FirstChooser, ListClock};
 use eu_fixtures::settings;
@@ -39,7 +40,7 @@ fn first_logged<K: Label>(pass: &Pass<K>) -> &'static str {
         [] => "nothing",
         [first, ..] => match first.command {
             Command::Evict => "evict",
-            Command::Roll => "roll",
+            Command::EndMinute => "roll",
             Command::Update => "update",
             _ => "another",
         },
@@ -251,14 +252,6 @@ struct Left {
     first: u64,
 }
 
-/// The number of the first entry of a log.
-fn begins<K: Label>(pass: &Pass<K>) -> Option<u64> {
-    match pass.log() {
-        [] => None,
-        [first, ..] => Some(first.number),
-    }
-}
-
 /// The first entry of a journal that is closed with these passes.
 fn closed_first<K: Label>(
     shared: Shared<K>,
@@ -303,9 +296,9 @@ fn roll_at<K: Label, R: Wait>(
 ) -> Result<(Pass<K>, Ended), Fault> {
     let pass = site.shared.pass(site.rt, site.alloc)?;
     let mut clock = ListClock::new(Vec::new(site.alloc));
-    let rolled = run_bucket(site, pass, &mut clock, turns);
+    let after_minute = run_bucket(site, pass, &mut clock, turns);
     drop(clock);
-    Ok(rolled)
+    Ok(after_minute)
 }
 
 /// The same at a book.
@@ -323,9 +316,9 @@ fn roll_on<K: Label, R: Wait>(
         routes: &routes,
         gate: &Always { go: Go::On },
     };
-    let rolled = roll_at(&site, turns);
+    let after_minute = roll_at(&site, turns);
     drop(routes);
-    rolled
+    after_minute
 }
 
 /// What is left of a worker's turns, once its book is closed.
@@ -336,7 +329,7 @@ fn leave_by<K: Label>(
     ended: Ended,
 ) -> Result<Left, Fault> {
     let logged = pass.log().len();
-    let begins = begins(&pass);
+    let begins = first_number(&pass);
     let first = first_entry(shared, alloc, pass)?;
     Ok(Left {
         ended,

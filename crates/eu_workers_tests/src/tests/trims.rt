@@ -7,11 +7,11 @@ use eu_base::{Config, Fault};
 use eu_book::Book;
 use eu_clock::{FirstChooser, ListClock};
 use eu_fixtures::{RENEWAL, settings};
-use eu_peer::InProcess;
+use eu_in_process::InProcess;
 use eu_routes::Routes;
 use eu_shared::{Blanks, Label, Pass, Shared};
 use eu_workers::{
-    Ended, Gate, Go, Point, Site, Source, run_bucket, run_evictor, run_replicator, run_sessions,
+    Ended, Gate, Go, Incoming, Point, Site, run_bucket, run_evictor, run_replicator, run_sessions,
     run_threshold,
 };
 use std::alloc::Global;
@@ -55,7 +55,7 @@ struct Left {
 }
 
 /// The number of the first entry of a log.
-fn first_number<K: Label>(pass: &Pass<K>) -> Option<u64> {
+pub fn first_number<K: Label>(pass: &Pass<K>) -> Option<u64> {
     match pass.log() {
         [] => None,
         [first, ..] => Some(first.number),
@@ -112,7 +112,7 @@ struct Renewing<'a, K: Label, R: Wait> {
     other: Pass<K>,
 }
 
-impl<K: Label, R: Wait> Source for Renewing<'_, K, R> {
+impl<K: Label, R: Wait> Incoming for Renewing<'_, K, R> {
     type Reader = &'static [u8];
 
     type Writer = Vec<u8>;

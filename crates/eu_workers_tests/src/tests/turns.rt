@@ -3,15 +3,16 @@ use eu_base::{Action, BoxedInstance, Fault, Moment, Stamp, Status, Task};
 use eu_book::{Book, Receipt};
 use eu_clock::{FirstChooser, ListClock};
 use eu_fixtures::{at, instance, key, registration, renewal, settings};
+use eu_in_process::InProcess;
 use eu_model::{Command, Query, View};
-use eu_peer::{InProcess, ItemAnswer, Lost, Peer, Turn, replicate_turn};
+use eu_peer::{ItemAnswer, Lost, Peer, Turn, replicate_turn};
 use std::alloc::{AllocError, Global};
 
 /// A peer registers the instance of that id with this stamp.
-pub fn replicated(alloc: Global, id: &str, dirty: u64) -> Result<Command, Fault> {
-    let dirty = Stamp::new(dirty).ok_or(Fault::BadStamp)?;
+pub fn replicated(alloc: Global, id: &str, last_dirty: u64) -> Result<Command, Fault> {
+    let last_dirty = Stamp::new(last_dirty).ok_or(Fault::BadStamp)?;
     let mut instance = instance(alloc, id, 5, 90)?;
-    instance.dirty = dirty;
+    instance.last_dirty = last_dirty;
     Ok(Command::Register {
         instance: BoxedInstance::new(alloc, instance)?,
         replicated: true,
@@ -31,7 +32,7 @@ fn out_of_service(alloc: Global, replicated: bool) -> Result<Command, Fault> {
     Ok(Command::SetStatus {
         key: key(alloc, "i1")?,
         status: Status::OutOfService,
-        dirty: Stamp::new(7),
+        last_dirty: Stamp::new(7),
         replicated,
     })
 }
@@ -41,7 +42,7 @@ fn in_service(alloc: Global) -> Result<Command, Fault> {
     Ok(Command::UnsetStatus {
         key: key(alloc, "i1")?,
         status: Some(Status::Up),
-        dirty: Stamp::new(9),
+        last_dirty: Stamp::new(9),
         replicated: false,
     })
 }
@@ -148,7 +149,10 @@ fn first(alloc: Global, book: &Book) -> Option<View> {
 /// The stamp and the status of the lease that a view shows.
 fn shown(view: &View) -> Option<(u64, Status)> {
     match view {
-        View::One(Some(listed)) => Some((listed.instance.dirty.value(), listed.instance.status)),
+        View::One(Some(listed)) => Some((
+            listed.instance.last_dirty.value(),
+            listed.instance.status,
+        )),
         _ => None,
     }
 }
@@ -166,7 +170,7 @@ pub fn seen(alloc: Global, book: &Book) -> Option<(u64, Status)> {
 struct Losing;
 
 impl Peer for Losing {
-    ghost told = { λ before batch answers after. Unit {0} };
+    ghost submits = { λ before batch answers after. Unit {0} };
 
     fn submit(&mut self, _alloc: Global, _batch: &[Task]) -> Result<Vec<ItemAnswer>, Lost> {
         Err(Lost)
@@ -196,7 +200,7 @@ fn two(alloc: Global) -> Result<Vec<ItemAnswer>, AllocError> {
 struct Short;
 
 impl Peer for Short {
-    ghost told = { λ before batch answers after. Unit {0} };
+    ghost submits = { λ before batch answers after. Unit {0} };
 
     fn submit(&mut self, alloc: Global, _batch: &[Task]) -> Result<Vec<ItemAnswer>, Lost> {
         two(alloc).map_err(|_| Lost)

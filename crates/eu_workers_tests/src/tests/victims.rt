@@ -2,9 +2,9 @@
 ghost use Rattle.std.specs.Prelude.{◌≡◌};
 
 use crate::tests::replicas::Open;
-use eu_base::{Config, Fault, Key, Moment};
+use eu_base::{Config, Fault, Moment};
 use eu_clock::{FirstChooser, ListChooser, ListClock};
-use eu_fixtures::{clock, registration};
+use eu_fixtures::{clock, ids, registration};
 use eu_model::Reply;
 use eu_routes::Routes;
 use eu_shared::{Blanks, Label, Pass, Shared};
@@ -54,15 +54,6 @@ fn register_all<K: Label, R: Wait>(rt: &R, shared: &Shared<K>, alloc: Global) ->
     let registered = register_each(rt, shared, alloc, &mut pass);
     drop(pass);
     registered
-}
-
-/// The ids of these keys, each after a space.
-fn ids(alloc: Global, keys: &[Key]) -> Result<String, AllocError> {
-    let mut text = String::new(alloc);
-    for key in keys {
-        write!(text, " {}", key.id.as_str())?;
-    }
-    Ok(text)
 }
 
 /// The victims that a pass was answered last, and when.

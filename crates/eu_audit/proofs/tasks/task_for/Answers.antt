@@ -14,20 +14,20 @@ returns-in-Renew c =
     let k = c.in-Renew.key in
     let is : Command → Option Task → Type 0 = λ command t. t ≡ task_for command c.args.moment c.args.reply.now (option_copied c.args.held) in
     subst (λ command. IfOk c.task_of_renewal.result (is command)) (sym c.in-Renew.is)
-    (of_any (λ overridden. is (Renew k c.in-Renew.dirty overridden c.in-Renew.replicated)) c.in-Renew.overridden c.task_of_renewal.result
-    (of_any (λ dirty t. (overridden : Option Status) → is (Renew k dirty overridden c.in-Renew.replicated) t) c.in-Renew.dirty c.task_of_renewal.result c.task_of_renewal.ensures))
+    (of_any (λ overridden. is (Renew k c.in-Renew.last_dirty overridden c.in-Renew.replicated)) c.in-Renew.overridden c.task_of_renewal.result
+    (of_any (λ last_dirty t. (overridden : Option Status) → is (Renew k last_dirty overridden c.in-Renew.replicated) t) c.in-Renew.last_dirty c.task_of_renewal.result c.task_of_renewal.ensures))
 
 pub returns-in-SetStatus : goal.returns-in-SetStatus
 returns-in-SetStatus c =
     let k = c.in-SetStatus.key in
     let is : Command → Option Task → Type 0 = λ command t. t ≡ task_for command c.args.moment c.args.reply.now (option_copied c.args.held) in
     subst (λ command. IfOk c.task_of_status.result (is command)) (sym c.in-SetStatus.is)
-    (of_any (λ dirty. is (SetStatus k c.in-SetStatus.status dirty c.in-SetStatus.replicated)) c.in-SetStatus.dirty c.task_of_status.result c.task_of_status.ensures)
+    (of_any (λ last_dirty. is (SetStatus k c.in-SetStatus.status last_dirty c.in-SetStatus.replicated)) c.in-SetStatus.last_dirty c.task_of_status.result c.task_of_status.ensures)
 
 pub returns-in-UnsetStatus : goal.returns-in-UnsetStatus
 returns-in-UnsetStatus c =
     let k = c.in-UnsetStatus.key in
     let is : Command → Option Task → Type 0 = λ command t. t ≡ task_for command c.args.moment c.args.reply.now (option_copied c.args.held) in
     subst (λ command. IfOk c.task_of_unset.result (is command)) (sym c.in-UnsetStatus.is)
-    (of_any (λ dirty. is (UnsetStatus k c.in-UnsetStatus.status dirty c.in-UnsetStatus.replicated)) c.in-UnsetStatus.dirty c.task_of_unset.result
-    (of_any (λ suggested t. (dirty : Option ℕ) → is (UnsetStatus k suggested dirty c.in-UnsetStatus.replicated) t) c.in-UnsetStatus.status c.task_of_unset.result c.task_of_unset.ensures))
+    (of_any (λ last_dirty. is (UnsetStatus k c.in-UnsetStatus.status last_dirty c.in-UnsetStatus.replicated)) c.in-UnsetStatus.last_dirty c.task_of_unset.result
+    (of_any (λ suggested t. (last_dirty : Option ℕ) → is (UnsetStatus k suggested last_dirty c.in-UnsetStatus.replicated) t) c.in-UnsetStatus.status c.task_of_unset.result c.task_of_unset.ensures))

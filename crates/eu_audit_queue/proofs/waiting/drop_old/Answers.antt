@@ -1,5 +1,5 @@
 use Rattle.std.proofs.Common.{ap, sym, subst, ◌∙◌}
-use Rattle.eu_model.specs.Queue.{live}
+use Rattle.eu_model.specs.Server.{live}
 use Rattle.eu_audit_queue.specs.Names.{AreNoted}
 use Rattle.eu_audit_queue.proofs.NoteLemmas.{all_live, live-without, noted_without}
 use Rattle.eu_audit_queue.proofs.waiting.drop_old.Goals as goal

@@ -1,5 +1,5 @@
 use Rattle.std.proofs.Common.{◌≡◌, length}
-use Rattle.eu_model.specs.Queue.{live}
+use Rattle.eu_model.specs.Server.{live}
 use Rattle.eu_audit_queue.specs.Names.{AreNoted}
 use Rattle.eu_audit_queue.proofs.waiting.drop_old.Given as goal
 

@@ -1,6 +1,6 @@
 use Rattle.std.proofs.Common.{refl, ap, sym, ◌∙◌}
 use Rattle.std.specs.FinMap.{get}
-use Rattle.eu_model.specs.Maps.{with_value}
+use Rattle.eu_model.specs.Machine.{with_value}
 use Rattle.eu_store.specs.Stored.{amended}
 use Rattle.eu_core.specs.Decided.{lease_left}
 use Rattle.eu_core.proofs.RowLemmas.{changed_value, with_lease-same}

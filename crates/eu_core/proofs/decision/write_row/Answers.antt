@@ -4,4 +4,4 @@ use Rattle.eu_core.proofs.decision.write_row.Goals as goal
 
 pub returns-then-eq : goal.returns-then-eq
 returns-then-eq c =
-    sym (with_row-same c.args.rows.now.rows c.args.id.now c.args.after (sym c.requires.before ∙ same_row c.args.before c.args.after c.if-eq.ensures))
+    sym (with_row-same c.args.overrides.now.rows c.args.id.now c.args.after (sym c.requires.before ∙ same_row c.args.before c.args.after c.if-eq.ensures))

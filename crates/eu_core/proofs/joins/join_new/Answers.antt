@@ -7,8 +7,8 @@ use Rattle.eu_core.proofs.joins.join_new.Goals as goal
 
 pub returns-clause-joins : goal.returns-clause-joins
 returns-clause-joins c =
-    let s = c.settle-settled.ensures in
-    let term = c.begun-lease.ensures ∙ ap (λ (a : Term). let b : Term = record a { up = up_after a.up c.settle-settled.result.status c.args.moment } in b) c.fresh-fresh.ensures in
+    let s = c.judge_statuses-statuses.ensures in
+    let term = c.begun-lease.ensures ∙ ap (λ (a : Term). let b : Term = record a { up = up_after a.up c.judge_statuses-statuses.result.status c.args.moment } in b) c.fresh-fresh.ensures in
     joins_from _ _ c.args.instance.now c.args.instance.now c.args.replicated c.args.moment None c.new-held.result c.args.known.row _ _
     refl refl refl refl refl
     s.row s.overridden s.status

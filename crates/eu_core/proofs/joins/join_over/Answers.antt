@@ -1,8 +1,7 @@
 use Rattle.std.proofs.Common.{refl, ap, ◌∙◌}
 use Rattle.std.specs.Prelude.{Some}
 use Rattle.eu_base.specs.declared.instances.Instance.{Instance}
-use Rattle.eu_model.specs.Override.{rule}
-use Rattle.eu_model.specs.Change.{row_after, up_after}
+use Rattle.eu_model.specs.Change.{rule, row_after, up_after}
 use Rattle.eu_lease.specs.Term.{Term, anew, listed_with}
 use Rattle.eu_core.proofs.JoinLemmas.{joins_from, chosen_over}
 use Rattle.eu_core.proofs.joins.join_over.Goals as goal
@@ -12,8 +11,8 @@ returns-clause-joins c =
     let l = c.args.held.now in
     let n = c.args.instance.now in
     let row = c.args.known.row in
-    let s = c.settle-settled.ensures in
-    let term = c.begun-lease.ensures ∙ ap (λ (a : Term). let b : Term = record a { up = up_after a.up c.settle-settled.result.status c.args.moment } in b)
+    let s = c.judge_statuses-statuses.ensures in
+    let term = c.begun-lease.ensures ∙ ap (λ (a : Term). let b : Term = record a { up = up_after a.up c.judge_statuses-statuses.result.status c.args.moment } in b)
     (c.anew-anew.ensures ∙ ap (λ a. anew a c.args.moment n.secs) c.lease.ensures) in
     joins_from _ _ n n c.args.replicated c.args.moment (Some l) c.new-held.result row _ _
     refl refl refl refl

@@ -1,8 +1,7 @@
 use Rattle.std.proofs.Common.{refl, ap, ◌∙◌}
 use Rattle.std.specs.Prelude.{Some, unwrap_or}
 use Rattle.eu_base.specs.declared.instances.Instance.{Instance}
-use Rattle.eu_model.specs.Override.{rule}
-use Rattle.eu_model.specs.Change.{row_after, up_after}
+use Rattle.eu_model.specs.Change.{rule, row_after, up_after}
 use Rattle.eu_lease.specs.Term.{Term, anew}
 use Rattle.eu_store.specs.Stored.{rejoined}
 use Rattle.eu_core.proofs.JoinLemmas.{joins_from, chosen_under}
@@ -14,8 +13,8 @@ returns-clause-joins c =
     let n = c.args.newcomer.now in
     let j : Instance = record l.instance { secs = n.secs } in
     let row = c.args.known.row in
-    let x = c.settle-settled.result in
-    let s = c.settle-settled.ensures in
+    let x = c.judge_statuses-statuses.result in
+    let s = c.judge_statuses-statuses.ensures in
     let own = c.instance-own.ensures in
     let term = c.begun-lease.ensures ∙ ap (λ (a : Term). let b : Term = record a { up = up_after a.up x.status c.args.moment } in b)
     (c.anew-anew.ensures ∙ ap (λ a. anew a c.args.moment n.secs) c.lease.ensures) in

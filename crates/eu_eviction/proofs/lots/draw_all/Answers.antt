@@ -1,8 +1,8 @@
 use Rattle.std.proofs.Common.{◌<◌, ◌+◌, ◌-◌, ap, sym, ◌∙◌, replicate}
 use Rattle.std.proofs.lemmas.List.Sorted.{IsPermutation-trans}
 use Rattle.std.proofs.lemmas.Map.Keys.{IsDistinct-IsPermutation}
-use Rattle.eu_choice.specs.Front.{state_from}
-use Rattle.eu_choice.proofs.FrontLemmas.{shuffled_from-step, state_from-step}
+use Rattle.eu_clock.specs.Front.{state_from}
+use Rattle.eu_clock.proofs.FrontLemmas.{shuffled_from-step, state_from-step}
 use Rattle.eu_eviction.proofs.lots.draw_all.Goals as goal
 
 pub loop-i-preserved : goal.loop-i-preserved

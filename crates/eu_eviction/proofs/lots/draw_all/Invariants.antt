@@ -1,5 +1,5 @@
 use Rattle.std.proofs.Common.{◌≡◌, ◌-◌, length, replicate, IsPermutation}
-use Rattle.eu_choice.specs.Front.{shuffled_from, state_from}
+use Rattle.eu_clock.specs.Front.{shuffled_from, state_from}
 use Rattle.eu_eviction.proofs.lots.draw_all.Given as goal
 
 -- what is left to do leads to the whole result, and the lists stay alike

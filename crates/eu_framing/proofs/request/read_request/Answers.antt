@@ -1,8 +1,7 @@
 use Rattle.std.proofs.Common.{List, ℕ, Some, drop, refl}
 use Rattle.std.proofs.lemmas.Result.{err_from_is_err_and}
 use Rattle.eu_framing.specs.declared.request.Request.{Request}
-use Rattle.eu_framing.specs.Message.{IsFault, BreaksBody}
-use Rattle.eu_framing.specs.Next.{FindsNext}
+use Rattle.eu_framing.specs.Message.{IsFault, BreaksBody, FindsNext}
 use Rattle.eu_framing.proofs.ReadingLemmas.{grows_more, between, blames_later, blames_so}
 use Rattle.eu_framing.proofs.RequestLemmas.{Makes, body_broken, next_whole, told}
 use Rattle.eu_framing.proofs.request.read_request.Goals as goal

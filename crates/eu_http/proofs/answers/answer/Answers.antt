@@ -1,5 +1,5 @@
 use Rattle.std.proofs.Common.{ap, ◌∙◌}
-use Rattle.eu_http.specs.Text.{print}
+use Rattle.eu_http.specs.Response.{print}
 use Rattle.eu_http.proofs.answers.answer.Goals as goal
 
 pub returns : goal.returns

@@ -1,13 +1,14 @@
 use Rattle.std.proofs.Common.{Err}
+use mathlib.Core.Logic.{inr}
 use Rattle.eu_base.specs.declared.faults.Fault.TheVariants.{BadBatch}
 use Rattle.eu_json.specs.Batch.{batch_of}
-use Rattle.eu_http.proofs.AskLemmas.{of_text, of_bytes, read_as}
+use Rattle.eu_http.proofs.AskLemmas.{of_text, of_bytes}
 use Rattle.eu_http.proofs.requests.batch_in.Goals as goal
 
 pub returns-in-Ok : goal.returns-in-Ok
 returns-in-Ok c =
     let text = c.in-Ok.ensures.cases in
-    rw (of_text c.args.body.now (batch_of c.args.moment c.args.body.now) (Err BadBatch) text.1, ← text.0) (read_as (λ v. v.items) c.read_batch.result _ c.read_batch.ensures.said)
+    rw (of_text c.args.body.now (batch_of c.args.moment c.args.body.now) (Err BadBatch) text.1, ← text.0) c.read_batch.ensures.said
 
 pub returns-in-Err : goal.returns-in-Err
-returns-in-Err c = λ other. of_bytes c.args.body.now _ _ c.in-Err.ensures.cases.0
+returns-in-Err c = inr (of_bytes c.args.body.now _ _ c.in-Err.ensures.cases.0)

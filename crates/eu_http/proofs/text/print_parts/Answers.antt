@@ -1,7 +1,6 @@
 use Rattle.std.proofs.Common.{◌++◌, [], codes}
 use Rattle.http.specs.StatusCode.{status_text}
-use Rattle.eu_http.specs.Response.{response_of}
-use Rattle.eu_http.specs.Text.{line, type_line, length_line, close_line, text_of}
+use Rattle.eu_http.specs.Response.{response_of, line, type_line, length_line, close_line, text_of}
 use Rattle.eu_http.proofs.TextLemmas.{in_order}
 use Rattle.eu_http.proofs.text.print_parts.Goals as goal
 

@@ -6,6 +6,6 @@ use Rattle.eu_journal_text.proofs.states.push_rows.Given as goal
 -- what is put, and what is left to put
 abbrev pub invariant-loop-row : goal.invariant-loop-row
 invariant-loop-row l = record {
-  text : string_bytes l.out ++ lines_text (map row_line (drop l.row-index l.rows)) ≡ string_bytes l.fn.out ++ lines_text (map row_line l.rows);
-  back : AllByRecursion IsReadBack (map row_line (drop l.row-index l.rows)) → AllByRecursion IsReadBack (map row_line l.rows);
+  text : string_bytes l.out ++ lines_text (map row_line (drop l.row-index l.overrides)) ≡ string_bytes l.fn.out ++ lines_text (map row_line l.overrides);
+  back : AllByRecursion IsReadBack (map row_line (drop l.row-index l.overrides)) → AllByRecursion IsReadBack (map row_line l.overrides);
 }

@@ -4,7 +4,7 @@ use Rattle.serde_json.specs.Data.{Data, depth}
 use Rattle.serde_json.specs.Read.{max_depth, read}
 use Rattle.eu_base.specs.declared.tasks.Task.{Task}
 use Rattle.eu_json.specs.BatchLaw.{IsBatch, SaysTasks}
-use Rattle.eu_json.specs.BatchTree.{batch_tree}
+use Rattle.eu_json.specs.Batch.{batch_tree}
 use Rattle.eu_json.proofs.BatchLemmas.{batches_come_back}
 use Rattle.eu_json.proofs.batch_write.batch_text.Goals as goal
 

@@ -1,7 +1,7 @@
 use Rattle.std.proofs.Common.{◌≡◌, false, map, take}
 use Rattle.serde_json.specs.View.{items_view, view}
 use Rattle.serde_json.specs.Written.{items_have_float}
-use Rattle.eu_json.specs.BatchTree.{task_tree}
+use Rattle.eu_json.specs.Batch.{task_tree}
 use Rattle.eu_json.proofs.batch_write.task_values.Given as goal
 
 abbrev pub invariant-loop-task : goal.invariant-loop-task

@@ -3,7 +3,7 @@ use Rattle.serde_json.specs.Data.{object}
 use Rattle.serde_json.specs.View.{view}
 use Rattle.serde_json.specs.declared.value.Value.{Object}
 use Rattle.serde_json.proofs.Views.{view-Object}
-use Rattle.eu_json.specs.Members.{without}
+use Rattle.eu_json.specs.Tree.{without}
 use Rattle.eu_json.proofs.MemberLemmas.{members_view-remove_entry, rest_without}
 use Rattle.eu_json.proofs.members.without.Goals as goal
 

@@ -43,9 +43,9 @@ returns-in_err-write_out-clause-err g c =
     stopped_here_in c.args.limits g.D.Answerer.answers g.D.Answerer.refuses Write s x held text inv.0 c.lines.rest.now c.args.chunk.now c.lines.run c.lines.desk c.lines.context c.lines.context _ _ _ inv.1 here
     (stopped_writing c.args.limits g.D.Answerer.answers g.D.Answerer.refuses s x held here.lines c.lines.run.waiting.items f.0 _ c.lines.desk c.lines.context c.lines.context _ _ here.shown c.in_err-write_out.ensures.failed f.1))
 
-pub returns-in_err-kept-clause-err : goal.returns-in_err-kept-clause-err
-returns-in_err-kept-clause-err g c =
-    let p = err_from_is_err_and c.from_residual-in_err-kept.result c.from_residual-in_err-kept.ensures.1 in
+pub returns-in_err-partial-clause-err : goal.returns-in_err-partial-clause-err
+returns-in_err-partial-clause-err g c =
+    let p = err_from_is_err_and c.from_residual-in_err-partial.result c.from_residual-in_err-partial.ensures.1 in
     let inv = c.lines.invariant.so_far in
     rw (p.1, p.2) (λ s x held text st.
     let here = inv.2 s x held text st in
@@ -56,5 +56,5 @@ pub returns-clause-ok : goal.returns-clause-ok
 returns-clause-ok g c = λ s x held text st.
     let inv = c.lines.invariant.so_far in
     let here = inv.2 s x held text st in
-    stands_rest_in c.args.limits g.D.Answerer.answers g.D.Answerer.refuses s x held text inv.0 c.lines.rest.now c.args.chunk.now c.lines.run (record c.lines.run { kept = c.keep-kept.new.kept; waiting = c.write_out.new.waiting }) c.lines.desk c.lines.context _ _
-    inv.1 c.in_default.ensures.none here c.in_ok-kept.ensures.ok refl c.in_ok-write_out.ensures.ok c.in_ok-write_out.ensures.none
+    stands_rest_in c.args.limits g.D.Answerer.answers g.D.Answerer.refuses s x held text inv.0 c.lines.rest.now c.args.chunk.now c.lines.run (record c.lines.run { partial = c.keep-partial.new.partial; waiting = c.write_out.new.waiting }) c.lines.desk c.lines.context _ _
+    inv.1 c.in_default.ensures.none here c.in_ok-partial.ensures.ok refl c.in_ok-write_out.ensures.ok c.in_ok-write_out.ensures.none

@@ -1,5 +1,5 @@
 use Rattle.eu_model.proofs.HistoryLemmas.{leases_are_as_said, numbers_are_as_said, updates_are_as_said}
-use Rattle.eu_model.proofs.PassRunLemmas.{due_are_as_said}
+use Rattle.eu_model.proofs.EvictionRunLemmas.{due_are_as_said}
 use Rattle.eu_model.proofs.law.runs_are_what_entries_say.Goals as goal
 
 pub returns : goal.returns

@@ -1,4 +1,4 @@
-use Rattle.eu_model.proofs.PassRunLemmas as pass
+use Rattle.eu_model.proofs.EvictionRunLemmas as pass
 use Rattle.eu_model.proofs.law.who_renews_is_kept.Goals as goal
 
 pub returns : goal.returns

@@ -1,6 +1,6 @@
 use Rattle.std.proofs.Common.{ap, ◌∙◌, map, not, rules}
 use Rattle.indexmap.proofs.CallerLemmas.{filter-RetainsPairs}
-use Rattle.eu_model.specs.Queue.{is_old}
+use Rattle.eu_model.specs.Server.{is_old}
 use Rattle.eu_outbox.specs.Steps.{task_of}
 use Rattle.eu_outbox.proofs.NameLemmas.{map-filter}
 use Rattle.eu_outbox.proofs.line.keep_live.Goals as goal

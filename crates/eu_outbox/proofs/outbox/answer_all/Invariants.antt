@@ -1,5 +1,5 @@
 use Rattle.std.proofs.Common.{◌≡◌, ◌+◌, ◌≤◌, length, drop, reverse, vec_len}
-use Rattle.eu_model.specs.Queue.{all_answered}
+use Rattle.eu_model.specs.Server.{all_answered}
 use Rattle.eu_outbox.proofs.outbox.answer_all.Given as goal
 
 -- what is left leads to the whole

@@ -1,5 +1,5 @@
 use Rattle.std.proofs.Common.{◌≡◌, replicate, take}
-use Rattle.eu_model.specs.Queue.{live}
+use Rattle.eu_model.specs.Server.{live}
 use Rattle.eu_outbox.proofs.outbox.batches.Given as goal
 
 -- so many so far

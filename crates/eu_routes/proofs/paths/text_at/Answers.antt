@@ -1,3 +1,4 @@
+use mathlib.Core.Logic.{inr}
 use Rattle.std.proofs.Common.{◌∙◌}
 use Rattle.eu_routes.proofs.PathLemmas.{utf8_text, other_text}
 use Rattle.eu_routes.proofs.paths.text_at.Goals as goal
@@ -10,4 +11,4 @@ returns-in-Ok-clause-said c =
 pub returns-in-Err-Utf8-clause-said : goal.returns-in-Err-Utf8-clause-said
 returns-in-Err-Utf8-clause-said c =
     let bytes = c.percent_decode_str.ensures.bytes in
-    λ other. other_text c.args.segment.now (λ utf8. let h = c.in-Err-Utf8.ensures.utf8 (rw bytes utf8) in cc)
+    inr (other_text c.args.segment.now (λ utf8. let h = c.in-Err-Utf8.ensures.utf8 (rw bytes utf8) in cc))

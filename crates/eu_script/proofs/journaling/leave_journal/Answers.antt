@@ -2,7 +2,7 @@ use Rattle.std.proofs.Common.{◌∙◌, length, sym}
 use Rattle.std.proofs.KnownBytes.{Appends-kept}
 use Rattle.std.proofs.Math.Seq.{take-length}
 use Rattle.std.proofs.lemmas.Result.{err_from_is_err_and}
-use Rattle.eu_script.specs.Desk.{text_of}
+use Rattle.eu_script.specs.ScriptDesk.{text_of}
 use Rattle.eu_script.proofs.journaling.leave_journal.Goals as goal
 
 pub returns-in_err-flush-clause-wrote : goal.returns-in_err-flush-clause-wrote

@@ -1,5 +1,5 @@
 use Rattle.std.proofs.Common.{◌≡◌}
-use Rattle.eu_framing.specs.Stream.{pending}
+use Rattle.eu_framing.specs.Message.{pending}
 use Rattle.eu_session.specs.Session.{GoesOn}
 use Rattle.eu_session.proofs.session.serve_session.Given as goal
 

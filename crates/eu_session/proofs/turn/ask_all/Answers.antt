@@ -1,7 +1,7 @@
 use Rattle.std.proofs.Common.{◌++◌, ◌∷◌, [], List, arith, ap, sym, ◌∙◌, append_assoc, length}
 use Rattle.std.proofs.lemmas.Grind.{common_steps}
-use Rattle.eu_desk.specs.declared.asks.Ask.{Ask}
-use Rattle.eu_desk.proofs.ChainLemmas.{pairs_push}
+use Rattle.eu_model.specs.declared.asks.Ask.{Ask}
+use Rattle.eu_model.proofs.ChainLemmas.{pairs_push}
 use Rattle.eu_session.proofs.turn.ask_all.Goals as goal
 
 pub loop-ask-preserved : goal.loop-ask-preserved

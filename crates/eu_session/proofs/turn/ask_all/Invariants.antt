@@ -1,6 +1,6 @@
 use Rattle.std.proofs.Common.{◌≡◌, ◌≤◌, ◌+◌, ◌++◌, length, vec_len}
 use Rattle.std.specs.Vec.{vec_capacity}
-use Rattle.eu_desk.specs.Chain.{Pairs}
+use Rattle.eu_model.specs.Chain.{Pairs}
 use Rattle.eu_session.proofs.turn.ask_all.Given as goal
 
 abbrev pub invariant-loop-ask : goal.invariant-loop-ask

@@ -1,6 +1,6 @@
 use Rattle.std.proofs.Common.{sym, subst}
 use Rattle.std.specs.FinMap.{get}
-use Rattle.eu_model.specs.Kept.{after, kept_adopt}
+use Rattle.eu_model.specs.PlainSteps.{after, plain_adopt}
 use Rattle.eu_audit_changes.specs.Changed.{change_of}
 use Rattle.eu_audit.specs.Verdict.{IsWithinLimits}
 use Rattle.eu_audit.proofs.JudgeLemmas.{accepted}
@@ -18,6 +18,6 @@ pub returns : goal.returns
 returns c =
     let p = c.args.self in
     let n = c.args.instance.now in
-    let kept = kept_adopt (get p.leases n.key) (get p.rows n.key.id) p.expected n c.args.moment in
+    let kept = plain_adopt (get p.leases n.key) (get p.overrides n.key.id) p.expected n c.args.moment in
     accepted p n.key (change_of c.in_ok-changed.changed) kept c.args.reply.now c.judge.result c.in_ok-changed.ensures.changed
     (c.can_join.ensures.0 c.if-not-can_join.false) c.judge.ensures

@@ -1,8 +1,7 @@
 use Rattle.std.proofs.Common.{Bool, sym, subst}
 use Rattle.std.specs.FinMap.{get}
-use Rattle.eu_model.specs.Kept.{after, kept_one, kept_unset_status}
+use Rattle.eu_model.specs.PlainSteps.{after, plain_one, plain_unset_status, Becomes}
 use Rattle.eu_audit_changes.specs.Changed.{change_of}
-use Rattle.eu_audit.specs.PlainRuns.{Becomes}
 use Rattle.eu_audit.specs.Verdict.{Judged, IsWithinLimits}
 use Rattle.eu_audit.proofs.JudgeLemmas.{becomes, for_any}
 use Rattle.eu_audit.proofs.LimitLemmas.{unset_limits}
@@ -13,12 +12,12 @@ judge-requires c =
     let p = c.args.self in
     let k = c.args.key.now in
     subst (λ change. IsWithinLimits (after p k change)) (sym c.in_ok-changed.ensures.changed)
-    (unset_limits p k c.args.suggested c.args.dirty c.args.moment c.status_unset.ensures.limits)
+    (unset_limits p k c.args.suggested c.args.last_dirty c.args.moment c.status_unset.ensures.limits)
 
 pub returns : goal.returns
 returns c =
     let p = c.args.self in
     let k = c.args.key.now in
-    let kept = kept_unset_status (kept_one p k c.args.moment) (get p.leases k) (get p.rows k.id) p.expected c.args.suggested c.args.dirty c.args.moment in
+    let kept = plain_unset_status (plain_one p k c.args.moment) (get p.leases k) (get p.overrides k.id) p.expected c.args.suggested c.args.last_dirty c.args.moment in
     for_any Bool (Judged (Becomes p k kept c.args.reply.now)) c.judge.result
     (becomes p k (change_of c.in_ok-changed.changed) kept c.args.reply.now c.judge.result c.in_ok-changed.ensures.changed c.judge.ensures)

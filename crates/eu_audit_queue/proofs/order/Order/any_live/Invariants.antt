@@ -1,6 +1,6 @@
 use Rattle.std.proofs.Common.{◌≡◌}
 use Rattle.std.specs.Map.{values_of}
-use Rattle.eu_model.specs.Queue.{live}
+use Rattle.eu_model.specs.Server.{live}
 use Rattle.eu_audit_queue.proofs.order.Order.any_live.Given as goal
 
 -- what is left has all that are worth sending

@@ -3,7 +3,7 @@ use Rattle.std.specs.Map.{lookup, remove_entry, values_of}
 use Rattle.std.proofs.lemmas.Bool.{not-true, not-false}
 use Rattle.std.proofs.lemmas.List.Filters.{length-filter_both}
 use Rattle.eu_base.specs.declared.tasks.Task.{Task}
-use Rattle.eu_model.specs.Queue.{is_old}
+use Rattle.eu_model.specs.Server.{is_old}
 use Rattle.eu_audit_queue.specs.PlainQueue.{are_apart}
 use Rattle.eu_audit_queue.specs.Names.{entries_of, has_name, name_of, names_eq, without_old}
 use Rattle.eu_audit_queue.proofs.ApartLemmas.{apart_filter}

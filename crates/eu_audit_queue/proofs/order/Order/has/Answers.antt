@@ -1,6 +1,6 @@
 use Rattle.std.proofs.Common.{is_some, ap, ◌∙◌}
 use Rattle.std.specs.Map.{lookup, values_of}
-use Rattle.eu_model.specs.Queue.{waits}
+use Rattle.eu_model.specs.Server.{waits}
 use Rattle.eu_audit_queue.specs.Names.{names_eq}
 use Rattle.eu_audit_queue.proofs.LineLemmas.{has-lookup}
 use Rattle.eu_audit_queue.proofs.order.Order.has.Goals as goal

@@ -1,6 +1,6 @@
 use Rattle.std.proofs.Common.{◌≡◌, drop}
 use Rattle.std.specs.Slice.Iter.{iter_rest}
-use Rattle.eu_model.specs.Queue.{all_answered}
+use Rattle.eu_model.specs.Server.{all_answered}
 use Rattle.eu_audit_queue.proofs.waiting.Waiting.answer_all.Given as goal
 
 -- what is left leads to the whole

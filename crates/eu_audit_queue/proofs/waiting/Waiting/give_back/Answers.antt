@@ -1,5 +1,5 @@
 use Rattle.std.proofs.Common.{◌≡◌, ◌≤◌, true, not, filter, length, drop, ◌++◌, ap, sym, ◌∙◌, arith}
-use Rattle.eu_model.specs.Queue.{is_old, live, waits}
+use Rattle.eu_model.specs.Server.{is_old, live, waits}
 use Rattle.eu_audit_queue.specs.PlainQueue.{are_apart}
 use Rattle.eu_audit_queue.proofs.ApartLemmas.{apart_back, apart_filter}
 use Rattle.eu_audit_queue.proofs.waiting.Waiting.give_back.Goals as goal

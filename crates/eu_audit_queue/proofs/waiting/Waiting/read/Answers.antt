@@ -1,6 +1,6 @@
 use Rattle.std.proofs.Common.{◌≡◌, ◌∷◌, ◌++◌, [], true, false, take, Some, None, cond, ap, sym, ◌∙◌}
 use Rattle.std.proofs.lemmas.Bool.{and_right}
-use Rattle.eu_model.specs.Queue.{waits}
+use Rattle.eu_model.specs.Server.{waits}
 use Rattle.eu_audit_queue.specs.PlainQueue.{are_apart}
 use Rattle.eu_audit_queue.proofs.ApartLemmas.{apart_push, not_apart, one_more}
 use Rattle.eu_audit_queue.proofs.waiting.Waiting.read.Goals as goal

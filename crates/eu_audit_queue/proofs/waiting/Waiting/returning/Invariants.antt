@@ -1,5 +1,5 @@
 use Rattle.std.proofs.Common.{◌≡◌, not, filter, take}
-use Rattle.eu_model.specs.Queue.{live, waits}
+use Rattle.eu_model.specs.Server.{live, waits}
 use Rattle.eu_audit_queue.proofs.waiting.Waiting.returning.Given as goal
 
 -- those so far that come back

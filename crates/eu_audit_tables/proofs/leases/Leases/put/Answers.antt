@@ -2,7 +2,7 @@ use Rattle.std.proofs.Common.{◌≡◌, ◌+◌, None, sym, ap, ◌∙◌, arit
 use Rattle.std.specs.FinMap as map
 use Rattle.std.specs.Map.{lookup}
 use Rattle.std.specs.BTreeMap.{is_at}
-use Rattle.eu_base.specs.Key.{key_cmp}
+use Rattle.eu_base.specs.Values.{key_cmp}
 use Rattle.eu_base.proofs.KeyLemmas.{keys_total, keys_exact}
 use Rattle.eu_audit_tables.specs.Counted.{held_before, one_before, deadline_of}
 use Rattle.eu_audit_tables.proofs.MapLemmas.{at_no_err, get_at, get_removed, inserted, insert-remove}

@@ -2,12 +2,12 @@ use Rattle.std.proofs.Common.{◌≡◌, None, ◌∙◌, ◌++◌, ◌∷◌, [
 use Rattle.std.specs.Prelude.{Ok}
 use Rattle.std.specs.Option.{option_map}
 use Rattle.eu_core.specs.Stepped.{Chooses}
-use Rattle.eu_model.specs.ServerAnswers.{ServerAnswers}
+use Rattle.eu_model.specs.Answers.{ServerAnswers}
 use Rattle.eu_model.specs.State.{server_of_state}
-use Rattle.eu_book.specs.Account.{Account, Applies, IsKept, Refuses, entry, grown, ready}
+use Rattle.eu_book.specs.Account.{Account, Applies, IsKept, Refuses, entry, grown, known_fault, ready}
 use Rattle.eu_base.specs.declared.faults.Fault.TheVariants.{OutOfMemory}
-use Rattle.eu_book.specs.Peers.{known_fault, served}
-use Rattle.eu_book.specs.Renewed.{entries_by}
+use Rattle.eu_book.specs.Peers.{served}
+use Rattle.eu_book.specs.Checkpoint.{entries_by}
 use Rattle.eu_book.proofs.BookLemmas.{sums_fit, kept_entered, entered, entered_plain, is_refused}
 use Rattle.eu_book.proofs.book.Book.enter.Goals as goal
 
@@ -63,12 +63,12 @@ returns-in-Ok-clause-applied g c =
     let entries = c.note.ensures.entries ∙ ap (λ es. entries_by next es ++ (e ∷ [])) c.in-Ok.ensures.entries in
     let whole = entered s a refl kept next c.in-Ok.ensures.base e new c.note.new.journal.base c.note.new.journal.first c.note.new.journal.entries.items c.note.new.totals c.note.ensures.base c.note.ensures.first entries c.note.ensures.totals in
     let b : Account = record { base = server_of_state c.note.new.journal.base; first = c.note.new.journal.first; entries = c.note.new.journal.entries.items; state = new; totals = c.note.new.totals } in
-    let told = c.note.ensures.told ∙ ap (λ x. x.told) c.in-Ok.ensures.same in
-    let applies : Applies g.C.Chooser.asks a c.args.chooser.now c.args.pass c.args.command c.args.moment c.note.result.receipt.reply c.note.result.receipt.number b c.answer.new.chooser = record {
+    let told = c.note.ensures.told ∙ ap (λ x. x.answer) c.in-Ok.ensures.same in
+    let applies : Applies g.C.Chooser.asks a c.args.chooser.now (entry c.args.pass c.note.result.receipt.number c.args.command c.args.moment c.note.result.receipt.reply) b c.answer.new.chooser = record {
       counts = omega (arith, kept.steps, c.in-Ok.ensures.counts);
       numbered = c.note.ensures.number;
       step = subst (λ r. ServerAnswers a.state c.args.command c.args.moment (Ok r) new) (sym told) c.in-Ok.ensures.answers;
       chooses = subst (λ r. Chooses g.C.Chooser.asks a.state.registry c.args.chooser.now c.args.command c.args.moment r c.answer.new.chooser) (sym told) c.in-Ok.ensures.chooses;
       whole = whole ∙ (λ i. grown (ready a) (entry c.args.pass (sym c.note.ensures.number i) c.args.command c.args.moment (sym told i)) new);
     } in
-    subst (λ x. Applies g.C.Chooser.asks x c.args.chooser.now c.args.pass c.args.command c.args.moment c.note.result.receipt.reply c.note.result.receipt.number b c.answer.new.chooser) c.self.view_is applies
+    subst (λ x. Applies g.C.Chooser.asks x c.args.chooser.now (entry c.args.pass c.note.result.receipt.number c.args.command c.args.moment c.note.result.receipt.reply) b c.answer.new.chooser) c.self.view_is applies

@@ -10,10 +10,10 @@ pub returns : goal.returns
 returns c =
     let expected = c.from.ensures in
     let leases = c.new-2.ensures ∙ c.new.ensures.items in
-    let rows = c.new-4.ensures ∙ c.new-3.ensures.items in
+    let overrides = c.new-4.ensures ∙ c.new-3.ensures.items in
     let queues = c.in_ok-queues.ensures ∙ c.in_ok-peers.ensures in
     let base = server_of_empty _ c.args.config c.args.expected c.args.peers
-    (λ i. let s : State = record { config = c.args.config; expected = expected i; leases = leases i; rows = rows i; last = 0; since = 0; previous = None; queues = queues i } in s) in
+    (λ i. let s : State = record { config = c.args.config; expected = expected i; leases = leases i; overrides = overrides i; last = 0; since = 0; previous = None; queues = queues i } in s) in
     let entries = c.new-5.ensures.items in
     let registry = c.open-2.ensures in
     let peers = c.in_ok-peers.ensures in
@@ -27,9 +27,9 @@ pub invariant_of-result : goal.invariant_of-result
 invariant_of-result c =
     let expected = c.from.ensures in
     let leases = c.new-2.ensures ∙ c.new.ensures.items in
-    let rows = c.new-4.ensures ∙ c.new-3.ensures.items in
+    let overrides = c.new-4.ensures ∙ c.new-3.ensures.items in
     let queues = c.in_ok-queues.ensures ∙ c.in_ok-peers.ensures in (
       plain_of_empty _ c.args.config c.args.expected c.args.peers
-          (λ i. let s : State = record { config = c.args.config; expected = expected i; leases = leases i; rows = rows i; last = 0; since = 0; previous = None; queues = queues i } in s),
+          (λ i. let s : State = record { config = c.args.config; expected = expected i; leases = leases i; overrides = overrides i; last = 0; since = 0; previous = None; queues = queues i } in s),
       subst IsKept (sym (returns c)) (opened_kept c.args.config c.args.expected c.args.peers c.ranges.expected.fits c.requires),
     )

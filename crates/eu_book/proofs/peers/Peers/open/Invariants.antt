@@ -1,5 +1,5 @@
 use Rattle.std.proofs.Common.{◌≡◌, replicate, vec_len}
-use Rattle.eu_model.specs.Queue.{idle}
+use Rattle.eu_model.specs.Server.{idle}
 use Rattle.eu_book.specs.Peers.{queues_of}
 use Rattle.eu_book.proofs.peers.Peers.open.Given as goal
 

@@ -4,7 +4,7 @@ use Rattle.std.specs.Option.{option_copied, option_or}
 use Rattle.eu_base.specs.declared.faults.Fault.TheVariants.{OutOfMemory}
 use Rattle.eu_model.specs.declared.commands.Command.TheVariants.{Adopt}
 use Rattle.eu_model.specs.Answers.{IsRefusal}
-use Rattle.eu_model.specs.Kept.{kept_register}
+use Rattle.eu_model.specs.PlainSteps.{plain_register}
 use Rattle.eu_model.proofs.AdoptLemmas.{adopts, adopt_answers, adopt_refused}
 use Rattle.eu_core.proofs.AdoptLemmas.{adopt_registers}
 use Rattle.eu_core.proofs.DecidedLemmas.{answered, uncounted_ready}
@@ -36,12 +36,12 @@ returns-clause-decides c =
     let d = c.in_ok-decide_join.field-0 in
     let held = option_copied a.held in
     let ok = c.in_ok-expected.ensures in
-    let row = c.or.ensures ∙ (λ i. option_or (c.told.ensures i) (c.requires.row i)) in
+    let row = c.or.ensures ∙ (λ i. option_or (c.row_of.ensures i) (c.requires.row i)) in
     let joins = c.in_ok-decide_join.ensures.joins in
     record {
       answers = answered p (Adopt n) t n.key d held _ (adopts n t p) c.requires.held
           (joined_is d held c.or.result p.expected c.in_ok-expected.expected n true t joins ok.expected)
-          ((λ i. kept_register (c.requires.held i) (row i) p.expected n true t) ∙ adopt_registers (get p.leases n.key) (get p.rows n.key.id) p.expected n t)
+          ((λ i. plain_register (c.requires.held i) (row i) p.expected n true t) ∙ adopt_registers (get p.leases n.key) (get p.overrides n.key.id) p.expected n t)
           (adopt_answers n t p (ok.ok n.key c.requires.held));
       memory = adopt_refused n t p OutOfMemory (subst (λ o. IsRefusal o OutOfMemory) (sym (ok.ok n.key c.requires.held)) refl);
       ready = record {

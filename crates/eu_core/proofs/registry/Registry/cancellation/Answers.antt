@@ -1,7 +1,7 @@
 use Rattle.std.proofs.Common.{arith, ap, refl}
 use Rattle.std.specs.Option.{option_copied}
 use Rattle.eu_model.specs.declared.commands.Command.TheVariants.{Cancel}
-use Rattle.eu_model.specs.Kept.{kept_cancel}
+use Rattle.eu_model.specs.PlainSteps.{plain_cancel}
 use Rattle.eu_model.proofs.CancelLemmas.{cancels, cancel_answers}
 use Rattle.eu_core.proofs.DecidedLemmas.{known, ready_in_place, uncounted_ready}
 use Rattle.eu_core.proofs.StepLemmas.{memory_refused}
@@ -14,9 +14,9 @@ returns-clause-decides c replicated t =
     let d = c.decide_cancel.result in
     let held = option_copied c.args.held in
     record {
-      answers = known p (Cancel k replicated) t k d held _ (kept_cancel held) (cancels k p)
+      answers = known p (Cancel k replicated) t k d held _ (plain_cancel held) (cancels k p)
           c.requires.held c.known.ensures.expected c.decide_cancel.ensures.change
-          (ap (λ o. kept_cancel o p.expected) c.requires.held) (cancel_answers k replicated t p);
+          (ap (λ o. plain_cancel o p.expected) c.requires.held) (cancel_answers k replicated t p);
       memory = memory_refused (Cancel k replicated) t p (λ s. refl);
       ready = ready_in_place p k d.change c.decide_cancel.ensures.in_place (omega (arith, c.decide_cancel.ensures.few, c.known.ensures.bound)) (uncounted_ready _ p.since c.decide_cancel.ensures.uncounted);
     }

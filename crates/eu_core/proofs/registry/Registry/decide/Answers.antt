@@ -10,7 +10,7 @@ returns-in-SetStatus-clause-decides c =
     let keys : Some i.key ≡ Some c.args.key.now = sym (ap key_of i.is) ∙ c.requires.key in
     let key : i.key ≡ c.args.key.now = cc in
     subst (λ x. Decides c.args.self.now x c.args.moment c.args.key.now c.status.result)
-    (ap (λ k. SetStatus k i.status i.dirty i.replicated) (sym key) ∙ sym i.is) (c.status.ensures i.replicated)
+    (ap (λ k. SetStatus k i.status i.last_dirty i.replicated) (sym key) ∙ sym i.is) (c.status.ensures i.replicated)
 
 pub returns-in-Cancel-clause-decides : goal.returns-in-Cancel-clause-decides
 returns-in-Cancel-clause-decides c =
@@ -26,4 +26,4 @@ returns-in-UnsetStatus-clause-decides c =
     let keys : Some i.key ≡ Some c.args.key.now = sym (ap key_of i.is) ∙ c.requires.key in
     let key : i.key ≡ c.args.key.now = cc in
     subst (λ x. Decides c.args.self.now x c.args.moment c.args.key.now c.no_status.result)
-    (ap (λ k. UnsetStatus k i.status i.dirty i.replicated) (sym key) ∙ sym i.is) (c.no_status.ensures.decides i.replicated)
+    (ap (λ k. UnsetStatus k i.status i.last_dirty i.replicated) (sym key) ∙ sym i.is) (c.no_status.ensures.decides i.replicated)

@@ -3,7 +3,7 @@ use Rattle.std.specs.Option.{option_copied}
 use Rattle.eu_base.specs.declared.faults.Fault.TheVariants.{OutOfMemory}
 use Rattle.eu_model.specs.declared.commands.Command.TheVariants.{Register}
 use Rattle.eu_model.specs.Answers.{IsRefusal}
-use Rattle.eu_model.specs.Kept.{kept_register}
+use Rattle.eu_model.specs.PlainSteps.{plain_register}
 use Rattle.eu_model.proofs.RegisterLemmas.{registers, register_answers, register_refused}
 use Rattle.eu_core.proofs.DecidedLemmas.{answered, uncounted_ready}
 use Rattle.eu_core.proofs.RegisterLemmas.{joined_is}
@@ -38,7 +38,7 @@ returns-clause-decides c =
     record {
       answers = answered p (Register n a.replicated) t n.key d held _ (registers n a.replicated t p) c.requires.held
           (joined_is d held a.row p.expected c.in_ok-expected.expected n a.replicated t joins ok.expected)
-          (λ i. kept_register (c.requires.held i) (c.requires.row i) p.expected n a.replicated t)
+          (λ i. plain_register (c.requires.held i) (c.requires.row i) p.expected n a.replicated t)
           (register_answers n a.replicated t p (ok.ok n.key c.requires.held));
       memory = register_refused n a.replicated t p OutOfMemory (subst (λ o. IsRefusal o OutOfMemory) (sym (ok.ok n.key c.requires.held)) refl);
       ready = record {

@@ -2,8 +2,8 @@ use Rattle.std.proofs.Common.{arith, ap, sym, refl, ◌∙◌}
 use Rattle.std.specs.FinMap.{get}
 use Rattle.std.specs.Option.{option_copied}
 use Rattle.eu_model.specs.declared.commands.Command.TheVariants.{SetStatus}
-use Rattle.eu_model.specs.Kept.{kept_seen, kept_set_status}
-use Rattle.eu_model.specs.Meter.{is_permitted}
+use Rattle.eu_model.specs.PlainSteps.{plain_seen, plain_set_status}
+use Rattle.eu_model.specs.Machine.{is_permitted}
 use Rattle.eu_model.proofs.StatusLemmas.{sets, set_answers, set_refused}
 use Rattle.eu_core.proofs.DecidedLemmas.{known, ready_in_place, uncounted_ready}
 use Rattle.eu_core.proofs.LookLemmas.{seen_held}
@@ -17,13 +17,13 @@ returns c replicated =
     let t = a.moment in
     let d = c.decide_status.result in
     let held = get p.leases k in
-    let seen = c.seen-seen.ensures ∙ ap (kept_seen (is_permitted p.config p.expected p.last) t) c.requires.held in
+    let seen = c.seen-seen.ensures ∙ ap (plain_seen (is_permitted p.config p.expected p.last) t) c.requires.held in
     let row = c.known.ensures.row ∙ c.requires.row in
     record {
-      answers = known p (SetStatus k a.status a.dirty replicated) t k d held _ (λ e. kept_set_status (option_copied c.seen-seen.result) held c.known.result.row e a.status a.dirty t) (sets k a.status a.dirty t p)
+      answers = known p (SetStatus k a.status a.last_dirty replicated) t k d held _ (λ e. plain_set_status (option_copied c.seen-seen.result) held c.known.result.row e a.status a.last_dirty t) (sets k a.status a.last_dirty t p)
           refl c.known.ensures.expected
           (c.decide_status.ensures.change held (λ l e. seen_held _ t held l (sym e ∙ seen)))
-          (λ i. kept_set_status (seen i) held (row i) p.expected a.status a.dirty t) (set_answers k a.status a.dirty t replicated p);
-      memory = set_refused k a.status a.dirty t replicated p;
+          (λ i. plain_set_status (seen i) held (row i) p.expected a.status a.last_dirty t) (set_answers k a.status a.last_dirty t replicated p);
+      memory = set_refused k a.status a.last_dirty t replicated p;
       ready = ready_in_place p k d.change c.decide_status.ensures.in_place (omega (arith, c.decide_status.ensures.few, c.known.ensures.bound)) (uncounted_ready _ p.since c.decide_status.ensures.uncounted);
     }

@@ -24,7 +24,7 @@ returns-clause-ok g c =
     record {
       acts = record {
         answers = subst (λ q. Answers p a.command.now a.moment (Ok d.reply) q) (sym next) c.in_ok-decision.ensures.decides.answers;
-        same = λ i. let x : Answered Reply = record { reply = d.reply; told = c.in_ok-told.ensures.same i; logged = c.in_ok-logged.ensures.reply i } in x;
+        same = λ i. let x : Answered Reply = record { reply = d.reply; answer = c.in_ok-answer.ensures.same i; logged = c.in_ok-logged.ensures.reply i } in x;
         held_are =
             c.in_ok-held.ensures
             ∙ ap (λ o. copies_of a.held (option_map (λ (l : Listed). l.instance) (lease_left d.change.lease o))) c.find-row.ensures.held

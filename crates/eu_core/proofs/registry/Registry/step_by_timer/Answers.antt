@@ -1,8 +1,8 @@
 use Rattle.std.proofs.Common.{refl}
 use Rattle.eu_core.proofs.registry.Registry.step_by_timer.Goals as goal
 
-pub returns-in-Roll-clause-ok : goal.returns-in-Roll-clause-ok
-returns-in-Roll-clause-ok g c = λ m. rw c.in-Roll.is (record { acts = c.step_roll.ensures c.args.moment m; chooses = refl })
+pub returns-in-EndMinute-clause-ok : goal.returns-in-EndMinute-clause-ok
+returns-in-EndMinute-clause-ok g c = λ m. rw c.in-EndMinute.is (record { acts = c.step_end_minute.ensures c.args.moment m; chooses = refl })
 
 pub returns-in-Update-clause-ok : goal.returns-in-Update-clause-ok
 returns-in-Update-clause-ok g c = λ m. rw c.in-Update.is (record { acts = c.step_update.ensures c.args.moment m; chooses = refl })

@@ -8,19 +8,19 @@ use Rattle.eu_core.proofs.registry.Registry.step_evict.Goals as goal
 
 pub split-requires : goal.split-requires
 split-requires g c =
-    let vs = c.in_ok-passed.passed.victims.items in
-    (Evicted vs, c.in_ok-passed.ensures.replies ∙ ap (λ n. replicate n (Evicted vs)) c.replies_for.ensures)
+    let vs = c.in_ok-eviction.eviction.victims.items in
+    (Evicted vs, c.in_ok-eviction.ensures.replies ∙ ap (λ n. replicate n (Evicted vs)) c.replies_for.ensures)
 
 pub returns-clause-ok : goal.returns-clause-ok
 returns-clause-ok g c = λ m.
-    let vs = c.in_ok-passed.passed.victims.items in
-    let same = c.split.ensures (Evicted vs) (c.in_ok-passed.ensures.replies ∙ ap (λ n. replicate n (Evicted vs)) c.replies_for.ensures) in
-    let told = ap (λ a. a.reply) same in
+    let vs = c.in_ok-eviction.eviction.victims.items in
+    let same = c.split.ensures (Evicted vs) (c.in_ok-eviction.ensures.replies ∙ ap (λ n. replicate n (Evicted vs)) c.replies_for.ensures) in
+    let answer = ap (λ a. a.reply) same in
     record {
       acts = record {
-        answers = subst (λ r. Answers c.args.self.now Evict c.args.moment (Ok r) c.pass.new.self) (sym told) c.in_ok-passed.ensures.answers;
-        same = same ∙ ap (answered c.args.logs) (sym told);
+        answers = subst (λ r. Answers c.args.self.now Evict c.args.moment (Ok r) c.evict_due.new.self) (sym answer) c.in_ok-eviction.ensures.answers;
+        same = same ∙ ap (answered c.args.logs) (sym answer);
         held_are = c.new.ensures.items;
       };
-      chooses = (vs, told, c.in_ok-passed.ensures.drawn);
+      chooses = (vs, answer, c.in_ok-eviction.ensures.drawn);
     }

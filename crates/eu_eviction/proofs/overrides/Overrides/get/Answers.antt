@@ -1,6 +1,6 @@
 use Rattle.std.proofs.Common.{sym, ap, ◌∙◌}
 use Rattle.std.specs.FinMap as map
-use Rattle.eu_base.specs.Key.{name_eq}
+use Rattle.eu_base.specs.Values.{name_eq}
 use Rattle.eu_store.proofs.TableLemmas.{by_name, get_at}
 use Rattle.eu_eviction.proofs.RowLemmas.{nothing_there}
 use Rattle.eu_eviction.proofs.overrides.Overrides.get.Goals as goal

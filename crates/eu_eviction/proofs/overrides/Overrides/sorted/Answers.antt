@@ -5,7 +5,7 @@ use Rattle.std.specs.Map.{keys_of}
 use Rattle.std.specs.Map.Iter.{deref_pair}
 use Rattle.std.proofs.lemmas.List.Sorted.{IsPermutation-map, answers_always}
 use Rattle.std.proofs.lemmas.Map.Iter.{rest_all}
-use Rattle.eu_base.specs.Key.{name_cmp}
+use Rattle.eu_base.specs.Values.{name_cmp}
 use Rattle.eu_base.proofs.KeyLemmas.{names_total, names_exact}
 use Rattle.eu_store.proofs.RowLemmas.{gathered_rows, keys_sorted, keys_shown}
 use Rattle.eu_eviction.proofs.SortedLemmas.{filter_true, name_eq-tie}

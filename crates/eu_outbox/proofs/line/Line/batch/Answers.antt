@@ -1,5 +1,5 @@
 use Rattle.std.proofs.Common.{◌≡◌, ◌+◌, ◌-◌, ◌≤◌, ◌++◌, length, vec_len, take, drop, ap, sym, ◌∙◌, arith}
-use Rattle.eu_model.specs.Queue.{live}
+use Rattle.eu_model.specs.Server.{live}
 use Rattle.eu_outbox.proofs.TaskLemmas.{batch-step, live-next, length-live_one}
 use Rattle.eu_outbox.proofs.line.Line.batch.Goals as goal
 

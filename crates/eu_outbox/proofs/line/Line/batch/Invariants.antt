@@ -1,5 +1,5 @@
 use Rattle.std.proofs.Common.{◌≡◌, ◌-◌, ◌++◌, drop, take, vec_len}
-use Rattle.eu_model.specs.Queue.{live}
+use Rattle.eu_model.specs.Server.{live}
 use Rattle.eu_outbox.proofs.line.Line.batch.Given as goal
 
 -- what is left leads to the whole

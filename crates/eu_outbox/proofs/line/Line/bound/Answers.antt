@@ -1,5 +1,5 @@
 use Rattle.std.proofs.Common.{◌<◌, length, ap, ◌∙◌, arith}
-use Rattle.eu_model.specs.Queue.{bounded}
+use Rattle.eu_model.specs.Server.{bounded}
 use Rattle.eu_outbox.proofs.TaskLemmas.{bounded-drop}
 use Rattle.eu_outbox.proofs.line.Line.bound.Goals as goal
 

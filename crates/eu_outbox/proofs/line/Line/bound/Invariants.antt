@@ -1,5 +1,5 @@
 use Rattle.std.proofs.Common.{◌≡◌, ◌≤◌, length}
-use Rattle.eu_model.specs.Queue.{bounded}
+use Rattle.eu_model.specs.Server.{bounded}
 use Rattle.eu_outbox.proofs.line.Line.bound.Given as goal
 
 -- as many are left as at first

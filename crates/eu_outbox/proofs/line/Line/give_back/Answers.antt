@@ -1,5 +1,5 @@
 use Rattle.std.proofs.Common.{◌≡◌, ◌||◌, false, cond, ◌∷◌, ap, sym, subst, ◌∙◌}
-use Rattle.eu_model.specs.Queue.{waits}
+use Rattle.eu_model.specs.Server.{waits}
 use Rattle.eu_outbox.specs.Steps.{IsApart, gave, in_line, task_of}
 use Rattle.eu_outbox.proofs.EntryLemmas.{before_line}
 use Rattle.eu_outbox.proofs.line.Line.give_back.Goals as goal

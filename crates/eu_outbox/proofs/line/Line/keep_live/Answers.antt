@@ -1,5 +1,5 @@
 use Rattle.std.proofs.Common.{ap, sym, subst, ◌∙◌, not}
-use Rattle.eu_model.specs.Queue.{is_old, live}
+use Rattle.eu_model.specs.Server.{is_old, live}
 use Rattle.eu_outbox.specs.Steps.{IsApart}
 use Rattle.eu_outbox.proofs.TaskLemmas.{IsApart-filter}
 use Rattle.eu_outbox.proofs.EntryLemmas.{live_line}

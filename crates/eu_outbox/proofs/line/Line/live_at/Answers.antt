@@ -1,5 +1,5 @@
 use Rattle.std.proofs.Common.{ap, sym, ◌∙◌}
-use Rattle.eu_model.specs.Queue.{live}
+use Rattle.eu_model.specs.Server.{live}
 use Rattle.eu_outbox.specs.Steps.{task_shown}
 use Rattle.eu_outbox.proofs.TaskLemmas.{live-one}
 use Rattle.eu_outbox.proofs.EntryLemmas.{one_at, none_at}

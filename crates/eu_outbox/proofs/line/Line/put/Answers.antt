@@ -1,5 +1,5 @@
 use Rattle.std.proofs.Common.{◌≡◌, ◌≤◌, true, false, length, map, ap, sym, subst, ◌∙◌}
-use Rattle.eu_model.specs.Queue.{bounded, put, waits}
+use Rattle.eu_model.specs.Server.{bounded, put, waits}
 use Rattle.eu_outbox.specs.Steps.{IsApart, task_of}
 use Rattle.eu_outbox.proofs.TaskLemmas.{IsApart-placed, put-there, bounded-placed}
 use Rattle.eu_outbox.proofs.EntryLemmas.{found, found_older, placed_older, placed_newer}

@@ -1,5 +1,5 @@
 use Rattle.std.proofs.Common.{ap, ◌∙◌}
-use Rattle.eu_model.specs.Queue.{bounded, lost}
+use Rattle.eu_model.specs.Server.{bounded, lost}
 use Rattle.eu_outbox.specs.Steps.{gave_all}
 use Rattle.eu_outbox.proofs.TaskLemmas.{gave_all-returning}
 use Rattle.eu_outbox.proofs.outbox.Outbox.lost.Goals as goal

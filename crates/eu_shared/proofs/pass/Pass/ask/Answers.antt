@@ -7,10 +7,10 @@ returns-in_default-clause-refused g c = memory_is_wanted c.args.command c.args.m
 
 pub returns-clause-answer : goal.returns-clause-answer
 returns-clause-answer g c =
-    rw (c.into_receipt.ensures, ← c.prepare.ensures.pass) (is_answer c.args.command c.args.moment g.C.Chooser.asks _ _ _ _ _ _ c.in_ok-told.told.receipt c.ask_with.ensures.before c.in_ok-told.ensures.after
-    c.in_ok-told.ensures.applied c.in_ok-told.ensures.pass)
+    rw (c.into_receipt.ensures, ← c.prepare.ensures.pass) (is_answer c.args.command c.args.moment g.C.Chooser.asks _ _ _ _ _ _ c.in_ok-outcome.outcome.receipt c.ask_with.ensures.before c.in_ok-outcome.ensures.after
+    c.in_ok-outcome.ensures.applied c.in_ok-outcome.ensures.pass)
 
-pub returns-in_err-told-clause-refused : goal.returns-in_err-told-clause-refused
-returns-in_err-told-clause-refused g c =
+pub returns-in_err-outcome-clause-refused : goal.returns-in_err-outcome-clause-refused
+returns-in_err-outcome-clause-refused g c =
     let p = err_from_is_err_and c.from_residual.result c.from_residual.ensures.1 in
-    rw (p.1, p.2) (is_refused c.args.command c.args.moment _ _ c.ask_with.ensures.before c.in_err-told.ensures.refused)
+    rw (p.1, p.2) (is_refused c.args.command c.args.moment _ _ c.ask_with.ensures.before c.in_err-outcome.ensures.refused)

@@ -1,7 +1,7 @@
 use Rattle.std.proofs.Common.{◌≤◌, ◌++◌, ◌∷◌, [], length, sym, ap, ◌∙◌, arith}
 use Rattle.std.specs.FinMap as map
 use Rattle.indexmap.proofs.CallerLemmas.{insert_entry-new}
-use Rattle.eu_base.specs.Key.{key_eq}
+use Rattle.eu_base.specs.Values.{key_eq}
 use Rattle.eu_store.specs.Stored.{deadlines}
 use Rattle.eu_store.proofs.MapLemmas.{at_ok}
 use Rattle.eu_store.proofs.TableLemmas.{by_key, get_at, inserted}

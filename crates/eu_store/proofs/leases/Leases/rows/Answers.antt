@@ -7,7 +7,7 @@ use Rattle.std.specs.FinMap.Entries.{where_key}
 use Rattle.std.proofs.lemmas.List.Sorted.{IsPermutation-map, answers_always}
 use Rattle.std.proofs.lemmas.Map.Iter.{rest_all}
 use Rattle.eu_base.specs.declared.names.Key.{Key}
-use Rattle.eu_base.specs.Key.{key_cmp}
+use Rattle.eu_base.specs.Values.{key_cmp}
 use Rattle.eu_base.proofs.KeyLemmas.{keys_total, keys_exact, key_eq-tie}
 use Rattle.eu_model.specs.View.{is_of}
 use Rattle.eu_store.specs.Stored.{rows_of}

@@ -1,0 +1,7 @@
+//! Servers of this process as peers of each other. No program runs them.
+#![tactic(auto)]
+
+mod commands;
+mod delivery;
+
+pub use delivery::InProcess;

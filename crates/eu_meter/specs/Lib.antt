@@ -1,2 +1,0 @@
-pub mod Meter
-pub mod Threshold

@@ -75,7 +75,7 @@ fn time_of(ms: u64) -> Duration
 
 /// What comes of what an `accept` gave: the connection, or none where it is made again. A connection that can't be set up has gone,
 /// and is passed over.
-fn taken<S: SetUp>(accepted: io::Result<S>, timeouts: Timeouts) -> io::Result<Option<S>>
+fn ready_stream<S: SetUp>(accepted: io::Result<S>, timeouts: Timeouts) -> io::Result<Option<S>>
     ensures came { OnOk accepted (IsOk result) }
     ensures passed { IfErr accepted (λ e. is_passing (error_kind e) ≡ true → result ≡ Ok None) }
     ensures failed { IfErr accepted (λ e. is_passing (error_kind e) ≡ false → result ≡ Err e) }
@@ -96,7 +96,7 @@ fn accept<R: Wait, L: Listens>(rt: &R, listener: &L, timeouts: Timeouts) -> io::
     ensures failed { IfErr result (λ e. is_passing (error_kind e) ≡ false) }
 {
     for _ in rt.forever() {
-        if let Some(stream) = taken(listener.next_stream(), timeouts)? {
+        if let Some(stream) = ready_stream(listener.next_stream(), timeouts)? {
             return Ok(stream);
         }
     }

@@ -421,45 +421,37 @@ impl Replica {
     pub(crate) fn step(self, alloc: Global, entry: &Entry) -> Result<Option<Replica>, AllocError>
         ensures { IfOk result (Judged (PlainStep self entry.now.command entry.now.moment entry.now.reply)) }
     {
-        let moment = entry.moment;
+        let at = entry.moment;
         let reply = &entry.reply;
         match &entry.command {
             Command::Register {
                 instance,
                 replicated,
-            } => self.register(alloc, instance, *replicated, moment, reply),
+            } => self.register(alloc, instance, *replicated, at, reply),
             Command::Renew {
                 key,
                 last_dirty,
                 overridden,
                 replicated,
-            } => self.renew(
-                alloc,
-                key,
-                *last_dirty,
-                *overridden,
-                *replicated,
-                moment,
-                reply,
-            ),
+            } => self.renew(alloc, key, *last_dirty, *overridden, *replicated, at, reply),
             Command::Cancel { key, .. } => self.cancel(alloc, key, reply),
             Command::SetStatus {
                 key,
                 status,
                 last_dirty,
                 ..
-            } => self.set_status(alloc, key, *status, *last_dirty, moment, reply),
+            } => self.set_status(alloc, key, *status, *last_dirty, at, reply),
             Command::UnsetStatus {
                 key,
                 status,
                 last_dirty,
                 ..
-            } => self.unset_status(alloc, key, *status, *last_dirty, moment, reply),
-            Command::Adopt { instance } => self.adopt(alloc, instance, moment, reply),
+            } => self.unset_status(alloc, key, *status, *last_dirty, at, reply),
+            Command::Adopt { instance } => self.adopt(alloc, instance, at, reply),
             Command::EndMinute => Ok(self.end_minute(reply)),
             Command::Update => Ok(self.update(reply)),
             Command::Reconfigure { config } => Ok(self.reconfigure(*config, reply)),
-            Command::Evict => Ok(self.evict(moment, reply)),
+            Command::Evict => Ok(self.evict(at, reply)),
             Command::Drain { .. } | Command::Landed { .. } | Command::Lost { .. } => Ok(None),
         }
     }

@@ -5,16 +5,16 @@ use Rattle.std.proofs.MapsCrossing as maps
 use Rattle.serde_json.proofs.value.Value.TheLaws.TheKnot as value
 use Rattle.eu_base.specs.contracts.boxed.BoxedInstance as boxed
 use Rattle.eu_base.specs.contracts.instances.Instance as instance
-use Rattle.eu_base.specs.contracts.rest.Kept as kept
+use Rattle.eu_base.specs.contracts.rest.Members as members
 use Rattle.eu_base.specs.contracts.rest.Rest as rest
 use Rattle.eu_base.specs.contracts.tasks.Task as task
 use Rattle.eu_base.specs.contracts.tasks.TaskName as task_name
 
-Kept-send : IsSend kept.the_field.row
-Kept-send = search (sendable, heap.crosses, maps.crosses, value.send-Value, value.sync-Value) depth 40 fits 20000
+Members-send : IsSend members.the_field.row
+Members-send = search (sendable, heap.crosses, maps.crosses, value.send-Value, value.sync-Value) depth 40 fits 20000
 
 Rest-send : IsSend rest.the_field.row
-Rest-send = search (Kept-send, sendable, heap.crosses, maps.crosses) depth 40 fits 20000
+Rest-send = search (Members-send, sendable, heap.crosses, maps.crosses) depth 40 fits 20000
 
 pub Instance-send : IsSend instance.the_field.row
 Instance-send = search (Rest-send, sendable, heap.crosses, maps.crosses) depth 40 fits 20000

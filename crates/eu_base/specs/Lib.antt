@@ -3,6 +3,6 @@ pub mod Name
 pub mod Values
 pub mod Tree
 pub mod Rest
-pub mod Kept
+pub mod Members
 pub mod Limits
 pub mod Gives

@@ -15,7 +15,7 @@ use std::sync::Arc;
 
 /// How the members are kept.
 #[derive(Debug, Drop)]
-enum Kept {
+enum Members {
     /// Those of a host of that name: they are the same for every host but for its name, which is all that is kept.
     OfHost(String),
     /// Others, once for all copies.
@@ -26,23 +26,23 @@ enum Kept {
 /// the tree. They never change, so copies share them (but for those of `Rest::of_host`, of which a copy has a name of its own).
 #[derive(Debug, Drop)]
 pub struct Rest {
-    kept: Kept,
+    members: Members,
 }
 
 impl Model for Rest {
     ghost use Rattle.std.specs.Prelude.{◌≡◌, false};
     ghost use Rattle.serde_json.specs.Data.{Data};
     ghost use Rattle.serde_json.specs.Written.{has_float};
-    ghost use Rattle.eu_base.specs.Kept.{tree_of_kept};
+    ghost use Rattle.eu_base.specs.Members.{tree_of_members};
     ghost use Rattle.eu_base.specs.Tree.{coded_tree};
 
     ghost Value = { Data };
 
     ghost coded = { coded_tree };
 
-    ghost view = { λ r. tree_of_kept r.kept };
+    ghost view = { λ r. tree_of_members r.members };
 
-    ghost invariant = { λ r. has_float (tree_of_kept r.kept) ≡ false };
+    ghost invariant = { λ r. has_float (tree_of_members r.members) ≡ false };
 }
 
 impl Rest {
@@ -60,7 +60,7 @@ impl Rest {
         };
         let members = Arc::new(alloc, members)?;
         Ok(Some(Rest {
-            kept: Kept::Shared(members),
+            members: Members::Shared(members),
         }))
     }
 
@@ -70,7 +70,7 @@ impl Rest {
         ensures { IfOk result (λ r. r ≡ rest_of_host host.now) }
     {
         Ok(Rest {
-            kept: Kept::OfHost(String::from_str(alloc, host)?),
+            members: Members::OfHost(String::from_str(alloc, host)?),
         })
     }
 
@@ -79,9 +79,9 @@ impl Rest {
         ensures tree { IfOk result (λ members. object (members_view members.entries) ≡ self.now) }
         ensures whole { has_float self.now ≡ false }
     {
-        match &self.kept {
-            Kept::OfHost(host) => members_of_host(alloc, host),
-            Kept::Shared(members) => clone_members(members),
+        match &self.members {
+            Members::OfHost(host) => members_of_host(alloc, host),
+            Members::Shared(members) => clone_members(members),
         }
     }
 
@@ -89,11 +89,11 @@ impl Rest {
     pub fn same(&self, other: &Rest) -> bool
         ensures { IsTrue result ↔ (self.now ≡ other.now) }
     {
-        match (&self.kept, &other.kept) {
-            (Kept::OfHost(host), Kept::OfHost(theirs)) => host.as_str() == theirs.as_str(),
-            (Kept::OfHost(host), Kept::Shared(theirs)) => are_of_host(theirs, host),
-            (Kept::Shared(members), Kept::OfHost(theirs)) => are_of_host(members, theirs),
-            (Kept::Shared(members), Kept::Shared(theirs)) => same_members(members, theirs),
+        match (&self.members, &other.members) {
+            (Members::OfHost(host), Members::OfHost(theirs)) => host.as_str() == theirs.as_str(),
+            (Members::OfHost(host), Members::Shared(theirs)) => are_of_host(theirs, host),
+            (Members::Shared(members), Members::OfHost(theirs)) => are_of_host(members, theirs),
+            (Members::Shared(members), Members::Shared(theirs)) => same_members(members, theirs),
         }
     }
 
@@ -101,11 +101,11 @@ impl Rest {
     pub fn copy(&self) -> Result<Rest, AllocError>
         ensures { IfOk result (λ r. r ≡ self.now) }
     {
-        let kept = match &self.kept {
-            Kept::OfHost(host) => Kept::OfHost(host.clone()?),
-            Kept::Shared(members) => Kept::Shared(Arc::try_clone(members)?),
+        let members = match &self.members {
+            Members::OfHost(host) => Members::OfHost(host.clone()?),
+            Members::Shared(members) => Members::Shared(Arc::try_clone(members)?),
         };
-        Ok(Rest { kept })
+        Ok(Rest { members })
     }
 }
 

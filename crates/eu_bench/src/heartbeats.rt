@@ -10,11 +10,17 @@ use std::alloc::Global;
 
 /// Whether a request has a route. False also where there is no memory for its names.
 fn has_route(alloc: Global, routes: &Routes, request: &Request) -> bool
-    ensures { result ≡ true → IsOk (route_of (string_bytes request.now.method) (path_of (string_bytes request.now.target)) (query_of (string_bytes request.now.target))) }
+    ensures { result ≡ true → IsOk (route_of (string_bytes request.now.method) (path_of (string_bytes request.now.target)) (query_of (string_bytes request.now.target)) request.now.replicated) }
 {
     let (path, query) = request.parts();
     routes
-        .find(alloc, request.method.as_str(), path, query)
+        .find(
+            alloc,
+            request.method.as_str(),
+            path,
+            query,
+            request.replicated,
+        )
         .is_ok()
 }
 

@@ -22,7 +22,7 @@ use Rattle.eu_model.proofs.ServedLemmas.{server, registry_answers, drain_answers
 use Rattle.eu_outbox.specs.Boxed.{Boxed}
 use Rattle.eu_base.specs.Limits.{most_steps}
 use Rattle.eu_book.specs.Account.{known_fault, queues_fault}
-use Rattle.eu_book.specs.Peers.{queues_of, served, told_key, IsRefused, QueuesAnswer}
+use Rattle.eu_book.specs.Peers.{queues_of, server_with, told_key, IsRefused, QueuesAnswer}
 
 -- ---- copies
 
@@ -76,17 +76,17 @@ untold_queues [] c t reply i (inr none) = refl
 untold_queues (b ∷ boxes) c t reply i (inr none) = absurd (omega (arith, none))
 
 pub told_nobody : (p : Plain) (boxes : List Boxed) (c : Command) (t : ℕ) (reply : Reply) (new : Plain) → is_for_peers c ≡ false → (told_key c ≡ None) ⊎ (length boxes ≡ 0)
-    → Answers p c t (Ok reply) new → ServerAnswers (served p boxes) c t (Ok reply) (served new boxes)
+    → Answers p c t (Ok reply) new → ServerAnswers (server_with p boxes) c t (Ok reply) (server_with new boxes)
 told_nobody p boxes c t reply new kind none answers =
-    subst (λ qs. ServerAnswers (served p boxes) c t (Ok reply) (server new qs)) (untold_queues boxes c t reply (held_under new (key_of c)) none)
+    subst (λ qs. ServerAnswers (server_with p boxes) c t (Ok reply) (server new qs)) (untold_queues boxes c t reply (held_under new (key_of c)) none)
     (registry_answers p (queues_of boxes) c t reply new kind answers)
 
 -- the registry's step, of which each peer is told
 pub told_all : (p : Plain) (old boxes : List Boxed) (c : Command) (t : ℕ) (reply : Reply) (new : Plain) → is_for_peers c ≡ false → Answers p c t (Ok reply) new
     → queues_of boxes ≡ map (with_task (task_for c t reply (held_under new (key_of c)))) (queues_of old)
-    → ServerAnswers (served p old) c t (Ok reply) (served new boxes)
+    → ServerAnswers (server_with p old) c t (Ok reply) (server_with new boxes)
 told_all p old boxes c t reply new kind answers told =
-    subst (λ qs. ServerAnswers (served p old) c t (Ok reply) (server new qs)) (sym told) (registry_answers p (queues_of old) c t reply new kind answers)
+    subst (λ qs. ServerAnswers (server_with p old) c t (Ok reply) (server new qs)) (sym told) (registry_answers p (queues_of old) c t reply new kind answers)
 
 -- queues of which each is changed, and one more
 pub told_push : (f : Queue → Queue) (old xs ys : List Boxed) (last next : Boxed) (new : List Boxed) → old ≡ xs ++ last ∷ [] → new ≡ ys ++ next ∷ []
@@ -135,19 +135,19 @@ module _ (boxes : List Boxed) (peer : ℕ) (b : Boxed) (found : slice_get boxes 
   pub drains : (t : ℕ) (next : Boxed) → drain_fault t b.queue ≡ None → next.queue ≡ drained t b.queue
       → QueuesAnswer boxes (Drain peer) t (Ok (Batch next.queue.flight)) (slice_set boxes peer next)
   drains t next none is p =
-      subst (λ x. ServerAnswers (served p boxes) (Drain peer) t (Ok (Batch x.0.flight)) (server p x.1)) (with_queue next (drained t b.queue) is)
+      subst (λ x. ServerAnswers (server_with p boxes) (Drain peer) t (Ok (Batch x.0.flight)) (server p x.1)) (with_queue next (drained t b.queue) is)
       (drain_answers p (queues_of boxes) peer b.queue queue_at t none)
 
   pub lands : (t : ℕ) (codes : List ℕ) (next : Boxed) → landed_fault codes b.queue ≡ None → next.queue ≡ landed t codes b.queue
       → QueuesAnswer boxes (Landed peer codes) t (Ok Settled) (slice_set boxes peer next)
   lands t codes next none is p =
-      subst (λ x. ServerAnswers (served p boxes) (Landed peer codes) t (Ok Settled) (server p x.1)) (with_queue next (landed t codes b.queue) is)
+      subst (λ x. ServerAnswers (server_with p boxes) (Landed peer codes) t (Ok Settled) (server p x.1)) (with_queue next (landed t codes b.queue) is)
       (landed_answers p (queues_of boxes) peer b.queue queue_at t codes none)
 
   pub loses : (t : ℕ) (next : Boxed) → lost_fault b.queue ≡ None → next.queue ≡ lost t b.queue
       → QueuesAnswer boxes (Lost peer) t (Ok Settled) (slice_set boxes peer next)
   loses t next none is p =
-      subst (λ x. ServerAnswers (served p boxes) (Lost peer) t (Ok Settled) (server p x.1)) (with_queue next (lost t b.queue) is)
+      subst (λ x. ServerAnswers (server_with p boxes) (Lost peer) t (Ok Settled) (server p x.1)) (with_queue next (lost t b.queue) is)
       (lost_answers p (queues_of boxes) peer b.queue queue_at t none)
 
   pub refuses_to_drain : (t : ℕ) (f : Fault) → IsRefusal (drain_fault t b.queue) f → QueuesAnswer boxes (Drain peer) t (Err f) boxes
@@ -184,7 +184,7 @@ refused_by_queue s (Lost peer) t f is = is
 refused_by_queue s c t f is = cc
 
 pub queue_refuses : (p : Plain) (boxes : List Boxed) (c : Command) (t : ℕ) (f : Fault) → queues_fault (queues_of boxes) c t ≡ Some f
-    → ServerAnswers (served p boxes) c t (Err f) (served p boxes)
+    → ServerAnswers (server_with p boxes) c t (Err f) (server_with p boxes)
 unfolding ServerAnswers IsServerAnswer
 queue_refuses p boxes c t f is s at =
     (subst (λ x. IsRefusal x f) (sym (refused_by_queue s c t f (ap (λ x. queues_fault x.queues c t) at ∙ is))) refl, sym at)
@@ -225,7 +225,7 @@ queues_want_no_memory qs c t is = cc
 
 -- after fewer steps than are counted at most, what is known without memory is what a queue refuses
 pub early_refusal : (steps : ℕ) (p : Plain) (boxes : List Boxed) (c : Command) (t : ℕ) (f : Fault) → steps ≢ most_steps → queues_fault (queues_of boxes) c t ≡ Some f
-    → IsRefused steps (served p boxes) c t f
+    → IsRefused steps (server_with p boxes) c t f
 early_refusal steps p boxes c t f fewer is = inr (fewer, inr (queue_refuses p boxes c t f is))
 
 pub nothing_known : (steps : ℕ) (qs : List Queue) (c : Command) (t : ℕ) → steps ≢ most_steps → queues_fault qs c t ≡ None → known_fault steps qs c t ≡ None

@@ -21,8 +21,8 @@ abbrev pub queues_of : List Boxed → List Queue
 queues_of boxes = map (λ b. b.queue) boxes
 
 -- a registry and outboxes are such a server
-abbrev pub served : Plain → List Boxed → PlainServer
-served p boxes = record { registry = p; queues = queues_of boxes }
+abbrev pub server_with : Plain → List Boxed → PlainServer
+server_with p boxes = record { registry = p; queues = queues_of boxes }
 
 -- a task can be put into an outbox without taking memory
 abbrev pub IsReady : Boxed → Type 0
@@ -39,7 +39,7 @@ told_key _ = None
 
 -- whatever the registry holds, a command is answered so, which changes the outboxes alone
 abbrev pub QueuesAnswer : List Boxed → Command → ℕ → Result Reply Fault → List Boxed → Type 0
-QueuesAnswer old c t result new = (p : Plain) → ServerAnswers (served p old) c t result (served p new)
+QueuesAnswer old c t result new = (p : Plain) → ServerAnswers (server_with p old) c t result (server_with p new)
 
 -- a server as plain data: the registry as it is alone, with the queues of its peers
 abbrev pub state_of : PlainServer → State

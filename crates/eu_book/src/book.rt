@@ -7,7 +7,7 @@ ghost use Rattle.eu_book.specs.Account.{cleared, entry, known_fault, opened, log
 ghost use Rattle.eu_base.specs.Limits.{most_entries};
 ghost use Rattle.eu_core.specs.Answered.{for_log};
 ghost use Rattle.eu_book.specs.Checkpoint.{IsJournal, IsRetired};
-ghost use Rattle.eu_book.specs.Peers.{served, state_of};
+ghost use Rattle.eu_book.specs.Peers.{server_with, state_of};
 
 use crate::checkpoint::{begin, plain};
 use crate::entering::{answer, note};
@@ -63,16 +63,16 @@ impl Model for Book {
     ghost use Rattle.eu_model.specs.State.{server_of_state};
     ghost use Rattle.eu_book.specs.Account.{Account, IsKept};
     ghost use Rattle.std.specs.Prelude.{◌≡◌};
-    ghost use Rattle.eu_book.specs.Peers.{served, IsPlain};
+    ghost use Rattle.eu_book.specs.Peers.{server_with, IsPlain};
     ghost use Rattle.eu_book.specs.AccountCode.{coded_account};
 
     ghost Value = { Account };
 
     ghost coded = { coded_account };
 
-    ghost view = { λ b. record { base = server_of_state b.journal.base; first = b.journal.first; entries = b.journal.entries.items; state = served b.registry b.peers; totals = b.totals } };
+    ghost view = { λ b. record { base = server_of_state b.journal.base; first = b.journal.first; entries = b.journal.entries.items; state = server_with b.registry b.peers; totals = b.totals } };
 
-    ghost invariant = { λ b. IsPlain b.journal.base × IsKept (record { base = server_of_state b.journal.base; first = b.journal.first; entries = b.journal.entries.items; state = served b.registry b.peers; totals = b.totals }) };
+    ghost invariant = { λ b. IsPlain b.journal.base × IsKept (record { base = server_of_state b.journal.base; first = b.journal.first; entries = b.journal.entries.items; state = server_with b.registry b.peers; totals = b.totals }) };
 }
 
 impl Book {

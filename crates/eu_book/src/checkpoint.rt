@@ -2,7 +2,7 @@
 ghost use Rattle.std.specs.Prelude.{◌≡◌, ◌<◌, ℕ, vec_len, IfOk, MatchOption};
 ghost use Rattle.std.specs.Option.{option_map};
 ghost use Rattle.std.specs.Vec.{vec_capacity};
-ghost use Rattle.eu_book.specs.Peers.{served, state_of};
+ghost use Rattle.eu_book.specs.Peers.{server_with, state_of};
 ghost use Rattle.eu_book.specs.Checkpoint.{anew, base_by, entries_by, first_by, BeginsAt};
 
 use crate::journal::Journal;
@@ -15,7 +15,7 @@ use std::mem;
 
 /// A registry and what waits for its peers, as plain data.
 pub(crate) fn plain(alloc: Global, registry: &Registry, peers: &Peers) -> Result<State, AllocError>
-    ensures { IfOk result (λ s. s ≡ state_of (served registry.now peers.now)) }
+    ensures { IfOk result (λ s. s ≡ state_of (server_with registry.now peers.now)) }
 {
     let mut state = registry.plain(alloc)?;
     state.queues = peers.queues(alloc)?;
@@ -30,7 +30,7 @@ pub(crate) fn begin(
     peers: &Peers,
     steps: u64,
 ) -> Result<Box<Journal>, AllocError>
-    ensures base { IfOk result (λ j. j.value.base ≡ state_of (served registry.now peers.now)) }
+    ensures base { IfOk result (λ j. j.value.base ≡ state_of (server_with registry.now peers.now)) }
     ensures fresh { IfOk result (λ j. BeginsAt steps j.value) }
 {
     let entries = Vec::with_capacity(alloc, MOST_ENTRIES)?;
@@ -55,7 +55,7 @@ pub(crate) fn make_room(
     steps: u64,
 ) -> Result<Option<Box<Journal>>, AllocError>
     ensures entries { entries.new.items ≡ entries.old.items }
-    ensures base { IfOk result (λ r. option_map (λ (j : _). j.value.base) r ≡ anew entries.old.items (served registry.now peers.now)) }
+    ensures base { IfOk result (λ r. option_map (λ (j : _). j.value.base) r ≡ anew entries.old.items (server_with registry.now peers.now)) }
     ensures room { IfOk result (λ r. MatchOption r (vec_len entries.new < vec_capacity entries.new) (λ j. BeginsAt steps j.value)) }
 {
     if entries.len() == MOST_ENTRIES {

@@ -8,7 +8,7 @@ ghost use Rattle.eu_model.specs.Answers.{ServerAnswers};
 ghost use Rattle.eu_book.specs.Account.{entry, known_fault};
 ghost use Rattle.eu_base.specs.Limits.{most_steps};
 ghost use Rattle.eu_core.specs.Answered.{answered};
-ghost use Rattle.eu_book.specs.Peers.{IsRefused, queues_of, served};
+ghost use Rattle.eu_book.specs.Peers.{IsRefused, queues_of, server_with};
 ghost use Rattle.eu_book.specs.Checkpoint.{anew, base_by, entries_by, first_by, BeginsAt};
 
 use crate::book::{Entered, Receipt};
@@ -43,15 +43,15 @@ pub(crate) fn answer<C: Chooser>(
     logs: bool,
 ) -> Result<Accepted, Fault>
     ensures entries { entries.new.items ≡ entries.old.items }
-    ensures base { IfOk result (λ a. option_map (λ (j : _). j.value.base) a.renewal ≡ anew entries.old.items (served registry.old peers.old)) }
+    ensures base { IfOk result (λ a. option_map (λ (j : _). j.value.base) a.renewal ≡ anew entries.old.items (server_with registry.old peers.old)) }
     ensures room { IfOk result (λ a. MatchOption a.renewal (vec_len entries.new < vec_capacity entries.new) (λ j. BeginsAt steps j.value)) }
     ensures counts { OnOk result (steps ≢ most_steps) }
     ensures same { IfOk result (λ a. a.answered ≡ answered logs a.answered.reply) }
-    ensures answers { IfOk result (λ a. ServerAnswers (served registry.old peers.old) command.now moment (Ok a.answered.reply) (served registry.new peers.new)) }
+    ensures answers { IfOk result (λ a. ServerAnswers (server_with registry.old peers.old) command.now moment (Ok a.answered.reply) (server_with registry.new peers.new)) }
     ensures chooses { IfOk result (λ a. Chooses C.asks registry.old chooser.old command.now moment a.answered.reply chooser.new) }
-    ensures refused { IfErr result (λ f. IsRefused steps (served registry.old peers.old) command.now moment f) }
+    ensures refused { IfErr result (λ f. IsRefused steps (server_with registry.old peers.old) command.now moment f) }
     ensures memory { IfErr result (λ f. f ≡ Fault.OutOfMemory → known_fault steps (queues_of peers.old) command.now moment ≡ None) }
-    ensures err { OnErr result (served registry.new peers.new ≡ served registry.old peers.old) }
+    ensures err { OnErr result (server_with registry.new peers.new ≡ server_with registry.old peers.old) }
     ensures unasked { OnErr result (chooser.new ≡ chooser.old) }
 {
     if steps == MOST_STEPS {
@@ -111,15 +111,15 @@ pub(crate) fn note(
 }
 
 /// Adds what is done now to what was done.
-fn add(done: &mut Tally, more: Tally)
-    requires steps { done.old.steps + more.steps < 2 ^ 64 }
-    requires counted { done.old.counted + more.counted < 2 ^ 64 }
-    requires added { done.old.added + more.added < 2 ^ 64 }
-    requires removed { done.old.removed + more.removed < 2 ^ 64 }
-    ensures { done.new ≡ plus done.old more }
+fn add(total: &mut Tally, more: Tally)
+    requires steps { total.old.steps + more.steps < 2 ^ 64 }
+    requires counted { total.old.counted + more.counted < 2 ^ 64 }
+    requires added { total.old.added + more.added < 2 ^ 64 }
+    requires removed { total.old.removed + more.removed < 2 ^ 64 }
+    ensures { total.new ≡ plus total.old more }
 {
-    done.steps += more.steps;
-    done.counted += more.counted;
-    done.added += more.added;
-    done.removed += more.removed;
+    total.steps += more.steps;
+    total.counted += more.counted;
+    total.added += more.added;
+    total.removed += more.removed;
 }

@@ -6,7 +6,7 @@ ghost use Rattle.eu_core.specs.Stepped.{Chooses};
 ghost use Rattle.eu_model.specs.Server.{is_for_peers};
 ghost use Rattle.eu_model.specs.Answers.{ServerAnswers};
 ghost use Rattle.eu_core.specs.Answered.{answered};
-ghost use Rattle.eu_book.specs.Peers.{MayRefuse, served, told_key};
+ghost use Rattle.eu_book.specs.Peers.{MayRefuse, server_with, told_key};
 
 use crate::peers::Peers;
 use crate::tasks::told_key;
@@ -27,10 +27,10 @@ pub(crate) fn serve<C: Chooser>(
     logs: bool,
 ) -> Result<Answered<Reply>, Fault>
     ensures same { IfOk result (λ a. a ≡ answered logs a.reply) }
-    ensures answers { IfOk result (λ a. ServerAnswers (served registry.old peers.old) command.now moment (Ok a.reply) (served registry.new peers.new)) }
+    ensures answers { IfOk result (λ a. ServerAnswers (server_with registry.old peers.old) command.now moment (Ok a.reply) (server_with registry.new peers.new)) }
     ensures chooses { IfOk result (λ a. Chooses C.asks registry.old chooser.old command.now moment a.reply chooser.new) }
-    ensures refused { IfErr result (λ f. MayRefuse (served registry.old peers.old) command.now moment f) }
-    ensures err { OnErr result (served registry.new peers.new ≡ served registry.old peers.old) }
+    ensures refused { IfErr result (λ f. MayRefuse (server_with registry.old peers.old) command.now moment f) }
+    ensures err { OnErr result (server_with registry.new peers.new ≡ server_with registry.old peers.old) }
     ensures unasked { OnErr result (chooser.new ≡ chooser.old) }
 {
     match command {
@@ -76,9 +76,9 @@ fn step<C: Chooser>(
     requires kind { is_for_peers command.now ≡ false }
     requires untold { (told_key command.now ≡ None) ⊎ (length peers.now ≡ 0) }
     ensures same { IfOk result (λ a. a ≡ answered logs a.reply) }
-    ensures answers { IfOk result (λ a. ServerAnswers (served registry.old peers.now) command.now moment (Ok a.reply) (served registry.new peers.now)) }
+    ensures answers { IfOk result (λ a. ServerAnswers (server_with registry.old peers.now) command.now moment (Ok a.reply) (server_with registry.new peers.now)) }
     ensures chooses { IfOk result (λ a. Chooses C.asks registry.old chooser.old command.now moment a.reply chooser.new) }
-    ensures refused { IfErr result (λ f. MayRefuse (served registry.old peers.now) command.now moment f) }
+    ensures refused { IfErr result (λ f. MayRefuse (server_with registry.old peers.now) command.now moment f) }
     ensures err { OnErr result (registry.new ≡ registry.old) }
     ensures unasked { OnErr result (chooser.new ≡ chooser.old) }
 {
@@ -100,10 +100,10 @@ fn step_and_tell<C: Chooser>(
     requires kind { is_for_peers command.now ≡ false }
     requires key { told_key command.now ≡ Some key.now }
     ensures same { IfOk result (λ a. a ≡ answered logs a.reply) }
-    ensures answers { IfOk result (λ a. ServerAnswers (served registry.old peers.old) command.now moment (Ok a.reply) (served registry.new peers.new)) }
+    ensures answers { IfOk result (λ a. ServerAnswers (server_with registry.old peers.old) command.now moment (Ok a.reply) (server_with registry.new peers.new)) }
     ensures chooses { IfOk result (λ a. Chooses C.asks registry.old chooser.old command.now moment a.reply chooser.new) }
-    ensures refused { IfErr result (λ f. MayRefuse (served registry.old peers.old) command.now moment f) }
-    ensures err { OnErr result (served registry.new peers.new ≡ served registry.old peers.old) }
+    ensures refused { IfErr result (λ f. MayRefuse (server_with registry.old peers.old) command.now moment f) }
+    ensures err { OnErr result (server_with registry.new peers.new ≡ server_with registry.old peers.old) }
     ensures unasked { OnErr result (chooser.new ≡ chooser.old) }
 {
     let count = peers.count();

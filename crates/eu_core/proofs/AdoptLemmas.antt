@@ -6,7 +6,7 @@ use Rattle.eu_base.specs.declared.statuses.Status.{Status}
 use Rattle.eu_base.specs.declared.instances.Instance.{Instance}
 use Rattle.eu_model.specs.declared.views.Listed.{Listed}
 use Rattle.eu_model.specs.Change.{rule, row_of, joined, up_after, register, overridden_by}
-use Rattle.eu_model.specs.Machine.{made}
+use Rattle.eu_model.specs.Machine.{new_record}
 use Rattle.eu_model.specs.Plain.{listed}
 use Rattle.eu_model.specs.PlainSteps.{raised, plain_change, plain_register, plain_adopt}
 
@@ -27,5 +27,5 @@ adopt_registers (Some l) row e n t =
       | None ↦ refl
       | Some s ↦
           let q = same_joined l.instance n s true in
-          λ i. record (plain_register (Some l) (Some s) e n true t) { lease = Some (listed (made (q i) (up_after l.times.up (q i).status t) t)) }
+          λ i. record (plain_register (Some l) (Some s) e n true t) { lease = Some (listed (new_record (q i) (up_after l.times.up (q i).status t) t)) }
     ]

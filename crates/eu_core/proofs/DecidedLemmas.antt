@@ -41,10 +41,10 @@ answered p command t k d held c c' at change same answers =
     subst (λ r. Answers p command t (Ok r) (left p k d.change)) (sym h.reply) (subst (λ q. Answers p command t (Ok c'.reply) q) (sym (is_after p k d c' h)) answers)
 
 -- the same, where a decision was made of what is known
-pub known : (p : Plain) (command : Command) (t : ℕ) (k : Key) (d : Decision) (held : Option Listed) (x : ℕ) (change : ℕ → Change Listed) (c : Change Listed)
+pub answers_at : (p : Plain) (command : Command) (t : ℕ) (k : Key) (d : Decision) (held : Option Listed) (x : ℕ) (change : ℕ → Change Listed) (c : Change Listed)
     → held ≡ get p.leases k → x ≡ p.expected → IsChange d held (change x) → change p.expected ≡ c
     → Answers p command t (Ok c.reply) (after p k c) → Answers p command t (Ok d.reply) (left p k d.change)
-known p command t k d held x change c at ex h same answers = answered p command t k d held (change p.expected) c at (subst (λ z. IsChange d held (change z)) ex h) same answers
+answers_at p command t k d held x change c at ex h same answers = answered p command t k d held (change p.expected) c at (subst (λ z. IsChange d held (change z)) ex h) same answers
 
 -- what is decided in place, and counts nothing, can be carried out
 pub ready_in_place : (p : Plain) (k : Key) (x : Decided) → begins x.lease ≡ false → x.expected ≤ 2 ^ 40 → count_fault x.counted p.since ≡ None → IsReady p k x

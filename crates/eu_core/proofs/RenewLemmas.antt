@@ -16,7 +16,7 @@ use Rattle.eu_model.proofs.RenewLemmas.{renews, renew_answers, renew_refused}
 use Rattle.eu_lease.specs.Meter.{Counted}
 use Rattle.eu_core.specs.declared.decision.Decision.{Decision}
 use Rattle.eu_core.specs.Decided.{count_fault, counted, begins, Decides, IsChange}
-use Rattle.eu_core.proofs.DecidedLemmas.{known, ready_in_place}
+use Rattle.eu_core.proofs.DecidedLemmas.{answers_at, ready_in_place}
 
 -- ---- what is decided, where a registry is renewed
 
@@ -42,7 +42,7 @@ module _ (p : Plain) (k : Key) (last_dirty : Option ℕ) (overridden : Option St
           → IfOk z (Decides p (Renew k last_dirty overridden r) t k)
       by (Err f) h none in_place bound = tt
       by (Ok d) h none in_place bound = record {
-        answers = known p (Renew k last_dirty overridden r) t k d held x changes (renews k last_dirty overridden r t p) at ex h same (renew_answers k last_dirty overridden r t p (sym fault ∙ none));
+        answers = answers_at p (Renew k last_dirty overridden r) t k d held x changes (renews k last_dirty overridden r t p) at ex h same (renew_answers k last_dirty overridden r t p (sym fault ∙ none));
         memory = renew_refused k last_dirty overridden r t p OutOfMemory (subst (λ o. IsRefusal o OutOfMemory) (sym (sym fault ∙ none)) refl);
         ready = ready_in_place p k d.change in_place bound ((λ i. count_fault (h.counted_is i) ((sym counts) i).since) ∙ none);
       }

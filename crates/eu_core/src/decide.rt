@@ -18,7 +18,7 @@ use std::alloc::{AllocError, Global};
 
 /// What is known beside the lease when a command on it is decided.
 #[derive(Clone, Copy)]
-pub struct Known {
+pub struct Context {
     /// The override row of its id.
     pub row: Option<Status>,
     /// How many clients are expected.
@@ -31,32 +31,32 @@ pub struct Known {
 pub fn decide_renewal(
     alloc: Global,
     held: Option<&HeldLease>,
-    known: Known,
+    context: Context,
     last_dirty: Option<Stamp>,
     overridden: Option<Status>,
     replicated: bool,
     moment: Moment,
 ) -> Result<Decision, Fault>
-    ensures change { IfOk result (λ d. IsChange d (option_copied held.entry) (plain_renew (option_copied held.entry) known.row known.expected last_dirty overridden replicated moment)) }
-    ensures counted { OnOk result (count_fault (plain_renew (option_copied held.entry) known.row known.expected last_dirty overridden replicated moment).counted known.rate.since ≡ None) }
+    ensures change { IfOk result (λ d. IsChange d (option_copied held.entry) (plain_renew (option_copied held.entry) context.row context.expected last_dirty overridden replicated moment)) }
+    ensures counted { OnOk result (count_fault (plain_renew (option_copied held.entry) context.row context.expected last_dirty overridden replicated moment).counted context.rate.since ≡ None) }
     ensures in_place { IfOk result (λ d. begins d.change.lease ≡ false) }
-    ensures few { IfOk result (λ d. d.change.expected ≤ known.expected) }
-    ensures frugal { (last_dirty ≡ None) ⊎ (replicated ≡ false) → IfOk result (λ d. d.change.row ≡ known.row) }
-    ensures refused { IfErr result (λ f. IsRefusal (count_fault (plain_renew (option_copied held.entry) known.row known.expected last_dirty overridden replicated moment).counted known.rate.since) f) }
+    ensures few { IfOk result (λ d. d.change.expected ≤ context.expected) }
+    ensures frugal { (last_dirty ≡ None) ⊎ (replicated ≡ false) → IfOk result (λ d. d.change.row ≡ context.row) }
+    ensures refused { IfErr result (λ f. IsRefusal (count_fault (plain_renew (option_copied held.entry) context.row context.expected last_dirty overridden replicated moment).counted context.rate.since) f) }
     ensures memory { (last_dirty ≡ None) ⊎ (replicated ≡ false) → result ≢ Err Fault.OutOfMemory }
 {
     let Some(held) = held else {
-        return Ok(unchanged(known, Reply::NotFound));
+        return Ok(unchanged(context, Reply::NotFound));
     };
     let instance = held.instance();
     let own = instance.status;
-    let status = override_rule(own, known.row, Some(own), replicated);
+    let status = override_rule(own, context.row, Some(own), replicated);
     if is_status(status, Status::Unknown) {
-        return Ok(unchanged(known, Reply::NotFound));
+        return Ok(unchanged(context, Reply::NotFound));
     }
-    known.rate.check()?;
+    context.rate.check()?;
     let reply = renew_reply(alloc, instance, status, last_dirty, replicated)?;
-    let row_of_peer = row_of_peer(&reply, overridden, known.row, replicated);
+    let row_of_peer = row_of_peer(&reply, overridden, context.row, replicated);
     Ok(Decision {
         change: Change {
             lease: LeaseChange::Amended(Amendment::InStatuses {
@@ -66,8 +66,8 @@ pub fn decide_renewal(
                 last_dirty: None,
                 comes_up: false,
             }),
-            row: row_of_peer.or(known.row),
-            expected: known.expected,
+            row: row_of_peer.or(context.row),
+            expected: context.expected,
             counted: true,
         },
         reply,
@@ -103,23 +103,23 @@ fn renew_reply(
 
 /// A status that is set for a lease that is seen, if it is (`AbstractInstanceRegistry.statusUpdate`).
 pub fn decide_status(
-    seen: Option<&HeldLease>,
-    known: Known,
+    visible: Option<&HeldLease>,
+    context: Context,
     status: Status,
     last_dirty: Option<Stamp>,
     moment: Moment,
 ) -> Decision
-    ensures change { (held : Option Listed) → ((l : Listed) → option_copied seen.entry ≡ Some l → held ≡ Some l)
-        → IsChange result held (plain_set_status (option_copied seen.entry) held known.row known.expected status last_dirty moment) }
+    ensures change { (held : Option Listed) → ((l : Listed) → option_copied visible.entry ≡ Some l → held ≡ Some l)
+        → IsChange result held (plain_set_status (option_copied visible.entry) held context.row context.expected status last_dirty moment) }
     ensures in_place { begins result.change.lease ≡ false }
-    ensures few { result.change.expected ≤ known.expected }
+    ensures few { result.change.expected ≤ context.expected }
     ensures uncounted { result.change.counted ≡ false }
 {
-    let Some(seen) = seen else {
-        return unchanged(known, Reply::NotFound);
+    let Some(visible) = visible else {
+        return unchanged(context, Reply::NotFound);
     };
-    if is_status(seen.instance().status, status) {
-        return renewed(known, moment);
+    if is_status(visible.instance().status, status) {
+        return renewed(context, moment);
     }
     Decision {
         change: Change {
@@ -131,7 +131,7 @@ pub fn decide_status(
                 comes_up: is_status(status, Status::Up),
             }),
             row: Some(status),
-            expected: known.expected,
+            expected: context.expected,
             counted: false,
         },
         reply: Reply::Done,
@@ -140,24 +140,24 @@ pub fn decide_status(
 
 /// An override that is taken back from a lease that is seen, if it is (`AbstractInstanceRegistry.deleteStatusOverride`).
 pub fn decide_no_status(
-    seen: Option<&HeldLease>,
-    known: Known,
+    visible: Option<&HeldLease>,
+    context: Context,
     status: Option<Status>,
     last_dirty: Option<Stamp>,
     moment: Moment,
 ) -> Decision
-    ensures change { (held : Option Listed) → ((l : Listed) → option_copied seen.entry ≡ Some l → held ≡ Some l)
-        → IsChange result held (plain_unset_status (option_copied seen.entry) held known.row known.expected status last_dirty moment) }
+    ensures change { (held : Option Listed) → ((l : Listed) → option_copied visible.entry ≡ Some l → held ≡ Some l)
+        → IsChange result held (plain_unset_status (option_copied visible.entry) held context.row context.expected status last_dirty moment) }
     ensures in_place { begins result.change.lease ≡ false }
-    ensures few { result.change.expected ≤ known.expected }
+    ensures few { result.change.expected ≤ context.expected }
     ensures uncounted { result.change.counted ≡ false }
-    ensures frugal { (result.change.row ≡ known.row) ⊎ (result.change.row ≡ None) }
+    ensures frugal { (result.change.row ≡ context.row) ⊎ (result.change.row ≡ None) }
 {
-    let Some(_seen) = seen else {
-        return unchanged(known, Reply::NotFound);
+    let Some(_seen) = visible else {
+        return unchanged(context, Reply::NotFound);
     };
-    let Some(_row) = known.row else {
-        return renewed(known, moment);
+    let Some(_row) = context.row else {
+        return renewed(context, moment);
     };
     Decision {
         change: Change {
@@ -169,7 +169,7 @@ pub fn decide_no_status(
                 comes_up: false,
             }),
             row: None,
-            expected: known.expected,
+            expected: context.expected,
             counted: false,
         },
         reply: Reply::Done,
@@ -177,32 +177,32 @@ pub fn decide_no_status(
 }
 
 /// A cancel (`AbstractInstanceRegistry.internalCancel`).
-pub fn decide_cancel(held: Option<&HeldLease>, known: Known) -> Decision
-    ensures change { IsChange result (option_copied held.entry) (plain_cancel (option_copied held.entry) known.expected) }
+pub fn decide_cancel(held: Option<&HeldLease>, context: Context) -> Decision
+    ensures change { IsChange result (option_copied held.entry) (plain_cancel (option_copied held.entry) context.expected) }
     ensures in_place { begins result.change.lease ≡ false }
-    ensures few { result.change.expected ≤ known.expected }
+    ensures few { result.change.expected ≤ context.expected }
     ensures uncounted { result.change.counted ≡ false }
     ensures row { result.change.row ≡ None }
 {
     match held {
         Some(_) => without_row(
             LeaseChange::Ended,
-            known.expected.saturating_sub(1),
+            context.expected.saturating_sub(1),
             Reply::Done,
         ),
-        None => without_row(LeaseChange::Stays, known.expected, Reply::NotFound),
+        None => without_row(LeaseChange::Stays, context.expected, Reply::NotFound),
     }
 }
 
 /// The lease stays, if one is held, and so does all else.
-fn unchanged(known: Known, reply: Reply) -> Decision
-    ensures { result ≡ decided LeaseChange.Stays known.row known.expected reply }
+fn unchanged(context: Context, reply: Reply) -> Decision
+    ensures { result ≡ decided LeaseChange.Stays context.row context.expected reply }
 {
     Decision {
         change: Change {
             lease: LeaseChange::Stays,
-            row: known.row,
-            expected: known.expected,
+            row: context.row,
+            expected: context.expected,
             counted: false,
         },
         reply,
@@ -210,14 +210,14 @@ fn unchanged(known: Known, reply: Reply) -> Decision
 }
 
 /// The lease is renewed, and not counted.
-fn renewed(known: Known, moment: Moment) -> Decision
-    ensures { result ≡ decided (LeaseChange.Amended (Amendment.Renewed moment)) known.row known.expected Reply.Done }
+fn renewed(context: Context, moment: Moment) -> Decision
+    ensures { result ≡ decided (LeaseChange.Amended (Amendment.Renewed moment)) context.row context.expected Reply.Done }
 {
     Decision {
         change: Change {
             lease: LeaseChange::Amended(Amendment::Renewed { moment }),
-            row: known.row,
-            expected: known.expected,
+            row: context.row,
+            expected: context.expected,
             counted: false,
         },
         reply: Reply::Done,

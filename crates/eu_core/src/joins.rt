@@ -9,7 +9,7 @@ ghost use Rattle.eu_model.specs.Change.{up_after};
 ghost use Rattle.eu_core.specs.Decided.{begins, IsNew};
 ghost use Rattle.eu_core.specs.Joins.{Joins};
 
-use crate::decide::Known;
+use crate::decide::Context;
 use crate::decision::{Change, Decision, LeaseChange};
 use crate::statuses::judge_statuses;
 use eu_base::{Instance, MOST_LEASES, Moment, Status};
@@ -35,19 +35,19 @@ pub fn decide_join(
     alloc: Global,
     instance: &Instance,
     held: Option<&HeldLease>,
-    known: Known,
+    context: Context,
     replicated: bool,
     moment: Moment,
 ) -> Result<Decision, AllocError>
-    ensures joins { IfOk result (λ d. Joins d (option_copied held.entry) known.row known.expected instance.now replicated moment) }
+    ensures joins { IfOk result (λ d. Joins d (option_copied held.entry) context.row context.expected instance.now replicated moment) }
     ensures new { IfOk result (λ d. (leases : FinMap key_cmp Listed) → option_copied held.entry ≡ map.get leases instance.now.key → (option_copied held.entry ≡ None → map.len leases < MOST_LEASES) → IsNew leases instance.now.key d.change.lease) }
 {
     match held {
-        None => join_new(alloc, instance, known, replicated, moment),
+        None => join_new(alloc, instance, context, replicated, moment),
         Some(held) if instance.last_dirty.value() < held.instance().last_dirty.value() => {
-            Ok(join_under(instance, held, known, replicated, moment))
+            Ok(join_under(instance, held, context, replicated, moment))
         }
-        Some(held) => join_over(alloc, instance, held, known, replicated, moment),
+        Some(held) => join_over(alloc, instance, held, context, replicated, moment),
     }
 }
 
@@ -70,17 +70,17 @@ fn copy_as(
 fn join_new(
     alloc: Global,
     instance: &Instance,
-    known: Known,
+    context: Context,
     replicated: bool,
     moment: Moment,
 ) -> Result<Decision, AllocError>
-    ensures joins { IfOk result (λ d. Joins d None known.row known.expected instance.now replicated moment) }
+    ensures joins { IfOk result (λ d. Joins d None context.row context.expected instance.now replicated moment) }
     ensures new { IfOk result (λ d. (leases : FinMap key_cmp Listed) → map.get leases instance.now.key ≡ None → map.len leases < MOST_LEASES → IsNew leases instance.now.key d.change.lease) }
 {
     let statuses = judge_statuses(
         instance.status,
         instance.overridden,
-        known.row,
+        context.row,
         None,
         replicated,
     );
@@ -92,7 +92,7 @@ fn join_new(
         change: Change {
             lease: LeaseChange::Begun(held),
             row: statuses.row,
-            expected: known.expected,
+            expected: context.expected,
             counted: false,
         },
         reply: Reply::Registered { fresh: true },
@@ -104,18 +104,18 @@ fn join_over(
     alloc: Global,
     instance: &Instance,
     held: &HeldLease,
-    known: Known,
+    context: Context,
     replicated: bool,
     moment: Moment,
 ) -> Result<Decision, AllocError>
     requires { held.now.instance.last_dirty ≤ instance.now.last_dirty }
-    ensures joins { IfOk result (λ d. Joins d (Some held.now) known.row known.expected instance.now replicated moment) }
+    ensures joins { IfOk result (λ d. Joins d (Some held.now) context.row context.expected instance.now replicated moment) }
     ensures in_place { IfOk result (λ d. begins d.change.lease ≡ false) }
 {
     let statuses = judge_statuses(
         instance.status,
         instance.overridden,
-        known.row,
+        context.row,
         Some(held.instance().status),
         replicated,
     );
@@ -127,7 +127,7 @@ fn join_over(
         change: Change {
             lease: LeaseChange::Amended(Amendment::Replaced(held)),
             row: statuses.row,
-            expected: known.expected,
+            expected: context.expected,
             counted: false,
         },
         reply: Reply::Registered { fresh: false },
@@ -138,19 +138,19 @@ fn join_over(
 fn join_under(
     newcomer: &Instance,
     held: &HeldLease,
-    known: Known,
+    context: Context,
     replicated: bool,
     moment: Moment,
 ) -> Decision
     requires { newcomer.now.last_dirty < held.now.instance.last_dirty }
-    ensures joins { Joins result (Some held.now) known.row known.expected newcomer.now replicated moment }
+    ensures joins { Joins result (Some held.now) context.row context.expected newcomer.now replicated moment }
     ensures in_place { begins result.change.lease ≡ false }
 {
     let own = held.instance();
     let statuses = judge_statuses(
         own.status,
         own.overridden,
-        known.row,
+        context.row,
         Some(own.status),
         replicated,
     );
@@ -164,7 +164,7 @@ fn join_under(
                 lease,
             }),
             row: statuses.row,
-            expected: known.expected,
+            expected: context.expected,
             counted: false,
         },
         reply: Reply::Registered { fresh: false },

@@ -15,7 +15,7 @@ ghost use Rattle.eu_core.specs.Stepped.{Draws};
 ghost use Rattle.eu_core.specs.Shown.{shown};
 ghost use Rattle.eu_core.specs.State.{state_of};
 
-use crate::decide::{Known, decide_cancel, decide_no_status, decide_renewal, decide_status};
+use crate::decide::{Context, decide_cancel, decide_no_status, decide_renewal, decide_status};
 use crate::decision::{Change, Decision, LeaseChange, begin, new_id, write_lease, write_row};
 use crate::joins::decide_join;
 use crate::statuses::row_of;
@@ -330,7 +330,7 @@ impl Registry {
     pub fn look(&self, key: &Key, moment: Moment) -> Option<(&Instance, Times)>
         ensures { Shows self.now (λ s. one s key.now moment) (shown result) }
     {
-        match self.seen(self.leases.get(key), moment) {
+        match self.visible(self.leases.get(key), moment) {
             Some(held) => Some((held.instance(), held.times())),
             None => None,
         }
@@ -378,13 +378,13 @@ impl Registry {
     }
 
     /// What is known beside a lease whose id has that row.
-    fn known(&self, row: Option<Status>) -> Known
+    fn context(&self, row: Option<Status>) -> Context
         ensures row { result.row ≡ row }
         ensures expected { result.expected ≡ self.now.expected }
         ensures bound { result.expected ≤ MOST_EXPECTED }
         ensures rate { result.rate ≡ counted self.now }
     {
-        Known {
+        Context {
             row,
             expected: self.threshold.expected(),
             rate: self.rate,
@@ -392,7 +392,7 @@ impl Registry {
     }
 
     /// What is seen at the moment of what is held: nothing, where eviction is permitted and it has expired.
-    fn seen<'a>(&self, held: Option<&'a HeldLease>, moment: Moment) -> Option<&'a HeldLease>
+    fn visible<'a>(&self, held: Option<&'a HeldLease>, moment: Moment) -> Option<&'a HeldLease>
         ensures { option_copied result ≡ plain_seen (is_permitted self.now.config self.now.expected self.now.last) moment (option_copied held.entry) }
     {
         let permitted = self.threshold.permitted(self.rate.last());
@@ -436,12 +436,12 @@ impl Registry {
         ensures refused { IfErr result (λ f. Answers self.now (Command.Register instance.now replicated) moment (Err f) self.now) }
     {
         let expected = self.check_join(held)?;
-        let known = Known {
+        let context = Context {
             row,
             expected,
             rate: self.rate,
         };
-        Ok(decide_join(alloc, instance, held, known, replicated, moment)?)
+        Ok(decide_join(alloc, instance, held, context, replicated, moment)?)
     }
 
     /// What an adoption does to the lease of its key, where that is held and its id has that row.
@@ -459,12 +459,12 @@ impl Registry {
         ensures refused { IfErr result (λ f. Answers self.now (Command.Adopt instance.now) moment (Err f) self.now) }
     {
         let expected = self.check_join(held)?;
-        let known = Known {
+        let context = Context {
             row: row_of(instance.overridden).or(row),
             expected,
             rate: self.rate,
         };
-        Ok(decide_join(alloc, instance, held, known, true, moment)?)
+        Ok(decide_join(alloc, instance, held, context, true, moment)?)
     }
 
     /// What a renewal does to the lease of that key, where that is held and its id has that row.
@@ -486,9 +486,9 @@ impl Registry {
         ensures frugal { (last_dirty ≡ None) ⊎ (replicated ≡ false) → IfOk result (λ d. IsFrugal row d.change) }
         ensures memory { (last_dirty ≡ None) ⊎ (replicated ≡ false) → result ≢ Err Fault.OutOfMemory }
     {
-        let known = self.known(row);
+        let context = self.context(row);
         decide_renewal(
-            alloc, held, known, last_dirty, overridden, replicated, moment,
+            alloc, held, context, last_dirty, overridden, replicated, moment,
         )
     }
 
@@ -506,8 +506,8 @@ impl Registry {
         requires row { row ≡ map.get self.now.overrides key.now.id }
         ensures { (replicated : Bool) → Decides self.now (Command.SetStatus key.now status last_dirty replicated) moment key.now result }
     {
-        let seen = self.seen(held, moment);
-        decide_status(seen, self.known(row), status, last_dirty, moment)
+        let visible = self.visible(held, moment);
+        decide_status(visible, self.context(row), status, last_dirty, moment)
     }
 
     /// What a status that is taken back does to the lease of that key, where that is held and its id has that row.
@@ -525,8 +525,8 @@ impl Registry {
         ensures decides { (replicated : Bool) → Decides self.now (Command.UnsetStatus key.now status last_dirty replicated) moment key.now result }
         ensures frugal { IsFrugal row result.change }
     {
-        let seen = self.seen(held, moment);
-        decide_no_status(seen, self.known(row), status, last_dirty, moment)
+        let visible = self.visible(held, moment);
+        decide_no_status(visible, self.context(row), status, last_dirty, moment)
     }
 
     /// What a cancel does to the lease of that key, where that is held and its id has that row.
@@ -540,7 +540,7 @@ impl Registry {
         ensures decides { (replicated : Bool) (t : ℕ) → Decides self.now (Command.Cancel key.now replicated) t key.now result }
         ensures frugal { IsFrugal row result.change }
     {
-        decide_cancel(held, self.known(row))
+        decide_cancel(held, self.context(row))
     }
 
     /// Carries out what was decided of the lease of that key, which was found at that place, and whose id has that row. All memory is

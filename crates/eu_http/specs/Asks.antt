@@ -54,22 +54,18 @@ for_page = Some (record { wanted = wanted.Page; asks = See query.Counts ∷ See 
 -- what is asked for a route, by a body at a moment; nothing, where it is forbidden. A peer sends every command of a batch, whatever the request says
 abbrev pub asks_for : Route → Bool → List ℕ → ℕ → Result (Option Wants) Fault
 asks_for (route.Register app) replicated body moment = registration app replicated body moment >>= λ c. Ok (change c)
-asks_for (route.Renew key last_dirty overridden) replicated body moment = Ok (change (command.Renew key last_dirty overridden replicated))
-asks_for (route.Cancel key) replicated body moment = Ok (change (command.Cancel key replicated))
-asks_for (route.SetStatus key status last_dirty) replicated body moment = Ok (change (command.SetStatus key status last_dirty replicated))
-asks_for (route.UnsetStatus key status last_dirty) replicated body moment = Ok (change (command.UnsetStatus key status last_dirty replicated))
+asks_for (route.Do c) replicated body moment = Ok (change c)
 asks_for route.Batch replicated body moment = batch_asks moment body
 asks_for route.All replicated body moment = Ok (Some (record { wanted = wanted.All; asks = See query.All ∷ [] }))
 asks_for (route.OfApp app) replicated body moment = Ok (Some (record { wanted = wanted.OfApp; asks = See (query.OfApp app) ∷ [] }))
 asks_for (route.One key) replicated body moment = Ok (Some (record { wanted = wanted.One; asks = See (query.One key) ∷ [] }))
 asks_for route.Delta replicated body moment = Ok None
 asks_for route.StatusPage replicated body moment = Ok for_page
-asks_for (route.Reconfigure config) replicated body moment = Ok (change (command.Reconfigure config))
 
 -- what a request asks at a moment, or its first fault
 abbrev pub asks_of : Request → ℕ → Result (Option Wants) Fault
 asks_of request moment = do
-  named ← route_of (string_bytes request.method) (target.path_of (string_bytes request.target)) (target.query_of (string_bytes request.target))
+  named ← route_of (string_bytes request.method) (target.path_of (string_bytes request.target)) (target.query_of (string_bytes request.target)) request.replicated
   asks_for named request.replicated request.body.items moment
 
 abbrev pub wants_in : Asked → Option Wants

@@ -96,41 +96,9 @@ fn for_page(alloc: Global) -> Result<Asked, AllocError>
 fn asks_for(alloc: Global, route: Route, request: &Request, moment: Moment) -> Result<Asked, Fault>
     ensures { spec.Says result (spec.asks_for route request.now.replicated request.now.body.items moment) }
 {
-    let replicated = request.replicated;
     let command = match route {
         Route::Register(app) => registration(alloc, &app, request, moment)?,
-        Route::Renew {
-            key,
-            last_dirty,
-            overridden,
-        } => Command::Renew {
-            key,
-            last_dirty,
-            overridden,
-            replicated,
-        },
-        Route::Cancel(key) => Command::Cancel { key, replicated },
-        Route::SetStatus {
-            key,
-            status,
-            last_dirty,
-        } => Command::SetStatus {
-            key,
-            status,
-            last_dirty,
-            replicated,
-        },
-        Route::UnsetStatus {
-            key,
-            status,
-            last_dirty,
-        } => Command::UnsetStatus {
-            key,
-            status,
-            last_dirty,
-            replicated,
-        },
-        Route::Reconfigure(config) => Command::Reconfigure { config },
+        Route::Do(command) => command,
         Route::All => return Ok(just(alloc, Wanted::All, Ask::See(Query::All))?),
         Route::OfApp(app) => return Ok(just(alloc, Wanted::OfApp, Ask::See(Query::OfApp(app)))?),
         Route::One(key) => return Ok(just(alloc, Wanted::One, Ask::See(Query::One(key)))?),
@@ -166,6 +134,6 @@ pub fn asks(
     ensures { spec.Says result (spec.asks_of request.now moment) }
 {
     let (path, query) = request.parts();
-    let route = routes.find(alloc, &request.method, path, query)?;
+    let route = routes.find(alloc, &request.method, path, query, request.replicated)?;
     asks_for(alloc, route, request, moment)
 }

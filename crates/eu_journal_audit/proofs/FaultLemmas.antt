@@ -1,6 +1,6 @@
 -- The faults of an audit are those of the journal that isn't read, and of the line that isn't written
 use Rattle.std.proofs.Common.{◌≡◌, ◌⊎◌, ℕ, Bool, true, List, [], Option, Result, Ok, Err, ap, inl, inr, refl}
-use Rattle.eu_journal_audit.specs.Audit.{AuditsJournal, IsNoReason, IsTold, IsVerdictOf, Judged}
+use Rattle.eu_journal_audit.specs.Audit.{AuditsJournal, IsNoReason, IsVerdictOf, Judged, TellsAnswer}
 use Rattle.eu_journal_audit.specs.Faults.{fault_of, script_fault_of}
 use Rattle.eu_journal_audit.specs.declared.faults.AuditFault.{AuditFault}
 use Rattle.eu_journal_audit.specs.declared.faults.AuditFault.TheVariants as fault
@@ -29,43 +29,43 @@ carried j F (inl e) = inl (ap fault_of e)
 carried j F (inr (e, f)) = inr (ap fault_of e, f)
 
 -- a fault of the reading says nothing of the text either
-pub no_reason : (f : AuditFault) (failed_reader failed_writer : Bool) → (f ≡ fault.OutOfMemory) ⊎ ((f ≡ fault.Read) × (failed_reader ≡ true)) → IsNoReason f failed_reader failed_writer
-no_reason f failed_reader failed_writer (inl memory) = inl memory
-no_reason f failed_reader failed_writer (inr read) = inr (inl read)
+pub no_reason : (f : AuditFault) (reader_failed writer_failed : Bool) → (f ≡ fault.OutOfMemory) ⊎ ((f ≡ fault.Read) × (reader_failed ≡ true)) → IsNoReason f reader_failed writer_failed
+no_reason f reader_failed writer_failed (inl memory) = inl memory
+no_reason f reader_failed writer_failed (inr read) = inr (inl read)
 
 -- nor does one of the line's writing
-pub line_reason : (text out : List ℕ) (f : ScriptFault) (failed_reader failed_writer : Bool) → Writes text failed_writer (Err f) out → IsNoReason (script_fault_of f) failed_reader failed_writer
-line_reason text out (script.BadLine n) failed_reader failed_writer is = absurd is
-line_reason text out script.Read failed_reader failed_writer is = absurd is
-line_reason text out script.Write failed_reader failed_writer is = inr (inr (refl, is.0))
-line_reason text out script.OutOfMemory failed_reader failed_writer is = inl refl
+pub line_reason : (text out : List ℕ) (f : ScriptFault) (reader_failed writer_failed : Bool) → Writes text writer_failed (Err f) out → IsNoReason (script_fault_of f) reader_failed writer_failed
+line_reason text out (script.BadLine n) reader_failed writer_failed is = absurd is
+line_reason text out script.Read reader_failed writer_failed is = absurd is
+line_reason text out script.Write reader_failed writer_failed is = inr (inr (refl, is.0))
+line_reason text out script.OutOfMemory reader_failed writer_failed is = inl refl
 
-module _ (old new : Option (List ℕ)) (failed_reader : Bool) where
+module _ (old new : Option (List ℕ)) (reader_failed : Bool) where
   -- a journal that isn't read
   pub not_read : (j : JournalFault)
-      → ((n : ℕ) → unread j ≡ Err (journal.BadLine n) → TellsLine old new n) → (unread j ≡ Err journal.EndsEarly → EndsBefore old new) → (unread j ≡ Err journal.Read → FailsToRead old new failed_reader)
-      → Judged old new failed_reader (Err (fault_of j))
+      → ((n : ℕ) → unread j ≡ Err (journal.BadLine n) → TellsLine old new n) → (unread j ≡ Err journal.EndsEarly → EndsBefore old new) → (unread j ≡ Err journal.Read → FailsToRead old new reader_failed)
+      → Judged old new reader_failed (Err (fault_of j))
   not_read (journal.BadLine n) line early read = line n refl
   not_read journal.EndsEarly line early read = early refl
   not_read journal.Read line early read = read refl
   not_read journal.OutOfMemory line early read = tt
 
-  module _ (failed_writer : Bool) where
+  module _ (writer_failed : Bool) where
     -- nothing is told of what wasn't judged
-    pub untold : (f : AuditFault) → Judged old new failed_reader (Err f) → AuditsJournal old new failed_reader failed_writer (Err f) []
+    pub untold : (f : AuditFault) → Judged old new reader_failed (Err f) → AuditsJournal old new reader_failed writer_failed (Err f) []
     untold (fault.BadLine n) is = (refl, is)
     untold fault.EndsEarly is = (refl, is)
     untold fault.Read is = (refl, is)
     untold fault.Write is = absurd is
     untold fault.OutOfMemory is = refl
 
-    module _ (v : Verdict) (judged : Judged old new failed_reader (Ok v)) where
+    module _ (v : Verdict) (judged : Judged old new reader_failed (Ok v)) where
       -- the line is the answer of the audit
-      pub told : (line : List ℕ) → Writes (audit_text v.is_run v.entries) failed_writer (Ok tt) line → AuditsJournal old new failed_reader failed_writer (Ok v.is_run) line
+      pub told : (line : List ℕ) → Writes (audit_text v.is_run v.entries) writer_failed (Ok tt) line → AuditsJournal old new reader_failed writer_failed (Ok v.is_run) line
       told line is = (judged.0, judged.1, judged.2, v.entries, judged.3, is)
 
       -- a front of the line is written, or nothing
-      pub told_short : (f : ScriptFault) (out : List ℕ) → Writes (audit_text v.is_run v.entries) failed_writer (Err f) out → AuditsJournal old new failed_reader failed_writer (Err (script_fault_of f)) out
+      pub told_short : (f : ScriptFault) (out : List ℕ) → Writes (audit_text v.is_run v.entries) writer_failed (Err f) out → AuditsJournal old new reader_failed writer_failed (Err (script_fault_of f)) out
       told_short (script.BadLine n) out is = absurd is
       told_short script.Read out is = absurd is
       told_short script.Write out is = (is.0, v.is_run, _, told _ refl, is.1, is.2)

@@ -18,38 +18,38 @@ IsVerdictOf text answer n =
 
 -- A fault that says nothing of the text: there was no memory, or the reader or the writer failed
 abbrev pub IsNoReason : AuditFault → Bool → Bool → Type 0
-IsNoReason f failed_reader failed_writer =
-    (f ≡ fault.OutOfMemory) ⊎ (((f ≡ fault.Read) × (failed_reader ≡ true)) ⊎ ((f ≡ fault.Write) × (failed_writer ≡ true)))
+IsNoReason f reader_failed writer_failed =
+    (f ≡ fault.OutOfMemory) ⊎ (((f ≡ fault.Read) × (reader_failed ≡ true)) ⊎ ((f ≡ fault.Write) × (writer_failed ≡ true)))
 
 -- An audit, by what was left to be read before and after
 module _ (old new : Option (List ℕ)) where
   -- all was read, and this line tells the answer
-  abbrev pub IsTold : Bool → List ℕ → Type 0
-  IsTold answer line = (text : List ℕ) × Consumes old new text × IsAtEnd new × (n : ℕ) × IsVerdictOf text answer n × (line ≡ audit_text answer n)
+  abbrev pub TellsAnswer : List ℕ → Bool → Type 0
+  TellsAnswer line answer = (text : List ℕ) × Consumes old new text × IsAtEnd new × (n : ℕ) × IsVerdictOf text answer n × (line ≡ audit_text answer n)
 
   -- What the auditor came to. Only the contract of a private function speaks of this
   abbrev pub Judged : Bool → Result Verdict AuditFault → Type 0
-  Judged failed_reader (Ok v) = (text : List ℕ) × Consumes old new text × IsAtEnd new × IsVerdictOf text v.is_run v.entries
-  Judged failed_reader (Err (fault.BadLine n)) = TellsLine old new n
-  Judged failed_reader (Err fault.EndsEarly) = EndsBefore old new
-  Judged failed_reader (Err fault.Read) = FailsToRead old new failed_reader
-  Judged failed_reader (Err fault.Write) = ⊥
-  Judged failed_reader (Err fault.OutOfMemory) = Unit {0}
+  Judged reader_failed (Ok v) = (text : List ℕ) × Consumes old new text × IsAtEnd new × IsVerdictOf text v.is_run v.entries
+  Judged reader_failed (Err (fault.BadLine n)) = TellsLine old new n
+  Judged reader_failed (Err fault.EndsEarly) = EndsBefore old new
+  Judged reader_failed (Err fault.Read) = FailsToRead old new reader_failed
+  Judged reader_failed (Err fault.Write) = ⊥
+  Judged reader_failed (Err fault.OutOfMemory) = Unit {0}
 
   -- What an audit did, by its result: it wrote out. The flags say whether reader and writer failed
   abbrev pub AuditsJournal : Bool → Bool → Result Bool AuditFault → List ℕ → Type 0
-  AuditsJournal failed_reader failed_writer (Ok answer) out = IsTold answer out
+  AuditsJournal reader_failed writer_failed (Ok answer) out = TellsAnswer out answer
   -- a front of the line is written
-  AuditsJournal failed_reader failed_writer (Err fault.Write) out =
-      (failed_writer ≡ true) × (answer : Bool) × (line : List ℕ) × IsTold answer line × (k : ℕ) × (out ≡ take k line)
+  AuditsJournal reader_failed writer_failed (Err fault.Write) out =
+      (writer_failed ≡ true) × (answer : Bool) × (line : List ℕ) × TellsAnswer line answer × (k : ℕ) × (out ≡ take k line)
   -- the journal isn't read; nothing is written
-  AuditsJournal failed_reader failed_writer (Err (fault.BadLine n)) out = (out ≡ []) × TellsLine old new n
-  AuditsJournal failed_reader failed_writer (Err fault.EndsEarly) out = (out ≡ []) × EndsBefore old new
-  AuditsJournal failed_reader failed_writer (Err fault.Read) out = (out ≡ []) × FailsToRead old new failed_reader
-  AuditsJournal failed_reader failed_writer (Err fault.OutOfMemory) out = out ≡ []
+  AuditsJournal reader_failed writer_failed (Err (fault.BadLine n)) out = (out ≡ []) × TellsLine old new n
+  AuditsJournal reader_failed writer_failed (Err fault.EndsEarly) out = (out ≡ []) × EndsBefore old new
+  AuditsJournal reader_failed writer_failed (Err fault.Read) out = (out ≡ []) × FailsToRead old new reader_failed
+  AuditsJournal reader_failed writer_failed (Err fault.OutOfMemory) out = out ≡ []
 
 -- a text that says a journal is refused for no reason of its own
 abbrev pub RefusesNone : Option (List ℕ) → Bool → Bool → Result Bool AuditFault → Type 0
-RefusesNone old failed_reader failed_writer (Ok answer) = Unit {0}
-RefusesNone old failed_reader failed_writer (Err f) =
-    (text : List ℕ) (base : State) (entries : List Entry) (end : State) → old ≡ Some text → SaysJournal text base entries end → IsNoReason f failed_reader failed_writer
+RefusesNone old reader_failed writer_failed (Ok answer) = Unit {0}
+RefusesNone old reader_failed writer_failed (Err f) =
+    (text : List ℕ) (base : State) (entries : List Entry) (end : State) → old ≡ Some text → SaysJournal text base entries end → IsNoReason f reader_failed writer_failed

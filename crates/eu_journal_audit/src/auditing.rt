@@ -68,10 +68,10 @@ pub fn run_journal_audit<R: Read, W: Write>(
     reader: &mut R,
     writer: &mut W,
 ) -> Result<bool, AuditFault>
-    ensures { (failed_reader : Bool) × (failed_writer : Bool)
+    ensures { (reader_failed : Bool) × (writer_failed : Bool)
         × Wrote (W.contents writer.old) (W.contents writer.new)
-        (AuditsJournal (R.remaining reader.old) (R.remaining reader.new) failed_reader failed_writer result)
-        × RefusesNone (R.remaining reader.old) failed_reader failed_writer result }
+        (AuditsJournal (R.remaining reader.old) (R.remaining reader.new) reader_failed writer_failed result)
+        × RefusesNone (R.remaining reader.old) reader_failed writer_failed result }
 {
     let mut reading = Reading::new(reader);
     let mut writing = Writing::new(writer);

@@ -6,7 +6,7 @@ use Rattle.std.specs.Io.KnownBytes.{Consumes, IsAtEnd}
 use Rattle.std.specs.List.{AllByRecursion, onto_first}
 use Rattle.sha2.specs.Hashers.{Holds256}
 use Rattle.eu_lines.specs.Lines.{IsJudged, IsWhole, lines_of}
-use Rattle.eu_lines.specs.Script.{IsBad, Outcome, Printed, StopsIn}
+use Rattle.eu_lines.specs.Script.{IsBad, Outcome, Place, Printed, StopsIn, Streams}
 use Rattle.eu_lines.specs.declared.faults.ScriptFault.{ScriptFault}
 use Rattle.eu_lines.specs.declared.faults.ScriptFault.TheVariants.{BadLine, OutOfMemory, Read, Write}
 use Rattle.eu_lines.specs.declared.limits.Limits.{Limits}
@@ -59,64 +59,71 @@ lines_of-front (x ∷ xs) more = ap (λ (ls : List (List ℕ)). cond (x == 10) (
 -- ---- lines that were answered
 
 -- they follow one another, and are short
-pub printed_reads : (r : JournalReader) (x : Unit {0}) (lines : List (List ℕ)) (out : List ℕ) (r' : JournalReader) (x' : Unit {0}) (told : List ℕ) → Printed journal_limits Takes r x lines out r' x' → Holds256 r.hasher told
-    → Reads r.stage told (filled lines) r'.stage × Holds256 r'.hasher (told ++ joined (filled lines)) × AllByRecursion IsShort (filled lines)
-printed_reads r x [] out r' x' told printed holds =
-    (ap (λ (s : JournalReader). s.stage) printed.1, rw (append-nil told, printed.1) holds, tt)
-printed_reads r x ([] ∷ lines) out r' x' told printed holds =
-    let same : printed.2 ≡ r = printed.4.1 in
-    let rest = printed_reads printed.2 printed.3 lines printed.1 r' x' told printed.5 (rw same holds) in
-    (subst (λ (s : JournalReader). Reads s.stage told (filled lines) r'.stage) same rest.0, rest.1, rest.2)
-printed_reads r x ((b ∷ bs) ∷ lines) out r' x' told printed holds =
+pub printed_reads : (before : Place JournalReader (Unit {0})) (lines : List (List ℕ)) (out : List ℕ) (after : Place JournalReader (Unit {0})) (prefix : List ℕ)
+    → Printed journal_limits Takes before lines out after → Holds256 before.state.hasher prefix
+    → Reads before.state.stage prefix (filled lines) after.state.stage × Holds256 after.state.hasher (prefix ++ joined (filled lines)) × AllByRecursion IsShort (filled lines)
+printed_reads before [] out after prefix printed holds =
+    (ap (λ (here : Place JournalReader (Unit {0})). here.state.stage) printed.1, rw (append-nil prefix, printed.1) holds, tt)
+printed_reads before ([] ∷ lines) out after prefix printed holds =
+    let same : printed.2 ≡ before = printed.3.1 in
+    let rest = printed_reads printed.2 lines printed.1 after prefix printed.4 (rw same holds) in
+    (subst (λ (here : Place JournalReader (Unit {0})). Reads here.state.stage prefix (filled lines) after.state.stage) same rest.0, rest.1, rest.2)
+printed_reads before ((b ∷ bs) ∷ lines) out after prefix printed holds =
     let line = b ∷ bs in
-    let takes = printed.4.1.1 told holds in
-    let rest = printed_reads printed.2 printed.3 lines printed.1 r' x' (told ++ (line ++ 10 ∷ [])) printed.5 takes.1 in (
-      (printed.2.stage, takes.0, rest.0),
-      rw (← append_assoc told (line ++ 10 ∷ []) (joined (filled lines))) (rest.1),
-      (printed.4.0, rest.2),
+    let takes = printed.3.1.1 prefix holds in
+    let rest = printed_reads printed.2 lines printed.1 after (prefix ++ (line ++ 10 ∷ [])) printed.4 takes.1 in (
+      (printed.2.state.stage, takes.0, rest.0),
+      rw (← append_assoc prefix (line ++ 10 ∷ []) (joined (filled lines))) (rest.1),
+      (printed.3.0, rest.2),
     )
 
 -- ---- what came of lines, from how they were answered
 
 -- a bad line isn't empty, and is too long or may not follow
 abbrev IsBadAfter : List ℕ → Stage → List ℕ → Type 0
-IsBadAfter told s line = (0 < length line) × ((journal_limits.line < length line) ⊎ ((t : Stage) → Follows told s line t → ⊥))
+IsBadAfter prefix s line = (0 < length line) × ((journal_limits.line < length line) ⊎ ((t : Stage) → Follows prefix s line t → ⊥))
 
-bad_so : (r : JournalReader) (x : Unit {0}) (told line : List ℕ) → Holds256 r.hasher told → IsBad journal_limits Refuses r x line → IsBadAfter told r.stage line
-bad_so r x told [] holds bad = absurd bad
-bad_so r x told (b ∷ bs) holds (inl long) = (omega arith, inl long)
-bad_so r x told (b ∷ bs) holds (inr refuses) = (omega arith, inr (refuses told holds))
+bad_so : (here : Place JournalReader (Unit {0})) (prefix line : List ℕ) → Holds256 here.state.hasher prefix → IsBad journal_limits Refuses here line → IsBadAfter prefix here.state.stage line
+bad_so here prefix [] holds bad = absurd bad
+bad_so here prefix (b ∷ bs) holds (inl long) = (omega arith, inl long)
+bad_so here prefix (b ∷ bs) holds (inr refuses) = (omega arith, inr (refuses prefix holds))
 
-module _ (r : JournalReader) (x : Unit {0}) (empty : r.stage ≡ stage.Empty) (holds : Holds256 r.hasher []) where
-  begins : (lines : List (List ℕ)) (out : List ℕ) (r' : JournalReader) (x' : Unit {0}) → Printed journal_limits Takes r x lines out r' x' → Begins lines r'.stage
-  begins lines out r' x' printed =
-      let all = printed_reads r x lines out r' x' [] printed holds in
-      (subst (λ (s : Stage). Reads s [] (filled lines) r'.stage) empty all.0, all.2)
+module _ (before : Place JournalReader (Unit {0})) (empty : before.state.stage ≡ stage.Empty) (holds : Holds256 before.state.hasher []) where
+  begins : (lines : List (List ℕ)) (out : List ℕ) (after : Place JournalReader (Unit {0})) → Printed journal_limits Takes before lines out after → Begins lines after.state.stage
+  begins lines out after printed =
+      let all = printed_reads before lines out after [] printed holds in
+      (subst (λ (s : Stage). Reads s [] (filled lines) after.state.stage) empty all.0, all.2)
 
-  first_bad : (lines : List (List ℕ)) (x' : Unit {0}) (failed : Bool) (n : ℕ) (out : List ℕ) → StopsIn journal_limits Takes Refuses r x lines x' failed (BadLine n) out → IsFirstBad lines n
-  first_bad lines x' failed n out stops =
-      let before = take (n - 1) lines in
-      (stops.0, stops.1, stops.2.stage, begins before out stops.2 x' stops.3, bad_so stops.2 x' (joined (filled before)) (get_or lines (n - 1) []) (printed_reads r x before out stops.2 x' [] stops.3 holds).1 stops.4)
+  first_bad : (lines : List (List ℕ)) (context : Unit {0}) (failed : Bool) (n : ℕ) (out : List ℕ) → StopsIn journal_limits Takes Refuses before lines context failed (BadLine n) out → IsFirstBad lines n
+  first_bad lines context failed n out stops =
+      let fore = take (n - 1) lines in
+      let here : Place JournalReader (Unit {0}) = record { state = stops.2; context = context } in (
+        stops.0,
+        stops.1,
+        stops.2.stage,
+        begins fore out here stops.3,
+        bad_so here (joined (filled fore)) (get_or lines (n - 1) []) (printed_reads before fore out here [] stops.3 holds).1 stops.4,
+      )
 
-  pub came : (limits : Limits) → limits ≡ journal_limits → (r' : JournalReader) (x' : Unit {0}) (left : Option (List ℕ)) (failed_reader failed : Bool) (read out : List ℕ)
-      → Outcome limits Takes Refuses r x r' x' left failed_reader failed read (Ok tt) out → CameTo left failed_reader read (Ok r'.stage)
+  pub came : (limits : Limits) → limits ≡ journal_limits → (after : Place JournalReader (Unit {0})) (streams : Streams) (out : List ℕ)
+      → Outcome limits Takes Refuses before after streams (Ok tt) out → CameTo streams.left streams.reader_failed streams.read (Ok after.state.stage)
   unfolding CameTo
-  came limits same r' x' left failed_reader failed read out given =
-      let outcome : Outcome journal_limits Takes Refuses r x r' x' left failed_reader failed read (Ok tt) out = subst (λ l. Outcome l Takes Refuses r x r' x' left failed_reader failed read (Ok tt) out) same given in
-      (outcome.0, outcome.1, begins (lines_of read) out r' x' outcome.2)
+  came limits same after streams out so =
+      let outcome : Outcome journal_limits Takes Refuses before after streams (Ok tt) out = subst (λ l. Outcome l Takes Refuses before after streams (Ok tt) out) same so in
+      (outcome.0, outcome.1, begins (lines_of streams.read) out after outcome.2)
 
-  stopped : (r' : JournalReader) (x' : Unit {0}) (left : Option (List ℕ)) (failed_reader failed : Bool) (read : List ℕ) (f : ScriptFault) (out : List ℕ) → failed ≡ false
-      → Outcome journal_limits Takes Refuses r x r' x' left failed_reader failed read (Err f) out → CameTo left failed_reader read (Err f)
+  stopped : (after : Place JournalReader (Unit {0})) (streams : Streams) (f : ScriptFault) (out : List ℕ) → streams.writer_failed ≡ false
+      → Outcome journal_limits Takes Refuses before after streams (Err f) out → CameTo streams.left streams.reader_failed streams.read (Err f)
   unfolding CameTo
-  stopped r' x' left failed_reader failed read (BadLine n) out sound outcome = (outcome.0, outcome.1, first_bad (lines_of outcome.0) x' failed n out outcome.2)
-  stopped r' x' left failed_reader failed read Read out sound outcome = (outcome.0, (outcome.1, outcome.2, outcome.3, outcome.4, r'.stage, begins (lines_of outcome.3) out r' x' outcome.5))
-  stopped r' x' left failed_reader failed read Write out sound outcome = let wrote : failed ≡ true = outcome.2.0 in cc
-  stopped r' x' left failed_reader failed read OutOfMemory out sound outcome = tt
+  stopped after streams (BadLine n) out sound outcome = (outcome.0, outcome.1, first_bad (lines_of outcome.0) after.context streams.writer_failed n out outcome.2)
+  stopped after streams Read out sound outcome = (outcome.0, (outcome.1, outcome.2, outcome.3, outcome.4, after.state.stage, begins (lines_of outcome.3) out after outcome.5))
+  stopped after streams Write out sound outcome = let wrote : streams.writer_failed ≡ true = outcome.2.0 in cc
+  stopped after streams OutOfMemory out sound outcome = tt
 
-  pub came_short : (limits : Limits) → limits ≡ journal_limits → (r' : JournalReader) (x' : Unit {0}) (left : Option (List ℕ)) (failed_reader failed : Bool) (read : List ℕ) (f : ScriptFault) (out : List ℕ) → failed ≡ false
-      → Outcome limits Takes Refuses r x r' x' left failed_reader failed read (Err f) out → CameTo left failed_reader read (Err f)
-  came_short limits same r' x' left failed_reader failed read f out sound given =
-      stopped r' x' left failed_reader failed read f out sound (subst (λ l. Outcome l Takes Refuses r x r' x' left failed_reader failed read (Err f) out) same given)
+  pub came_short : (limits : Limits) → limits ≡ journal_limits → (after : Place JournalReader (Unit {0})) (streams : Streams) (f : ScriptFault) (out : List ℕ) → streams.writer_failed ≡ false
+      → Outcome limits Takes Refuses before after streams (Err f) out → CameTo streams.left streams.reader_failed streams.read (Err f)
+  came_short limits same after streams f out sound so =
+      stopped after streams f out sound (subst (λ l. Outcome l Takes Refuses before after streams (Err f) out) same so)
 
 -- ---- why lines weren't all taken
 
@@ -221,25 +228,25 @@ module _ (text : List ℕ) (base : State) (entries : List Entry) (end : State) (
         | inr ge ↦ none_empty (get_or (lines_of front ++ [] ∷ []) k []) (past_last (lines_of front) k ge) bad.0
       ]
 
-  none_given : (given rest : List ℕ) (n : ℕ) → text ≡ given ++ rest → IsWhole given → IsFirstBad (lines_of given) n → ⊥
-  none_given given rest n is (inl nothing) bad =
-      none_empty (get_or (lines_of given) (n - 1) []) (rw (nothing) (past_last [] (n - 1) (omega arith))) bad.4.0
-  none_given given rest n is (inr front) bad =
-      let are : lines_of given ≡ lines_of front.0 ++ [] ∷ [] = ap lines_of front.1 ∙ lines_of-front front.0 [] in
-      none_in_front front.0 rest (n - 1) bad.2 (is ∙ rw (front.1) (append_assoc front.0 (10 ∷ []) rest)) (rw are at bad.3.0) (rw are at bad.4)
+  none_in_whole : (front rest : List ℕ) (n : ℕ) → text ≡ front ++ rest → IsWhole front → IsFirstBad (lines_of front) n → ⊥
+  none_in_whole front rest n is (inl nothing) bad =
+      none_empty (get_or (lines_of front) (n - 1) []) (rw (nothing) (past_last [] (n - 1) (omega arith))) bad.4.0
+  none_in_whole front rest n is (inr some) bad =
+      let are : lines_of front ≡ lines_of some.0 ++ [] ∷ [] = ap lines_of some.1 ∙ lines_of-front some.0 [] in
+      none_in_front some.0 rest (n - 1) bad.2 (is ∙ rw (some.1) (append_assoc some.0 (10 ∷ []) rest)) (rw are at bad.3.0) (rw are at bad.4)
 
   known : (left : Option (List ℕ)) (read : List ℕ) → Consumes (Some text) left read → (rest : List ℕ) × (text ≡ read ++ rest) × (IsAtEnd left → rest ≡ [])
   known None read eats = absurd eats
   known (Some rest) read eats = (rest, eats, λ e. e)
 
-  no_bad_line : (left : Option (List ℕ)) (read given : List ℕ) (n : ℕ) → Consumes (Some text) left read → IsJudged journal_limits.text left read given → IsFirstBad (lines_of given) n → ⊥
-  no_bad_line left read given n eats (inl judged) bad =
+  no_bad_line : (left : Option (List ℕ)) (read front : List ℕ) (n : ℕ) → Consumes (Some text) left read → IsJudged journal_limits.text left read front → IsFirstBad (lines_of front) n → ⊥
+  no_bad_line left read front n eats (inl judged) bad =
       let rest = known left read eats in
-      none_given given (judged.0 ++ rest.0) n (rest.1 ∙ ap (λ (bytes : List ℕ). bytes ++ rest.0) judged.1 ∙ append_assoc given judged.0 rest.0) judged.2 bad
-  no_bad_line left read given n eats (inr judged) bad =
+      none_in_whole front (judged.0 ++ rest.0) n (rest.1 ∙ ap (λ (bytes : List ℕ). bytes ++ rest.0) judged.1 ∙ append_assoc front judged.0 rest.0) judged.2 bad
+  no_bad_line left read front n eats (inr judged) bad =
       let rest = known left read eats in
-      let same : text ≡ given = rest.1 ∙ ap (λ (bytes : List ℕ). read ++ bytes) (rest.2 judged.2) ∙ append-nil read ∙ sym judged.0 in
-      none_at (lines_of given) [] (n - 1) bad.2 (ap lines_of same ∙ sym (append-nil (lines_of given))) (omega (arith, bad.0, bad.1)) bad.3.0 bad.4
+      let same : text ≡ front = rest.1 ∙ ap (λ (bytes : List ℕ). read ++ bytes) (rest.2 judged.2) ∙ append-nil read ∙ sym judged.0 in
+      none_at (lines_of front) [] (n - 1) bad.2 (ap lines_of same ∙ sym (append-nil (lines_of front))) (omega (arith, bad.0, bad.1)) bad.3.0 bad.4
 
   reader_failed : (left : Option (List ℕ)) (read : List ℕ) (failed : Bool) → Consumes (Some text) left read → (failed ≡ true) ⊎ (journal_limits.text < length read) → failed ≡ true
   reader_failed left read failed eats (inl so) = so

@@ -19,7 +19,7 @@ use Rattle.eu_journal_read.specs.declared.stages.Stage.{Stage}
 use Rattle.eu_journal_read.specs.declared.stages.Stage.TheVariants as stage
 use Rattle.eu_journal_read.proofs.ForwardLemmas.{Ends, journal_ends}
 use Rattle.eu_journal_read.proofs.RunLemmas.{bind_ok, run, take_alike}
-use Rattle.eu_journal_read.proofs.SaidLemmas.{IsOpen, Told, adds, bared, seals, take_told, told}
+use Rattle.eu_journal_read.proofs.SaidLemmas.{IsOpen, Told, adds, bared, seals, take_told, stage_lines}
 
 -- ---- one text after the other
 
@@ -168,7 +168,7 @@ pub record Before (s : Stage) (before : List ℕ) (texts : List (List ℕ)) (f :
   pub said : List JournalLine
   pub whole : texts ≡ lines ++ last ∷ []
   pub say : SayLines lines said
-  pub leads : bared (told (stage.End f d)) ≡ bared (told s) ++ bared said
+  pub leads : bared (stage_lines (stage.End f d)) ≡ bared (stage_lines s) ++ bared said
   pub seal : IsReadAs last (seal_line (before ++ joined lines))
 
 -- the digest itself
@@ -182,7 +182,7 @@ seal_before s before text [] f g d e digest from reads fit rest =
       said = [];
       whole = refl;
       say = tt;
-      leads = ap (λ (x : Stage). bared (told x)) (same ∙ sym from) ∙ sym (append-nil (bared (told s)));
+      leads = ap (λ (x : Stage). bared (stage_lines x)) (same ∙ sym from) ∙ sym (append-nil (bared (stage_lines s)));
       seal = rw (append-nil before, ← fit) reads;
     }
 seal_before s before text (x ∷ xs) f g d e digest from reads fit rest = absurd (after_seal g e rest.1.0 rest.0 rest.1.2)
@@ -207,7 +207,7 @@ module _ (f : Front) (d : Draft) where
             said = reads.1.0 ∷ rest.said;
             whole = ap (λ (xs : List (List ℕ)). text ∷ xs) rest.whole;
             say = ((reads.1.0, reads.1.1, refl), rest.say);
-            leads = rest.leads ∙ ap (λ (xs : List JournalLine). xs ++ bared rest.said) is ∙ append_assoc (bared (told s)) (bare_line reads.1.0 ∷ []) (bared rest.said);
+            leads = rest.leads ∙ ap (λ (xs : List JournalLine). xs ++ bared rest.said) is ∙ append_assoc (bared (stage_lines s)) (bare_line reads.1.0 ∷ []) (bared rest.said);
             seal = rw (← told_more before text rest.lines) (rest.seal);
           }
 
@@ -224,7 +224,7 @@ say_alike (text ∷ texts) (l ∷ ls) (m ∷ ms) say same =
     ((say.0.0, say.0.1, say.0.2 ∙ sym first), say_alike texts ls ms say.1 rest)
 
 -- what was told at the end are the journal's lines
-end_lines : (f : Front) (d : Draft) → told (stage.End f d) ≡ journal_lines (state_of f.base) f.entries (state_of d)
+end_lines : (f : Front) (d : Draft) → stage_lines (stage.End f d) ≡ journal_lines (state_of f.base) f.entries (state_of d)
 end_lines f d = append_assoc (state_lines (state_of f.base)) (entries_lines f.entries) (state_lines (state_of d))
 
 -- texts that were read to the end say the journal

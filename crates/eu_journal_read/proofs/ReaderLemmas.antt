@@ -49,10 +49,10 @@ unfolding IsReadAs
 no_text text not l reads = not reads.0
 
 -- a line that can't follow is refused
-pub refused_line : (told text : List ℕ) (s : Stage) (l : JournalLine) (f : LineFault) → IsReadAs text l → (f ≡ OutOfMemory) ⊎ (take_line s l ≡ Err f) → f ≡ NotALine → (t : Stage) → Follows told s text t → ⊥
-refused_line told text s l f is why bad t follows =
+pub refused_line : (prefix text : List ℕ) (s : Stage) (l : JournalLine) (f : LineFault) → IsReadAs text l → (f ≡ OutOfMemory) ⊎ (take_line s l ≡ Err f) → f ≡ NotALine → (t : Stage) → Follows prefix s text t → ⊥
+refused_line prefix text s l f is why bad t follows =
     refused_so (take_line s l) f t why bad (ap (take_line s) (read_once text l follows.0 is follows.1) ∙ follows.2)
 
 -- nor may one that isn't fit
-pub unfit_line : (told text : List ℕ) (s : Stage) (l : JournalLine) → IsReadAs text l → (IsFit told l → ⊥) → (t : Stage) → Follows told s text t → ⊥
-unfit_line told text s l is not t follows = not (subst (IsFit told) (read_once text follows.0 l follows.1 is) follows.3)
+pub unfit_line : (prefix text : List ℕ) (s : Stage) (l : JournalLine) → IsReadAs text l → (IsFit prefix l → ⊥) → (t : Stage) → Follows prefix s text t → ⊥
+unfit_line prefix text s l is not t follows = not (subst (IsFit prefix) (read_once text follows.0 l follows.1 is) follows.3)

@@ -34,13 +34,13 @@ front_lines f = state_lines (state_of f.base) ++ entries_lines f.entries
 abbrev pub asked_line : Asked → JournalLine
 asked_line a = line.Asked a.pass a.number a.moment a.command
 
-abbrev pub told : Stage → List JournalLine
-told stage.Empty = []
-told (stage.Base d) = state_lines (state_of d)
-told (stage.Asked f a) = front_lines f ++ asked_line a ∷ []
-told (stage.Answered f e) = front_lines f ++ entry_lines e
-told (stage.End f d) = front_lines f ++ state_lines (state_of d)
-told (stage.Sealed f d) = front_lines f ++ state_lines (state_of d)
+abbrev pub stage_lines : Stage → List JournalLine
+stage_lines stage.Empty = []
+stage_lines (stage.Base d) = state_lines (state_of d)
+stage_lines (stage.Asked f a) = front_lines f ++ asked_line a ∷ []
+stage_lines (stage.Answered f e) = front_lines f ++ entry_lines e
+stage_lines (stage.End f d) = front_lines f ++ state_lines (state_of d)
+stage_lines (stage.Sealed f d) = front_lines f ++ state_lines (state_of d)
 
 -- without victims and tasks within replies
 abbrev pub bared : List JournalLine → List JournalLine
@@ -59,7 +59,7 @@ queues_lines-append : (xs ys : List Queue) → queues_lines (xs ++ ys) ≡ queue
 queues_lines-append [] ys = refl
 queues_lines-append (x ∷ xs) ys = ap (λ (ls : List JournalLine). queue_lines x ++ ls) (queues_lines-append xs ys) ∙ sym (append_assoc (queue_lines x) (queues_lines xs) (queues_lines ys))
 
-pub closed_told : (s : Stage) (f : Front) → closed s ≡ Ok f → front_lines f ≡ told s
+pub closed_told : (s : Stage) (f : Front) → closed s ≡ Ok f → front_lines f ≡ stage_lines s
 closed_told stage.Empty f is = cc
 closed_told (stage.Base d) f is =
     let same : record { base = d; entries = [] } ≡ f = cc in
@@ -166,13 +166,13 @@ state_told d e line.Peer is =
 state_told d e (line.Waiting t) is =
     let step = bind_ok (waits_more d.newest t) (λ q. Ok (record d { newest = Some q })) e is in
     let same : record d { newest = Some step.0 } ≡ e = cc in
-    let told = waits_told d.newest t step.0 step.1 in
-    ap (λ (x : Draft). state_lines (state_of x)) (sym same) ∙ newest_told d told.0 step.0 (line.Waiting t) told.1 told.2
+    let waits = waits_told d.newest t step.0 step.1 in
+    ap (λ (x : Draft). state_lines (state_of x)) (sym same) ∙ newest_told d waits.0 step.0 (line.Waiting t) waits.1 waits.2
 state_told d e (line.Flight t) is =
     let step = bind_ok (flies_more d.newest t) (λ q. Ok (record d { newest = Some q })) e is in
     let same : record d { newest = Some step.0 } ≡ e = cc in
-    let told = flies_told d.newest t step.0 step.1 in
-    ap (λ (x : Draft). state_lines (state_of x)) (sym same) ∙ newest_told d told.0 step.0 (line.Flight t) told.1 told.2
+    let flies = flies_told d.newest t step.0 step.1 in
+    ap (λ (x : Draft). state_lines (state_of x)) (sym same) ∙ newest_told d flies.0 step.0 (line.Flight t) flies.1 flies.2
 state_told d e (line.Head h) is = cc
 state_told d e (line.Asked pass number moment command) is = cc
 state_told d e (line.Answered r) is = cc
@@ -249,7 +249,7 @@ IsOpen _ = Unit {0}
 -- A line was told: a digest seals, any other is one line more
 pub data Told (s : Stage) (l : JournalLine) (t : Stage) : Type 0 where
   seals : (f : Front) (d : Draft) (text : List ℕ) → s ≡ stage.End f d → l ≡ line.Digest text → t ≡ stage.Sealed f d → Told s l t
-  adds : IsOpen t → bared (told t) ≡ bared (told s) ++ bare_line l ∷ [] → Told s l t
+  adds : IsOpen t → bared (stage_lines t) ≡ bared (stage_lines s) ++ bare_line l ∷ [] → Told s l t
 
 -- behind what was told
 behind : (front xs ys : List JournalLine) (l : JournalLine) → bared ys ≡ bared xs ++ l ∷ [] → bared (front ++ ys) ≡ bared (front ++ xs) ++ l ∷ []

@@ -3,6 +3,7 @@ ghost use Rattle.std.specs.Prelude.{◌≡◌, ◌↔◌, ◌++◌, ◌∷◌, [
 ghost use Rattle.hex.specs.Hex.{encode_lower};
 ghost use Rattle.sha2.specs.Hashers.{Holds256};
 ghost use Rattle.sha2.specs.Sha256.{sha256};
+ghost use Rattle.eu_lines.specs.Script.{place};
 ghost use Rattle.eu_journal_read.specs.Drafts.{Becomes};
 ghost use Rattle.eu_journal_read.specs.Reader.{IsFit, Refuses, Takes};
 ghost use Rattle.eu_journal_read.specs.Stages.{take_line};
@@ -40,8 +41,8 @@ impl JournalReader {
 
     /// Takes a line. `NotALine` where it is none, or can't follow what was read; `OutOfMemory`.
     fn take(&mut self, alloc: Global, text: &[u8]) -> Result<(), LineFault>
-        ensures ok { OnOk result (Takes self.old tt text.now [] self.new tt) }
-        ensures refused { result ≡ Err LineFault.NotALine → Refuses self.old tt text.now }
+        ensures ok { OnOk result (Takes (place self.old tt) text.now [] (place self.new tt)) }
+        ensures refused { result ≡ Err LineFault.NotALine → Refuses (place self.old tt) text.now }
     {
         let line = line_of(alloc, text)?;
         check_digest(alloc, &self.hasher, &line)?;
@@ -75,8 +76,8 @@ fn line_of(alloc: Global, text: &[u8]) -> Result<JournalLine, LineFault>
 
 /// Checks that a line that is a digest is that of what was read. `NotALine` where it isn't; `OutOfMemory`.
 fn check_digest(alloc: Global, hasher: &Sha256, line: &JournalLine) -> Result<(), LineFault>
-    ensures ok { OnOk result ((told : List ℕ) → Holds256 hasher.now told → IsFit told line.now) }
-    ensures none { result ≡ Err LineFault.NotALine → (told : List ℕ) → Holds256 hasher.now told → IsFit told line.now → ⊥ }
+    ensures ok { OnOk result ((prefix : List ℕ) → Holds256 hasher.now prefix → IsFit prefix line.now) }
+    ensures none { result ≡ Err LineFault.NotALine → (prefix : List ℕ) → Holds256 hasher.now prefix → IsFit prefix line.now → ⊥ }
 {
     match line {
         JournalLine::Digest(digest) if !is_digest(alloc, hasher, digest.as_str())? => {
@@ -88,7 +89,7 @@ fn check_digest(alloc: Global, hasher: &Sha256, line: &JournalLine) -> Result<()
 
 /// Whether a text is the digest of what was read. `AllocError` where no memory is left.
 fn is_digest(alloc: Global, hasher: &Sha256, digest: &str) -> Result<bool, AllocError>
-    ensures { IfOk result (λ fits. (told : List ℕ) → Holds256 hasher.now told → IsTrue fits ↔ (digest.now ≡ encode_lower (sha256 told))) }
+    ensures { IfOk result (λ fits. (prefix : List ℕ) → Holds256 hasher.now prefix → IsTrue fits ↔ (digest.now ≡ encode_lower (sha256 prefix))) }
 {
     let hasher = hasher.clone()?;
     let text = hex::encode(alloc, hasher.finalize())?;

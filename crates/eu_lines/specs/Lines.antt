@@ -14,27 +14,27 @@ lines_of text = slice_split (λ b. b == 10) text
 
 -- nothing, or bytes that end with LF: whole lines
 abbrev pub IsWhole : List ℕ → Type 0
-IsWhole given = (given ≡ []) ⊎ ((front : List ℕ) × (given ≡ front ++ 10 ∷ []))
+IsWhole front = (front ≡ []) ⊎ ((bytes : List ℕ) × (front ≡ bytes ++ 10 ∷ []))
 
 -- bytes with no LF
 abbrev pub HasNoEnd : List ℕ → Type 0
 HasNoEnd bytes = AllByRecursion (λ b. b ≢ 10) bytes
 
--- all whole lines of a text
+-- a text's front of all its whole lines
 abbrev pub AreWholeLines : List ℕ → List ℕ → Type 0
-AreWholeLines text given = IsWhole given × (tail : List ℕ) × (text ≡ given ++ tail) × HasNoEnd tail
+AreWholeLines text front = IsWhole front × (tail : List ℕ) × (text ≡ front ++ tail) × HasNoEnd tail
 
 -- the part within the bound of the bytes that were read: as many of the first as a text may have, where there are more
 abbrev pub IsWithinBound : ℕ → List ℕ → List ℕ → Type 0
 IsWithinBound most read text = (rest : List ℕ) × (read ≡ text ++ rest) × (length text ≤ most) × (0 < length rest → length text ≡ most)
 
--- Bytes whose lines may be judged, where these bytes were read and these are left: whole lines within the bound,
+-- A front of the bytes that were read, whose lines may be judged, where these are left to read: whole lines within the bound,
 -- or the whole text, at its end.
 abbrev pub IsJudged : ℕ → Option (List ℕ) → List ℕ → List ℕ → Type 0
-IsJudged most left read given =
-    ((rest : List ℕ) × (read ≡ given ++ rest) × IsWhole given × (length given ≤ most))
-    ⊎ ((given ≡ read) × (length read ≤ most) × IsAtEnd left)
+IsJudged most left read front =
+    ((rest : List ℕ) × (read ≡ front ++ rest) × IsWhole front × (length front ≤ most))
+    ⊎ ((front ≡ read) × (length read ≤ most) × IsAtEnd left)
 
--- What is kept of a line: all of it, or of one that is too long more than a line may have.
+-- The partial line: all of a line so far, or of one that is too long more than a line may have.
 abbrev pub IsKept : ℕ → List ℕ → List ℕ → Type 0
 IsKept longest partial line = ((partial ≡ line) × (length line ≤ longest)) ⊎ ((longest < length partial) × (longest < length line))

@@ -1,16 +1,17 @@
 //! Whoever answers lines.
 ghost use Rattle.std.specs.Prelude.{◌≡◌, ◌<◌, ℕ, List, [], length, OnOk, Err, string_bytes};
+ghost use Rattle.eu_lines.specs.Script.{Place, place};
 
 use crate::LineError;
 use std::alloc::Global;
 
 /// Whoever answers lines, over a context that is lent for each.
 pub trait Answerer<X> {
-    // An answerer in one state, with one context, answers a line: what it prints, and the state and context after.
-    ghost answers: { Self → X → List ℕ → List ℕ → Self → X → Type 0 };
+    // An answerer at one place, its state and its context, answers a line: what it prints, and the place after.
+    ghost answers: { Place Self X → List ℕ → List ℕ → Place Self X → Type 0 };
 
-    // An answerer in one state, with one context, finds the line bad.
-    ghost refuses: { Self → X → List ℕ → Type 0 };
+    // An answerer at one place finds the line bad.
+    ghost refuses: { Place Self X → List ℕ → Type 0 };
 
     /// Answers one line, without its LF, that isn't empty. What it prints goes into `out`.
     ///
@@ -26,7 +27,7 @@ pub trait Answerer<X> {
     ) -> Result<(), LineError>
         requires some { 0 < length line.now }
         requires empty { string_bytes out.old ≡ [] }
-        ensures ok { OnOk result (answers self.old context.old line.now (string_bytes out.new) self.new context.new) }
-        ensures bad { result ≡ Err LineError.Bad → refuses self.old context.old line.now }
+        ensures ok { OnOk result (answers (place self.old context.old) line.now (string_bytes out.new) (place self.new context.new)) }
+        ensures bad { result ≡ Err LineError.Bad → refuses (place self.old context.old) line.now }
         ensures kept { result ≡ Err LineError.Bad → context.new ≡ context.old };
 }

@@ -5,7 +5,7 @@ ghost use Rattle.eu_lines.specs.Lines.{HasNoEnd, IsKept};
 use memchr::memchr;
 use std::alloc::AllocError;
 
-/// The text before the first LF, and the text after it; none where there is no LF.
+/// The bytes before the first LF, and those after it; none where there is no LF.
 #[inline(always)]
 pub fn cut(text: &[u8]) -> Option<(&[u8], &[u8])>
     ensures whole { IfSome result (λ parts. text.now ≡ parts.0.now ++ 10 ∷ parts.1.now) }

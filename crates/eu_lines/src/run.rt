@@ -2,8 +2,8 @@
 ghost use Rattle.std.specs.Prelude.{◌≡◌, ◌≢◌, ◌≤◌, ◌<◌, ◌^◌, ◌+◌, ◌++◌, ℕ, List, [], length, take, true, OnOk, OnErr, IfErr, Err};
 ghost use Rattle.std.specs.Io.KnownBytes.{Appends};
 ghost use Rattle.eu_lines.specs.Lines.{HasNoEnd, IsKept};
-ghost use Rattle.eu_lines.specs.Script.{Prints, IsBad};
-ghost use Rattle.eu_lines.specs.Steps.{Adds, Takes, StopsAdding, StopsTaking};
+ghost use Rattle.eu_lines.specs.Script.{Prints, IsBad, place};
+ghost use Rattle.eu_lines.specs.Steps.{Adds, Takes, StopsAdding, StopsTaking, standing};
 
 use crate::faults::fault_at;
 use crate::lines::{cut, keep};
@@ -53,8 +53,8 @@ fn answer_line<X, D: Answerer<X>>(
     one: &mut String,
     waiting: &mut Vec<u8>,
 ) -> Result<(), LineError>
-    ensures ok { OnOk result ((out : List ℕ) × Prints limits D.answers desk.old context.old line.now out desk.new context.new × (waiting.new.items ≡ waiting.old.items ++ out)) }
-    ensures bad { result ≡ Err LineError.Bad → IsBad limits D.refuses desk.old context.old line.now }
+    ensures ok { OnOk result ((out : List ℕ) × Prints limits D.answers (place desk.old context.old) line.now out (place desk.new context.new) × (waiting.new.items ≡ waiting.old.items ++ out)) }
+    ensures bad { result ≡ Err LineError.Bad → IsBad limits D.refuses (place desk.old context.old) line.now }
     ensures same_context { result ≡ Err LineError.Bad → context.new ≡ context.old }
     ensures err { OnErr result (waiting.new.items ≡ waiting.old.items) }
 {
@@ -82,10 +82,10 @@ fn answer_part<X, D: Answerer<X>>(
     requires room { run.old.number < 2 ^ 63 }
     requires bounded { limits.line < 2 ^ 62 }
     ensures ok { OnOk result ((line : List ℕ) → IsKept limits.line run.old.partial.items line
-        → ((out : List ℕ) × Prints limits D.answers desk.old context.old (line ++ part.now) out desk.new context.new × (run.new.waiting.items ≡ run.old.waiting.items ++ out))) }
+        → ((out : List ℕ) × Prints limits D.answers (place desk.old context.old) (line ++ part.now) out (place desk.new context.new) × (run.new.waiting.items ≡ run.old.waiting.items ++ out))) }
     ensures kept { OnOk result (run.new.partial.items ≡ []) }
     ensures number { OnOk result (run.new.number ≡ run.old.number + 1) }
-    ensures bad { result ≡ Err LineError.Bad → (line : List ℕ) → IsKept limits.line run.old.partial.items line → IsBad limits D.refuses desk.old context.old (line ++ part.now) }
+    ensures bad { result ≡ Err LineError.Bad → (line : List ℕ) → IsKept limits.line run.old.partial.items line → IsBad limits D.refuses (place desk.old context.old) (line ++ part.now) }
     ensures same_context { result ≡ Err LineError.Bad → context.new ≡ context.old }
     ensures err { OnErr result ((run.new.waiting.items ≡ run.old.waiting.items) × (run.new.number ≡ run.old.number)) }
 {
@@ -156,10 +156,10 @@ pub fn take_line<W: Sink, X, D: Answerer<X>>(
 ) -> Result<(), ScriptFault>
     requires room { run.old.number < 2 ^ 63 }
     requires bounded { limits.line < 2 ^ 62 }
-    ensures ok { OnOk result (Adds limits D.answers run.old desk.old context.old (W.contents writer.old) part.now run.new desk.new context.new (W.contents writer.new)) }
+    ensures ok { OnOk result (Adds limits D.answers (standing run.old desk.old context.old (W.contents writer.old)) part.now (standing run.new desk.new context.new (W.contents writer.new))) }
     ensures kept { OnOk result (run.new.partial.items ≡ []) }
     ensures number { OnOk result (run.new.number ≡ run.old.number + 1) }
-    ensures err { IfErr result (StopsAdding limits D.answers D.refuses run.old desk.old context.old (W.contents writer.old) part.now context.new (W.contents writer.new) (W.failed writer.new)) }
+    ensures err { IfErr result (StopsAdding limits D.answers D.refuses (standing run.old desk.old context.old (W.contents writer.old)) part.now (record { context = context.new; holds = W.contents writer.new; failed = W.failed writer.new })) }
     ensures sound { OnOk result (W.failed writer.new ≡ W.failed writer.old) }
     ensures told { IfErr result (λ fault. fault ≢ ScriptFault.Write → W.failed writer.new ≡ W.failed writer.old) }
     ensures same_stream { W.stream writer.new ≡ W.stream writer.old }
@@ -186,10 +186,10 @@ pub fn take_chunk<W: Sink, X, D: Answerer<X>>(
 ) -> Result<(), ScriptFault>
     requires room { run.old.number + length chunk.now < 2 ^ 63 }
     requires bounded { limits.line < 2 ^ 62 }
-    ensures ok { OnOk result (Takes limits D.answers run.old desk.old context.old (W.contents writer.old) chunk.now run.new desk.new context.new (W.contents writer.new)) }
+    ensures ok { OnOk result (Takes limits D.answers (standing run.old desk.old context.old (W.contents writer.old)) chunk.now (standing run.new desk.new context.new (W.contents writer.new))) }
     ensures written { OnOk result (run.new.waiting.items ≡ []) }
     ensures number { OnOk result (run.new.number ≤ run.old.number + length chunk.now) }
-    ensures err { IfErr result (StopsTaking limits D.answers D.refuses run.old desk.old context.old (W.contents writer.old) chunk.now context.new (W.contents writer.new) (W.failed writer.new)) }
+    ensures err { IfErr result (StopsTaking limits D.answers D.refuses (standing run.old desk.old context.old (W.contents writer.old)) chunk.now (record { context = context.new; holds = W.contents writer.new; failed = W.failed writer.new })) }
     ensures sound { OnOk result (W.failed writer.new ≡ W.failed writer.old) }
     ensures told { IfErr result (λ fault. fault ≢ ScriptFault.Write → W.failed writer.new ≡ W.failed writer.old) }
     ensures same_stream { W.stream writer.new ≡ W.stream writer.old }
@@ -215,9 +215,9 @@ pub fn take_end<W: Sink, X, D: Answerer<X>>(
 ) -> Result<(), ScriptFault>
     requires room { run.old.number < 2 ^ 63 }
     requires bounded { limits.line < 2 ^ 62 }
-    ensures ok { OnOk result (Adds limits D.answers run.old desk.old context.old (W.contents writer.old) [] run.new desk.new context.new (W.contents writer.new)) }
+    ensures ok { OnOk result (Adds limits D.answers (standing run.old desk.old context.old (W.contents writer.old)) [] (standing run.new desk.new context.new (W.contents writer.new))) }
     ensures written { OnOk result (run.new.waiting.items ≡ []) }
-    ensures err { IfErr result (StopsAdding limits D.answers D.refuses run.old desk.old context.old (W.contents writer.old) [] context.new (W.contents writer.new) (W.failed writer.new)) }
+    ensures err { IfErr result (StopsAdding limits D.answers D.refuses (standing run.old desk.old context.old (W.contents writer.old)) [] (record { context = context.new; holds = W.contents writer.new; failed = W.failed writer.new })) }
     ensures sound { OnOk result (W.failed writer.new ≡ W.failed writer.old) }
     ensures told { IfErr result (λ fault. fault ≢ ScriptFault.Write → W.failed writer.new ≡ W.failed writer.old) }
     ensures same_stream { W.stream writer.new ≡ W.stream writer.old }

@@ -1,7 +1,7 @@
 //! A script from its first byte to its end.
 ghost use Rattle.std.specs.Prelude.{◌≡◌, ◌≢◌, ◌≤◌, ◌<◌, ◌^◌, ℕ, List, Option, IfErr, IfOk, OnOk, vec_len};
 ghost use Rattle.std.specs.Io.KnownBytes.{Consumes};
-ghost use Rattle.eu_lines.specs.Script.{Wrote, Outcome};
+ghost use Rattle.eu_lines.specs.Script.{Wrote, Outcome, place};
 
 use crate::run::{Run, take_chunk, take_end};
 use crate::{Answerer, Limits, ScriptFault};
@@ -41,7 +41,8 @@ pub fn answer_lines<R: Source, W: Sink, X, D: Answerer<X>>(
     requires { (limits.line < 2 ^ 62) × (limits.text < 2 ^ 62) }
     ensures answered { (read : List ℕ) × Consumes (R.remaining reader.old) (R.remaining reader.new) read
         × Wrote (W.contents writer.old) (W.contents writer.new)
-        (Outcome limits D.answers D.refuses desk.old context.old desk.new context.new (R.remaining reader.new) (R.failed reader.new) (W.failed writer.new) read result) }
+        (Outcome limits D.answers D.refuses (place desk.old context.old) (place desk.new context.new)
+        (record { read = read; left = R.remaining reader.new; reader_failed = R.failed reader.new; writer_failed = W.failed writer.new }) result) }
     ensures sound_reader { OnOk result (R.failed reader.new ≡ R.failed reader.old) }
     ensures sound_writer { OnOk result (W.failed writer.new ≡ W.failed writer.old) }
     ensures told_reader { IfErr result (λ fault. fault ≢ ScriptFault.Read → R.failed reader.new ≡ R.failed reader.old) }

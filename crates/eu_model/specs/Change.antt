@@ -6,7 +6,7 @@ use Rattle.std.specs.Option.{option_map, option_map_or, option_or}
 use Rattle.eu_base.specs.declared.instances.Instance.{Instance}
 use Rattle.eu_model.specs.declared.commands.Reply.{Reply}
 use Rattle.eu_model.specs.declared.commands.Reply.TheVariants.{Registered, Done, NotFound, Stale, Conflict}
-use Rattle.eu_model.specs.Machine.{Record, made, renewed}
+use Rattle.eu_model.specs.Machine.{Record, new_record, renewed}
 
 -- ---- which status an instance is given
 
@@ -98,7 +98,7 @@ register held row expected n replicated t =
     let before = option_map (λ r. r.instance) held in
     let i = joined before row n replicated in
     record {
-      lease = Some (made i (up_after (option_map_or (λ r. r.up) held 0) i.status t) t);
+      lease = Some (new_record i (up_after (option_map_or (λ r. r.up) held 0) i.status t) t);
       row = row_after row (newer before n).overridden;
       expected = one_more (not (is_some held)) expected;
       counted = false;

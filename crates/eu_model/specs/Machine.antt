@@ -48,9 +48,9 @@ durations Renewed = 2
 abbrev pub is_expired : Record → ℕ → ℕ → Bool
 is_expired r t extra = nat_lt ((newest r.touches).at + durations (newest r.touches).kind * duration r.instance + extra) t
 
--- a lease that is made now
-abbrev pub made : Instance → ℕ → ℕ → Record
-made i up t = record { instance = i; registered = t; up = up; touches = record { at = t; kind = Fresh } ∷ [] }
+-- a lease that begins now
+abbrev pub new_record : Instance → ℕ → ℕ → Record
+new_record i up t = record { instance = i; registered = t; up = up; touches = record { at = t; kind = Fresh } ∷ [] }
 
 -- the same lease, renewed now
 abbrev pub renewed : Record → ℕ → Record

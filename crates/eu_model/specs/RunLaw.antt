@@ -108,9 +108,9 @@ all_may_evict (e ∷ es) s end run = (if is_evict e.command then may_evict s els
 abbrev pub WhoIsSilentGoes : Type 0
 WhoIsSilentGoes =
     (config : Config) (expected peers : ℕ) (es : List Entry) (s : Server) → Run (opened config expected peers) es s
-    → (pass : Entry) (later : List Entry) (end : Server) (run : Run s (pass ∷ later) end) (ks : List Key)
-    → is_evict pass.command ≡ true → ((k : Key) → Contains ks k → Contains (due s.machine pass.moment) k)
+    → (eviction : Entry) (later : List Entry) (end : Server) (run : Run s (eviction ∷ later) end) (ks : List Key)
+    → is_evict eviction.command ≡ true → ((k : Key) → Contains ks k → Contains (due s.machine eviction.moment) k)
     → All (λ e. (k : Key) → Contains ks k → touches k e.command e.reply ≡ false) later
-    → All (λ e. is_evict e.command ≡ true → pass.moment ≤ e.moment) later
-    → length ks + evicted_beside ks (pass ∷ later) ≤ all_may_evict (pass ∷ later) s end run
+    → All (λ e. is_evict e.command ≡ true → eviction.moment ≤ e.moment) later
+    → length ks + evicted_beside ks (eviction ∷ later) ≤ all_may_evict (eviction ∷ later) s end run
     → (k : Key) → Contains ks k → get end.machine.leases k ≡ None

@@ -13,8 +13,8 @@ use Rattle.eu_options.specs.declared.serving.Serving.{Serving}
 
 -- the option `--NAME VALUE`, with the value that it has where it isn't given
 abbrev pub option_rule : Text → ValueParser → Text → Rule
-option_rule name parser given =
-    record (new_rule name) { long = Some name; value_names = 1; parser = Some parser; defaults = given ∷ [] }
+option_rule name parser default =
+    record (new_rule name) { long = Some name; value_names = 1; parser = Some parser; defaults = default ∷ [] }
 
 -- the option `--NAME N`, which has to be given
 abbrev pub needed_rule : Text → ValueParser → Rule

@@ -1,4 +1,4 @@
-//! The words of the command line.
+//! The options of the command line, and what their values say.
 ghost use Rattle.std.specs.Prelude.{ℕ, ◌≡◌, ◌≤◌, ◌<◌, ◌^◌, false, codes, option_map, IfOk, IfSome, IsSome};
 ghost use Rattle.clap.specs.Words.{rule_of, app_of, new_app, first_value, found_of};
 ghost use Rattle.clap.specs.declared.builder.command.Command.TheViews.{out-Command};
@@ -25,16 +25,16 @@ fn option<'a>(
     name: &'a str,
     value_name: &'a str,
     parser: ValueParser<'a>,
-    given: &'a str,
+    default: &'a str,
 ) -> Arg<'a>
-    ensures rule { rule_of result ≡ option_rule name.entry.now parser.entry given.entry.now }
+    ensures rule { rule_of result ≡ option_rule name.entry.now parser.entry default.entry.now }
     ensures local { result.global ≡ false }
 {
     Arg::new(alloc, name)
         .long(name)
         .value_name(value_name)
         .value_parser(parser)
-        .default_value(given)
+        .default_value(default)
 }
 
 /// The option `--NAME N`, which has to be given.
@@ -192,58 +192,58 @@ pub fn command<'a>(alloc: Global) -> Result<Command<'a>, AllocError>
 }
 
 /// The number that an option gives. None where it has none, or one that is no `u32`.
-fn number(given: &ArgMatches<'_>, name: &str) -> Option<u32>
-    ensures some { IfSome result (IsNumber given.now name.now) }
-    ensures none { (n : ℕ) → n < 2 ^ 32 → IsNumber given.now name.now n → IsSome result }
+fn number(matches: &ArgMatches<'_>, name: &str) -> Option<u32>
+    ensures some { IfSome result (IsNumber matches.now name.now) }
+    ensures none { (n : ℕ) → n < 2 ^ 32 → IsNumber matches.now name.now n → IsSome result }
 {
-    given.get_one::<u32>(name)
+    matches.get_one::<u32>(name)
 }
 
 /// The settings that the options give. None where one is missing or out of its range, which the command line rules out.
-pub fn config_of(given: &ArgMatches<'_>) -> Option<Config>
-    ensures some { IfSome result (IsConfig given.now) }
-    ensures none { (c : Config) → (c.percent ≤ 100) × ((1 ≤ c.interval) × (c.interval ≤ 3600)) → c.evict_ms < 2 ^ 32 → IsConfig given.now c → IsSome result }
+pub fn config_of(matches: &ArgMatches<'_>) -> Option<Config>
+    ensures some { IfSome result (IsConfig matches.now) }
+    ensures none { (c : Config) → (c.percent ≤ 100) × ((1 ≤ c.interval) × (c.interval ≤ 3600)) → c.evict_ms < 2 ^ 32 → IsConfig matches.now c → IsSome result }
 {
-    let preservation = given.get_str("preservation")? == "on";
-    let percent = number(given, "percent")?;
-    let interval = number(given, "interval")?;
-    let evict_ms = number(given, "evict-ms")?;
+    let preservation = matches.get_str("preservation")? == "on";
+    let percent = number(matches, "percent")?;
+    let interval = number(matches, "interval")?;
+    let evict_ms = number(matches, "evict-ms")?;
     Config::new(preservation, percent, interval, evict_ms).ok()
 }
 
 /// The seed that the options give, if they do.
-pub fn seed_of(given: &ArgMatches<'_>) -> Option<u64>
-    ensures some { IfSome result (IsNumber given.now (codes "seed")) }
-    ensures none { (n : ℕ) → n < 2 ^ 64 → IsNumber given.now (codes "seed") n → IsSome result }
+pub fn seed_of(matches: &ArgMatches<'_>) -> Option<u64>
+    ensures some { IfSome result (IsNumber matches.now (codes "seed")) }
+    ensures none { (n : ℕ) → n < 2 ^ 64 → IsNumber matches.now (codes "seed") n → IsSome result }
 {
-    given.get_one::<u64>("seed")
+    matches.get_one::<u64>("seed")
 }
 
 /// The file of the journal that the options give, if they do.
-pub fn journal_of<'a>(given: &ArgMatches<'a>) -> Option<&'a str>
-    ensures { option_map (λ file. file.now) result ≡ first_value (found_of given.now) (codes "journal") }
+pub fn journal_of<'a>(matches: &ArgMatches<'a>) -> Option<&'a str>
+    ensures { option_map (λ file. file.now) result ≡ first_value (found_of matches.now) (codes "journal") }
 {
-    given.get_str("journal")
+    matches.get_str("journal")
 }
 
 /// The port that the options give. None where they give none.
-fn port_of(given: &ArgMatches<'_>) -> Option<u16>
-    ensures some { IfSome result (IsNumber given.now (codes "port")) }
-    ensures none { (n : ℕ) → n < 2 ^ 16 → IsNumber given.now (codes "port") n → IsSome result }
+fn port_of(matches: &ArgMatches<'_>) -> Option<u16>
+    ensures some { IfSome result (IsNumber matches.now (codes "port")) }
+    ensures none { (n : ℕ) → n < 2 ^ 16 → IsNumber matches.now (codes "port") n → IsSome result }
 {
-    given.get_one::<u16>("port")
+    matches.get_one::<u16>("port")
 }
 
 /// Where a server listens, and how much it serves, as the options say. None where one is missing or out of its range, which the command
 /// line rules out.
-pub fn serving_of(given: &ArgMatches<'_>) -> Option<Serving>
-    ensures some { IfSome result (IsServing given.now) }
-    ensures none { (s : Serving) → s.port < 2 ^ 16 → s.sessions < 2 ^ 32 → s.expected < 2 ^ 32 → IsServing given.now s → IsSome result }
+pub fn serving_of(matches: &ArgMatches<'_>) -> Option<Serving>
+    ensures some { IfSome result (IsServing matches.now) }
+    ensures none { (s : Serving) → s.port < 2 ^ 16 → s.sessions < 2 ^ 32 → s.expected < 2 ^ 32 → IsServing matches.now s → IsSome result }
 {
-    let port = port_of(given)?;
-    let sessions = number(given, "sessions")?;
-    let workers = number(given, "workers")?;
-    let expected = number(given, "expected")?;
+    let port = port_of(matches)?;
+    let sessions = number(matches, "sessions")?;
+    let workers = number(matches, "workers")?;
+    let expected = number(matches, "expected")?;
     if workers < 1 || workers > MOST_WORKERS {
         return None;
     }

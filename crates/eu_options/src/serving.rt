@@ -1,7 +1,7 @@
-//! What a server is told.
+//! Where a server listens, and how much it serves.
 ghost use Rattle.std.specs.Prelude.{◌≤◌};
 
-/// Where a server listens, and how much it serves.
+/// What the options of a server say.
 #[derive(Clone, Copy, Debug)]
 pub struct Serving {
     /// The port of 127.0.0.1; 0 has the system choose one.

@@ -132,15 +132,15 @@ fn tell_no_words(rt: &impl Eprint, kind: io::ErrorKind) -> u8
 /// Runs a script as the options say, and gives the exit status.
 fn start_script<R: Files + Input + Print + Eprint + AllocGlobal>(
     rt: &R,
-    given: &ArgMatches<'_>,
+    matches: &ArgMatches<'_>,
 ) -> u8
     ensures { (result ≡ 0) ⊎ ((result ≡ 2) ⊎ (result ≡ 3)) }
 {
-    let Some(config) = config_of(given) else {
+    let Some(config) = config_of(matches) else {
         return BAD_INPUT;
     };
-    let journal = journal_of(given);
-    match seed_of(given) {
+    let journal = journal_of(matches);
+    match seed_of(matches) {
         Some(seed) => run(rt, config, journal, &mut RngChooser::seeded(seed)),
         None => run(rt, config, journal, &mut FirstChooser),
     }
@@ -149,17 +149,17 @@ fn start_script<R: Files + Input + Print + Eprint + AllocGlobal>(
 /// Audits the journal of the file that the options name, or else a script, and gives the exit status.
 fn start_audit<R: Files + Input + Print + Eprint + AllocGlobal>(
     rt: &R,
-    given: &ArgMatches<'_>,
+    matches: &ArgMatches<'_>,
 ) -> u8
     ensures { (result ≡ 0) ⊎ ((result ≡ 2) ⊎ (result ≡ 3)) }
 {
-    if let Some(path) = journal_of(given) {
+    if let Some(path) = journal_of(matches) {
         return audit_file(rt, path);
     }
-    let Some(config) = config_of(given) else {
+    let Some(config) = config_of(matches) else {
         return BAD_INPUT;
     };
-    match seed_of(given) {
+    match seed_of(matches) {
         Some(seed) => audit(rt, config, &mut RngChooser::seeded(seed)),
         None => audit(rt, config, &mut FirstChooser),
     }
@@ -176,14 +176,14 @@ fn start_server<
         + Eprint
         + AllocGlobal
         + Sync,
->(rt: &R, given: &ArgMatches<'_>) -> u8
+>(rt: &R, matches: &ArgMatches<'_>) -> u8
     ensures { (result ≡ 0) ⊎ ((result ≡ 2) ⊎ (result ≡ 3)) }
 {
-    let (Some(config), Some(serving)) = (config_of(given), serving_of(given)) else {
+    let (Some(config), Some(serving)) = (config_of(matches), serving_of(matches)) else {
         return BAD_INPUT;
     };
-    let journal = journal_of(given);
-    match seed_of(given) {
+    let journal = journal_of(matches);
+    match seed_of(matches) {
         Some(seed) => serve(rt, config, serving, journal, RngChooser::seeded(seed)),
         None => serve(rt, config, serving, journal, FirstChooser),
     }
@@ -220,9 +220,9 @@ pub fn start<
         Err(error) => return tell_words(rt, &error),
     };
     match matches.subcommand() {
-        Some(("script", given)) => start_script(rt, given),
-        Some(("audit", given)) => start_audit(rt, given),
-        Some(("serve", given)) => start_server(rt, given),
+        Some(("script", matches)) => start_script(rt, matches),
+        Some(("audit", matches)) => start_audit(rt, matches),
+        Some(("serve", matches)) => start_server(rt, matches),
         _ => BAD_INPUT,
     }
 }

@@ -1,4 +1,4 @@
-//! What each method asks of each page.
+//! What each method asks of each resource.
 ghost use Rattle.std.specs.Prelude.{◌≡◌, ◌≢◌, true, Err, IsOk, Some};
 ghost use Rattle.eu_routes.specs.Table as spec;
 ghost use Rattle.eu_routes.specs.Path.{app_at, key_at, IsUncoded};
@@ -8,8 +8,9 @@ ghost use Rattle.eu_routes.specs.Table.{IsKnown};
 use crate::asks::Route;
 use crate::paths::{app_at, cut, key_at, path_of};
 use crate::queries::{config_at, stamp_given, status_given, values_at};
-use crate::table::{Page, Routes};
+use crate::table::{Resource, Routes};
 use eu_base::Fault;
+use eu_model::Command;
 use std::alloc::Global;
 
 /// The name of a stamp in a query.
@@ -57,10 +58,12 @@ fn ask_page(method: &str) -> Result<Route, Fault>
 #[tactic(auto, unfolding(crate::specs::Table::config_ask))]
 fn ask_config(alloc: Global, method: &str, query: &str) -> Result<Route, Fault>
     ensures said { Gives result (spec.config_ask method.now query.now) }
-    ensures memory { result ≡ Err Fault.OutOfMemory → spec.takes Page.Config method.now ≡ true }
+    ensures memory { result ≡ Err Fault.OutOfMemory → spec.takes Resource.Config method.now ≡ true }
 {
     match method {
-        "PUT" => Ok(Route::Reconfigure(config_at(alloc, query)?)),
+        "PUT" => Ok(Route::Do(Command::Reconfigure {
+            config: config_at(alloc, query)?,
+        })),
         _ => Err(Fault::NoRoute),
     }
 }
@@ -79,7 +82,7 @@ fn ask_listing(alloc: Global, segment: &str) -> Result<Route, Fault>
 #[tactic(auto, unfolding(crate::specs::Table::application_ask))]
 fn ask_application(alloc: Global, method: &str, path: &str) -> Result<Route, Fault>
     ensures said { Gives result (spec.application_ask method.now path.now) }
-    ensures memory { result ≡ Err Fault.OutOfMemory → IsKnown (Some Page.Application) method.now path.now }
+    ensures memory { result ≡ Err Fault.OutOfMemory → IsKnown (Some Resource.Application) method.now path.now }
 {
     let (_, segment) = cut(path);
     match method {
@@ -90,37 +93,47 @@ fn ask_application(alloc: Global, method: &str, path: &str) -> Result<Route, Fau
 }
 
 #[tactic(auto, unfolding(crate::specs::Table::renewal_ask))]
-fn ask_renewal(alloc: Global, path: &str, query: &str) -> Result<Route, Fault>
-    ensures said { Gives result (spec.renewal_ask path.now query.now) }
+fn ask_renewal(alloc: Global, path: &str, query: &str, replicated: bool) -> Result<Route, Fault>
+    ensures said { Gives result (spec.renewal_ask path.now query.now replicated) }
     ensures memory { IsUncoded path.now → result ≡ Err Fault.OutOfMemory → IsOk (key_at path.now) }
 {
     let key = key_at(alloc, path)?;
     let (last_dirty, overridden) = values_at(alloc, query, STAMP, OVERRIDDEN)?;
     let last_dirty = stamp_given(last_dirty)?;
     let overridden = status_given(overridden)?;
-    Ok(Route::Renew {
+    Ok(Route::Do(Command::Renew {
         key,
         last_dirty,
         overridden,
-    })
+        replicated,
+    }))
 }
 
 #[tactic(auto, unfolding(crate::specs::Table::lease_ask))]
-fn ask_lease(alloc: Global, method: &str, path: &str, query: &str) -> Result<Route, Fault>
-    ensures said { Gives result (spec.lease_ask method.now path.now query.now) }
-    ensures memory { result ≡ Err Fault.OutOfMemory → IsKnown (Some Page.Lease) method.now path.now }
+fn ask_lease(
+    alloc: Global,
+    method: &str,
+    path: &str,
+    query: &str,
+    replicated: bool,
+) -> Result<Route, Fault>
+    ensures said { Gives result (spec.lease_ask method.now path.now query.now replicated) }
+    ensures memory { result ≡ Err Fault.OutOfMemory → IsKnown (Some Resource.Lease) method.now path.now }
 {
     match method {
         "GET" => Ok(Route::One(key_at(alloc, path)?)),
-        "PUT" => ask_renewal(alloc, path, query),
-        "DELETE" => Ok(Route::Cancel(key_at(alloc, path)?)),
+        "PUT" => ask_renewal(alloc, path, query, replicated),
+        "DELETE" => Ok(Route::Do(Command::Cancel {
+            key: key_at(alloc, path)?,
+            replicated,
+        })),
         _ => Err(Fault::NoRoute),
     }
 }
 
 #[tactic(auto, unfolding(crate::specs::Table::setting_ask, crate::specs::Query::status_at))]
-fn ask_setting(alloc: Global, path: &str, query: &str) -> Result<Route, Fault>
-    ensures said { Gives result (spec.setting_ask path.now query.now) }
+fn ask_setting(alloc: Global, path: &str, query: &str, replicated: bool) -> Result<Route, Fault>
+    ensures said { Gives result (spec.setting_ask path.now query.now replicated) }
     ensures memory { IsUncoded path.now → result ≡ Err Fault.OutOfMemory → IsOk (key_at path.now) }
 {
     let key = key_at(alloc, path)?;
@@ -129,38 +142,46 @@ fn ask_setting(alloc: Global, path: &str, query: &str) -> Result<Route, Fault>
         return Err(Fault::BadValue);
     };
     let last_dirty = stamp_given(last_dirty)?;
-    Ok(Route::SetStatus {
+    Ok(Route::Do(Command::SetStatus {
         key,
         status,
         last_dirty,
-    })
+        replicated,
+    }))
 }
 
 #[tactic(auto, unfolding(crate::specs::Table::unsetting_ask, crate::specs::Query::status_at))]
-fn ask_unsetting(alloc: Global, path: &str, query: &str) -> Result<Route, Fault>
-    ensures said { Gives result (spec.unsetting_ask path.now query.now) }
+fn ask_unsetting(alloc: Global, path: &str, query: &str, replicated: bool) -> Result<Route, Fault>
+    ensures said { Gives result (spec.unsetting_ask path.now query.now replicated) }
     ensures memory { IsUncoded path.now → result ≡ Err Fault.OutOfMemory → IsOk (key_at path.now) }
 {
     let key = key_at(alloc, path)?;
     let (status, last_dirty) = values_at(alloc, query, STATUS, STAMP)?;
     let status = status_given(status)?;
     let last_dirty = stamp_given(last_dirty)?;
-    Ok(Route::UnsetStatus {
+    Ok(Route::Do(Command::UnsetStatus {
         key,
         status,
         last_dirty,
-    })
+        replicated,
+    }))
 }
 
 #[tactic(auto, unfolding(crate::specs::Table::status_ask))]
-fn ask_status(alloc: Global, method: &str, path: &str, query: &str) -> Result<Route, Fault>
-    ensures said { Gives result (spec.status_ask method.now path.now query.now) }
-    ensures memory { result ≡ Err Fault.OutOfMemory → IsKnown (Some Page.LeaseStatus) method.now path.now }
+fn ask_status(
+    alloc: Global,
+    method: &str,
+    path: &str,
+    query: &str,
+    replicated: bool,
+) -> Result<Route, Fault>
+    ensures said { Gives result (spec.status_ask method.now path.now query.now replicated) }
+    ensures memory { result ≡ Err Fault.OutOfMemory → IsKnown (Some Resource.LeaseStatus) method.now path.now }
 {
     let (path, _) = cut(path);
     match method {
-        "PUT" => ask_setting(alloc, path, query),
-        "DELETE" => ask_unsetting(alloc, path, query),
+        "PUT" => ask_setting(alloc, path, query, replicated),
+        "DELETE" => ask_unsetting(alloc, path, query, replicated),
         _ => Err(Fault::NoRoute),
     }
 }
@@ -168,9 +189,10 @@ fn ask_status(alloc: Global, method: &str, path: &str, query: &str) -> Result<Ro
 impl Routes {
     ghost use Rattle.eu_routes.specs.Path.{path_of};
     ghost use Rattle.eu_base.specs.Gives.{Gives};
-    ghost use Rattle.eu_routes.specs.Table.{IsKnown, route_of, page_of};
+    ghost use Rattle.eu_routes.specs.Table.{IsKnown, route_of, resource_of};
 
-    /// What a request asks for, by its method, and by its target's parts before and behind the first `?`.
+    /// What a request asks for, by its method, by its target's parts before and behind the first `?`, and by whether a peer sends it
+    /// (`isReplication` in Eureka).
     ///
     /// A path begins with `/eureka/v2` or `/eureka`, which `http://` or `https://` and a host may precede (RFC 9112, section
     /// 3.2.2), and may end with a slash more. Its segments are percent-decoded once the route is known; a name has 1 to 255 bytes
@@ -197,22 +219,29 @@ impl Routes {
     /// where nothing in the path is encoded. The routes are those of Eureka's
     /// `ApplicationsResource`, `ApplicationResource`, `InstanceResource` and `PeerReplicationResource`, and `status` and `config`,
     /// which are this registry's own.
-    pub fn find(&self, alloc: Global, method: &str, path: &str, query: &str) -> Result<Route, Fault>
-        ensures said { Gives result (route_of method.now path.now query.now) }
-        ensures memory { result ≡ Err Fault.OutOfMemory → IsKnown (page_of (path_of path.now)) method.now (path_of path.now) }
+    pub fn find(
+        &self,
+        alloc: Global,
+        method: &str,
+        path: &str,
+        query: &str,
+        replicated: bool,
+    ) -> Result<Route, Fault>
+        ensures said { Gives result (route_of method.now path.now query.now replicated) }
+        ensures memory { result ≡ Err Fault.OutOfMemory → IsKnown (resource_of (path_of path.now)) method.now (path_of path.now) }
     {
         let path = path_of(path);
-        let Some(page) = self.page_at(path) else {
+        let Some(resource) = self.resource_at(path) else {
             return Err(Fault::NoRoute);
         };
-        match page {
-            Page::Applications => ask_applications(method),
-            Page::Application => ask_application(alloc, method, path),
-            Page::Lease => ask_lease(alloc, method, path, query),
-            Page::LeaseStatus => ask_status(alloc, method, path, query),
-            Page::Batch => ask_batch(method),
-            Page::StatusPage => ask_page(method),
-            Page::Config => ask_config(alloc, method, query),
+        match resource {
+            Resource::Applications => ask_applications(method),
+            Resource::Application => ask_application(alloc, method, path),
+            Resource::Lease => ask_lease(alloc, method, path, query, replicated),
+            Resource::LeaseStatus => ask_status(alloc, method, path, query, replicated),
+            Resource::Batch => ask_batch(method),
+            Resource::StatusPage => ask_page(method),
+            Resource::Config => ask_config(alloc, method, query),
         }
     }
 }

@@ -10,6 +10,7 @@ use Rattle.eu_book.specs.Account.{Account}
 use Rattle.eu_book.specs.Peers.{state_of}
 use Rattle.eu_lines.specs.declared.faults.ScriptFault.{ScriptFault}
 use Rattle.eu_lines.specs.declared.faults.ScriptFault.TheVariants.{BadLine, Read, Write, OutOfMemory}
+use Rattle.eu_lines.specs.Script.{Streams}
 use Rattle.eu_script.specs.declared.desk.ScriptDesk.{ScriptDesk}
 use Rattle.eu_script.specs.Audit.{Judges, AuditRuns, audit_text}
 use Rattle.eu_script.specs.ScriptDesk.{Audits, HoldsRun, Leaves, Writes}
@@ -29,28 +30,28 @@ judges (Some a) None answer n holds audits = absurd holds
 judges (Some a) (Some r) answer n holds audits =
     (a.base, a.entries, holds.journal, audits.0, subst (λ s. IsTrue answer ↔ IsRun (state_of a.base) a.entries (state_of s)) holds.state audits.1)
 
-module _ {C : Type 0} (config : Config) (asks : C → ℕ → ℕ × C) (x x' : C) (left : Option (List ℕ)) (failed_reader : Bool) (read printed : List ℕ) (failed_writer : Bool) where
+module _ {C : Type 0} (config : Config) (asks : C → ℕ → ℕ × C) (x x' : C) (streams : Streams) (printed : List ℕ) where
   -- a script that ended by a fault is told nothing of
-  pub faulted : (f : ScriptFault) → Leaves config asks x x' left failed_reader false read (Err f) printed → AuditRuns config asks x x' left failed_reader read failed_writer (Err f) []
+  pub faulted : (f : ScriptFault) → Leaves config asks x x' (record streams { writer_failed = false }) (Err f) printed → AuditRuns config asks x x' streams (Err f) []
   faulted Write p = absurd (true≢false (sym p.1.2.0))
   faulted (BadLine n) p = (refl, p.0, (printed, p.1))
   faulted Read p = (refl, p.0, (printed, p.1))
   faulted OutOfMemory p = (refl, p.0, (printed, p.1))
 
-  module _ (d : ScriptDesk) (leaves : Leaves config asks x x' left failed_reader false read (Ok d) printed) where
+  module _ (d : ScriptDesk) (leaves : Leaves config asks x x' (record streams { writer_failed = false }) (Ok d) printed) where
     -- nor where there was no memory for the audit
-    pub unjudged : AuditRuns config asks x x' left failed_reader read failed_writer (Err OutOfMemory) []
+    pub unjudged : AuditRuns config asks x x' streams (Err OutOfMemory) []
     unjudged =
-        let ran = without_memory config asks x x' left failed_reader false read printed leaves.0 leaves.1 in
+        let ran = without_memory config asks x x' (record streams { writer_failed = false }) printed leaves.0 leaves.1 in
         (refl, ran.0, (printed, ran.1))
 
     module _ (answer : Bool) (n : ℕ) (audits : Audits d.book answer n) where
       -- the line is the answer of the audit
-      pub told : (line : List ℕ) → Writes (audit_text answer n) failed_writer (Ok tt) line → AuditRuns config asks x x' left failed_reader read failed_writer (Ok answer) line
+      pub told : (line : List ℕ) → Writes (audit_text answer n) streams.writer_failed (Ok tt) line → AuditRuns config asks x x' streams (Ok answer) line
       told line is = (leaves.0, (printed, leaves.1), n, judges d.book leaves.0 answer n leaves.2 audits, is)
 
       -- a front of the line is written, or nothing
-      pub untold : (f : ScriptFault) (out : List ℕ) → Writes (audit_text answer n) failed_writer (Err f) out → AuditRuns config asks x x' left failed_reader read failed_writer (Err f) out
+      pub untold : (f : ScriptFault) (out : List ℕ) → Writes (audit_text answer n) streams.writer_failed (Err f) out → AuditRuns config asks x x' streams (Err f) out
       untold Write out is = (is.0, answer, _, told _ refl, is.1, is.2)
       untold OutOfMemory out is = rw is unjudged
       untold (BadLine m) out is = absurd is

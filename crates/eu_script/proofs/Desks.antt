@@ -11,6 +11,7 @@ use Rattle.eu_base.specs.Limits.{most_entries, most_steps}
 use Rattle.eu_book.proofs.BookLemmas.{differs, ready_same}
 use Rattle.eu_core.specs.Stepped.{Chooses}
 use Rattle.eu_lines.specs.declared.faults.LineError.{LineError}
+use Rattle.eu_lines.specs.Script.{Place, place}
 use Rattle.eu_model.specs.declared.commands.Command.{Command}
 use Rattle.eu_model.specs.declared.commands.Command.TheVariants as command
 use Rattle.eu_model.specs.declared.commands.Entry.{Entry}
@@ -26,7 +27,7 @@ use Rattle.eu_model.proofs.RunLemmas.{run_push}
 use Rattle.eu_page.specs.Page.{shown_page}
 use Rattle.eu_script.specs.declared.desk.ScriptDesk.{ScriptDesk}
 use Rattle.eu_script.specs.Audit.{Journals}
-use Rattle.eu_script.specs.ScriptDesk.{Holds, HoldsRun, DeskAnswers, ClosedAnswers, OpenedAnswers, Told}
+use Rattle.eu_script.specs.ScriptDesk.{Holds, HoldsRun, DeskAnswers, ClosedAnswers, OpenedAnswers, AccountDoes}
 use Rattle.eu_script.specs.Script.{Ran, Does, Draws, Sees, Says, opened_with}
 use Rattle.eu_script.specs.Texts.{answer_text, settled_text}
 use Rattle.eu_words.specs.Lines.{line_of}
@@ -48,7 +49,7 @@ and_then r e mid none step = record {
 pub unopened : (config : Config) (n peers : ℕ) → Journals (opened_with config n peers) (plain_server (model.opened config n peers)) []
 unopened config n peers = record {
   dropped = [];
-  turns = 0;
+  checkpoints = 0;
   whole = refl;
   came = record { from = model.opened config n peers; to = model.opened config n peers; begins = refl; ends = refl; run = refl };
   full = refl;
@@ -67,7 +68,7 @@ journals a r e mid none step h =
           let at_most = eqb-true (length a.entries) most_entries full in
           record {
             dropped = r.entries;
-            turns = suc j.turns;
+            checkpoints = suc j.checkpoints;
             whole = refl;
             came = record { from = model.opened r.config r.opened r.peers; to = r.server; begins = refl; ends = sym h.state; run = r.runs };
             full = omega (arith, lengths, j.full, at_most);
@@ -79,7 +80,7 @@ journals a r e mid none step h =
           let more = length-append a.entries (e ∷ []) in
           record {
             dropped = j.dropped;
-            turns = j.turns;
+            checkpoints = j.checkpoints;
             whole = ap (λ l. l ++ e ∷ []) j.whole ∙ append_assoc j.dropped a.entries (e ∷ []);
             came = j.came;
             full = j.full;
@@ -101,7 +102,7 @@ module _ {C : Type 0} (asks : C → ℕ → ℕ × C) (x : C) where
   module _ (a b : Account) (x' : C) (c : Command) (t : ℕ) (out : List ℕ) where
     -- a command that is accepted is the next entry of each run of that account
     accepted : (receipt : Receipt) → Applies asks a x (entry 0 receipt.number c t receipt.reply) b x' → out ≡ answer_text (settled_text c) (Ok receipt)
-        → (r : Ran) → Holds a r → (next : Ran) × Does asks r x c t out next x' × Holds b next
+        → (r : Ran) → Holds a r → (next : Ran) × Does asks (place r x) c t out (place next x') × Holds b next
     unfolding ServerAnswers IsServerAnswer
     accepted receipt applies text r h =
         let e = entry 0 receipt.number c t receipt.reply in
@@ -119,15 +120,15 @@ module _ {C : Type 0} (asks : C → ℕ → ℕ × C) (x : C) where
 
     -- one that is refused, but not for want of memory, is refused in each of those runs
     refused : (f : Fault) → Refuses a c t f → b ≡ a → x' ≡ x → f ≢ OutOfMemory → out ≡ answer_text (settled_text c) (Err f)
-        → (r : Ran) → Holds a r → (next : Ran) × Does asks r x c t out next x' × Holds b next
+        → (r : Ran) → Holds a r → (next : Ran) × Does asks (place r x) c t out (place next x') × Holds b next
     refused f refuses same unasked known text r h = elim (refuses r.server (sym h.state)) [
       | inl e ↦ absurd (known e)
-      | inr first ↦ (r, inr (f, subst (λ n. (if n == most_steps then Some Exhausted else server_fault r.server c t) ≡ Some f) h.steps first, text, refl, unasked), subst (λ y. Holds y r) (sym same) h)
+      | inr first ↦ (r, inr (f, subst (λ n. (if n == most_steps then Some Exhausted else server_fault r.server c t) ≡ Some f) h.steps first, text, ap (place r) unasked), subst (λ y. Holds y r) (sym same) h)
     ]
 
     does : (answer : Result Receipt Fault) → IfOk answer (λ receipt. Applies asks a x (entry 0 receipt.number c t receipt.reply) b x') → IfErr answer (λ f. Refuses a c t f)
         → OnErr answer (b ≡ a) → OnErr answer (x' ≡ x) → answer ≢ Err OutOfMemory → out ≡ answer_text (settled_text c) answer
-        → (r : Ran) → Holds a r → (next : Ran) × Does asks r x c t out next x' × Holds b next
+        → (r : Ran) → Holds a r → (next : Ran) × Does asks (place r x) c t out (place next x') × Holds b next
     does (Ok receipt) applies refuses same unasked known text = accepted receipt applies text
     does (Err f) applies refuses same unasked known text = refused f refuses same unasked (λ e. known (ap Err e)) text
 
@@ -135,36 +136,36 @@ module _ {C : Type 0} (asks : C → ℕ → ℕ × C) (x : C) where
     pub told : (answer : Result Receipt Fault) (r : Result (Unit {0}) LineError)
         → IfOk answer (λ receipt. Applies asks a x (entry 0 receipt.number c t receipt.reply) b x') → IfErr answer (λ f. Refuses a c t f)
         → OnErr answer (b ≡ a) → OnErr answer (x' ≡ x) → OnOk r (answer ≢ Err OutOfMemory) → OnOk r (out ≡ answer_text (settled_text c) answer)
-        → OnOk r (Told asks a x c t out b x')
+        → OnOk r (AccountDoes asks (place a x) c t out (place b x'))
     told answer (Err e) applies refuses same unasked known text = tt
     told answer (Ok u) applies refuses same unasked known text = does answer applies refuses same unasked known text
 
   -- a view that is printed is what is seen of each run of that account
   pub sees : {V : Type 0} (a : Account) (see : Machine → V) (text : V → List ℕ) (out : List ℕ) (value : V) → Shows a.state.registry see value → out ≡ text value
-      → (r : Ran) → Holds a r → (next : Ran) × (Sees r (λ s. text (see s)) out next × (x ≡ x)) × Holds a next
-  sees a see text out value shows is r h = (r, ((is ∙ ap text (shows r.server.machine (registry_is a r h)), refl), refl), h)
+      → (r : Ran) → Holds a r → (next : Ran) × Sees (place r x) (λ s. text (see s)) out (place next x) × Holds a next
+  sees a see text out value shows is r h = (r, (is ∙ ap text (shows r.server.machine (registry_is a r h)), refl), h)
 
   -- the same of the status page
   pub pages : (a : Account) (t : ℕ) (r : Result (Unit {0}) LineError) (out : List ℕ) → OnOk r (Shows a.state.registry (λ s. shown_page (counts s) (listing None s)) out)
-      → OnOk r (OpenedAnswers asks a x (Page t) out a x)
+      → OnOk r (OpenedAnswers asks (Page t) (place a x) out (place a x))
   pages a t (Err e) out shows = tt
-  pages a t (Ok u) out shows = λ r h. (r, ((shows r.server.machine (registry_is a r h), refl), refl), h)
+  pages a t (Ok u) out shows = λ r h. (r, (shows r.server.machine (registry_is a r h), refl), h)
 
-module _ {C : Type 0} (asks : C → ℕ → ℕ × C) (x : C) (d d' : ScriptDesk) (line out : List ℕ) where
+module _ {C : Type 0} (asks : C → ℕ → ℕ × C) (x : C) (d d' : ScriptDesk) (text out : List ℕ) where
   -- a line once the registry is open
-  pub opened : (a b : Account) (x' : C) (said : Line) (r : Result (Unit {0}) LineError) → line_of line ≡ Some said → d.book ≡ Some a → d'.config ≡ d.config → d'.book ≡ Some b
-      → OnOk r (OpenedAnswers asks a x said out b x') → OnOk r (DeskAnswers asks d x line out d' x')
-  opened a b x' said (Err e) says before same after answers = tt
-  opened a b x' said (Ok u) says before same after answers = (same, λ s k. rw (says, after) (at s (rw before at k))) where
-    at : (s : Option Ran) → HoldsRun (Some a) s → (s' : Option Ran) × Says d.config asks (Some said) s x out s' x' × HoldsRun (Some b) s'
+  pub opened : (a b : Account) (x' : C) (line : Line) (r : Result (Unit {0}) LineError) → line_of text ≡ Some line → d.book ≡ Some a → d'.config ≡ d.config → d'.book ≡ Some b
+      → OnOk r (OpenedAnswers asks line (place a x) out (place b x')) → OnOk r (DeskAnswers asks (place d x) text out (place d' x'))
+  opened a b x' line (Err e) says before same after answers = tt
+  opened a b x' line (Ok u) says before same after answers = (same, λ s k. rw (says, after) (at s (rw before at k))) where
+    at : (s : Option Ran) → HoldsRun (Some a) s → (end : Option Ran) × Says d.config asks (Some line) s x out (place end x') × HoldsRun (Some b) end
     at None k = absurd k
-    at (Some r) k = let n = answers r k in (Some n.0, (n.0, n.1, refl), n.2)
+    at (Some r) k = let n = answers r k in (Some n.0, (place n.0 x', n.1, refl), n.2)
 
   -- a line before that
-  pub closed : (said : Line) (r : Result (Unit {0}) LineError) → line_of line ≡ Some said → d.book ≡ None
-      → OnOk r (ClosedAnswers d said out d') → OnOk r (DeskAnswers asks d x line out d' x)
-  closed said (Err e) says before answers = tt
-  closed said (Ok u) says before answers = (answers.2, λ s k. rw says (at s (rw before at k))) where
-    at : (s : Option Ran) → HoldsRun None s → (s' : Option Ran) × Says d.config asks (Some said) s x out s' x × HoldsRun d'.book s'
-    at None k = (Some answers.0, (answers.0, answers.1, refl, refl), answers.3)
+  pub closed : (line : Line) (r : Result (Unit {0}) LineError) → line_of text ≡ Some line → d.book ≡ None
+      → OnOk r (ClosedAnswers d line out d') → OnOk r (DeskAnswers asks (place d x) text out (place d' x))
+  closed line (Err e) says before answers = tt
+  closed line (Ok u) says before answers = (answers.2, λ s k. rw says (at s (rw before at k))) where
+    at : (s : Option Ran) → HoldsRun None s → (end : Option Ran) × Says d.config asks (Some line) s x out (place end x) × HoldsRun d'.book end
+    at None k = (Some answers.0, (answers.0, answers.1, refl), answers.3)
     at (Some r) k = absurd k

@@ -8,7 +8,7 @@ use Rattle.eu_book.specs.Peers.{state_of}
 use Rattle.eu_journal_text.specs.Text.{journal_text}
 use Rattle.eu_lines.specs.declared.faults.ScriptFault.{ScriptFault}
 use Rattle.eu_lines.specs.declared.faults.ScriptFault.TheVariants.{BadLine, Read, Write, OutOfMemory}
-use Rattle.eu_lines.specs.Script.{Wrote}
+use Rattle.eu_lines.specs.Script.{Streams, Wrote}
 use Rattle.eu_model.specs.declared.commands.Entry.{Entry}
 use Rattle.eu_model.specs.declared.states.State.{State}
 use Rattle.eu_script.specs.declared.desk.ScriptDesk.{ScriptDesk}
@@ -38,20 +38,20 @@ texts None (Some r) holds = absurd holds
 texts (Some a) None holds = absurd holds
 texts (Some a) (Some r) holds = (a.base, a.entries, holds.journal, ap (λ s. journal_text (state_of a.base) a.entries (state_of s)) holds.state)
 
-module _ {C : Type 0} (config : Config) (asks : C → ℕ → ℕ × C) (x x' : C) (left : Option (List ℕ)) (failed_reader failed_writer : Bool) (read out : List ℕ) (failed : Bool) where
+module _ {C : Type 0} (config : Config) (asks : C → ℕ → ℕ × C) (x x' : C) (streams : Streams) (out : List ℕ) (failed : Bool) where
   -- a script that ended by a fault leaves nothing
-  pub stopped : (f : ScriptFault) → Leaves config asks x x' left failed_reader failed_writer read (Err f) out
-      → JournalRuns config asks x x' left failed_reader failed_writer read out failed (Err f) []
+  pub stopped : (f : ScriptFault) → Leaves config asks x x' streams (Err f) out
+      → JournalRuns config asks x x' streams out failed (Err f) []
   stopped Write p = inl (p, refl)
   stopped (BadLine n) p = (p, refl)
   stopped Read p = (p, refl)
   stopped OutOfMemory p = (p, refl)
 
   -- what a desk leaves of its journal
-  pub left_text : (d : ScriptDesk) (result : Result (Unit {0}) ScriptFault) (text : List ℕ) → Leaves config asks x x' left failed_reader failed_writer read (Ok d) out
-      → Writes (text_of d.book) failed result text → JournalRuns config asks x x' left failed_reader failed_writer read out failed result text
+  pub left_text : (d : ScriptDesk) (result : Result (Unit {0}) ScriptFault) (text : List ℕ) → Leaves config asks x x' streams (Ok d) out
+      → Writes (text_of d.book) failed result text → JournalRuns config asks x x' streams out failed result text
   left_text d (Ok u) text leaves is = rw is (leaves.0, leaves.1, texts d.book leaves.0 leaves.2)
   left_text d (Err Write) text leaves is = inr (is.0, _, (leaves.0, leaves.1, texts d.book leaves.0 leaves.2), is.1, is.2)
-  left_text d (Err OutOfMemory) text leaves is = (without_memory config asks x x' left failed_reader failed_writer read out leaves.0 leaves.1, is)
+  left_text d (Err OutOfMemory) text leaves is = (without_memory config asks x x' streams out leaves.0 leaves.1, is)
   left_text d (Err (BadLine n)) text leaves is = absurd is
   left_text d (Err Read) text leaves is = absurd is

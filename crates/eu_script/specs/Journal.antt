@@ -6,7 +6,7 @@ use Rattle.eu_journal_text.specs.Text.{journal_text}
 use Rattle.eu_lines.specs.declared.faults.ScriptFault.{ScriptFault}
 use Rattle.eu_lines.specs.declared.faults.ScriptFault.TheVariants.{Write}
 use Rattle.eu_lines.specs.Lines.{script_limits}
-use Rattle.eu_lines.specs.Script.{Outcome}
+use Rattle.eu_lines.specs.Script.{Streams, Outcome, place}
 use Rattle.eu_model.specs.declared.commands.Entry.{Entry}
 use Rattle.eu_model.specs.Server.{PlainServer, plain_server}
 use Rattle.eu_script.specs.Audit.{Journals}
@@ -19,19 +19,18 @@ IsTextOf (Some r) text =
     (base : PlainServer) × (entries : List Entry) × Journals r base entries
     × (text ≡ journal_text (state_of base) entries (state_of (plain_server r.server)))
 
--- A script of these settings, by its chooser before and after, what it read and left, whether its reader and its writer failed, and what
--- it wrote of what its lines print
-module _ {C : Type 0} (config : Config) (asks : C → ℕ → ℕ × C) (x x' : C) (left : Option (List ℕ)) (failed_reader failed_writer : Bool) (read out : List ℕ) where
+-- A script of these settings, by its chooser before and after, what became of its streams, and what it wrote of what its lines print
+module _ {C : Type 0} (config : Config) (asks : C → ℕ → ℕ × C) (x x' : C) (streams : Streams) (out : List ℕ) where
   -- it was answered whole, and this is the text of its journal
   abbrev pub IsText : List ℕ → Type 0
-  IsText text = (end : Option Ran) × Outcome script_limits (Answers config asks) Refuses None x end x' left failed_reader failed_writer read (Ok tt) out × IsTextOf end text
+  IsText text = (end : Option Ran) × Outcome script_limits (Answers config asks) Refuses (place None x) (place end x') streams (Ok tt) out × IsTextOf end text
 
   -- What such a script wrote to its journal, by its result. The flag says whether the journal's writer failed
   abbrev pub JournalRuns : Bool → Result (Unit {0}) ScriptFault → List ℕ → Type 0
   JournalRuns failed (Ok u) text = IsText text
   -- a line's write failed, and nothing is in the journal; or the script was answered whole, and a front of its text is
   JournalRuns failed (Err Write) text =
-      (ScriptRuns config asks x x' left failed_reader failed_writer read (Err Write) out × (text ≡ []))
+      (ScriptRuns config asks x x' streams (Err Write) out × (text ≡ []))
       ⊎ ((failed ≡ true) × (whole : List ℕ) × IsText whole × (k : ℕ) × (text ≡ take k whole))
   -- the script ended by that fault, or there was no memory for the text; nothing is in the journal
-  JournalRuns failed (Err fault) text = ScriptRuns config asks x x' left failed_reader failed_writer read (Err fault) out × (text ≡ [])
+  JournalRuns failed (Err fault) text = ScriptRuns config asks x x' streams (Err fault) out × (text ≡ [])

@@ -6,7 +6,7 @@ use Rattle.eu_base.specs.declared.settings.Config.{Config}
 use Rattle.eu_base.specs.Limits.{most_steps}
 use Rattle.eu_lines.specs.declared.faults.ScriptFault.{ScriptFault}
 use Rattle.eu_lines.specs.Lines.{script_limits}
-use Rattle.eu_lines.specs.Script.{Outcome}
+use Rattle.eu_lines.specs.Script.{Place, Streams, Outcome, place}
 use Rattle.eu_model.specs.declared.commands.Command.{Command}
 use Rattle.eu_model.specs.declared.commands.Command.TheVariants as command
 use Rattle.eu_model.specs.declared.commands.Entry.{Entry}
@@ -51,14 +51,14 @@ is_full r = length r.entries == most_steps
 abbrev pub refusal_in : Ran → Command → ℕ → Option Fault
 refusal_in r c t = if is_full r then Some Exhausted else server_fault r.server c t
 
--- a question prints this text of the server's machine, and changes nothing
-abbrev pub Sees : Ran → (Machine → List ℕ) → List ℕ → Ran → Type 0
-Sees r text out next = (out ≡ text r.server.machine) × (next ≡ r)
-
--- a line that says this prints out before the registry is open, and begins the run next: only one that opens it does
+-- this line prints out before the registry is open, and begins the run next: only one that opens it does
 abbrev pub SaysClosed : Config → Line → List ℕ → Ran → Type 0
 SaysClosed config (Open opening) out next = (out ≡ codes "opened\n") × (next ≡ opened_with config opening.expected opening.peers)
 SaysClosed config _ out next = ⊥
+
+-- A question prints this text of the server's machine, and changes nothing. The context is the chooser's state
+abbrev pub Sees : {C : Type 0} → Place Ran C → (Machine → List ℕ) → List ℕ → Place Ran C → Type 0
+Sees before text out after = (out ≡ text before.state.server.machine) × (after ≡ before)
 
 -- `asks` is the law of a chooser: its word below a bound, and its state after
 module _ {C : Type 0} (asks : C → ℕ → ℕ × C) where
@@ -68,51 +68,52 @@ module _ {C : Type 0} (asks : C → ℕ → ℕ × C) where
   Draws s x command.Evict t reply x' = (reply ≡ Evicted (drawn_victims asks s t x)) × (x' ≡ drawn_state asks s t x)
   Draws s x _ t reply x' = x' ≡ x
 
-  -- A command at a moment, told in the run r: one that is answered prints its reply, and is the next entry of the run, with the
-  -- pass 0 and the number of the entries before it; one that is refused prints the fault's number, and changes nothing
-  abbrev pub Does : Ran → C → Command → ℕ → List ℕ → Ran → C → Type 0
-  Does r x c t out next x' =
-      ((e : Entry) × (e.command ≡ c) × (e.moment ≡ t) × (e.pass ≡ 0) × (e.number ≡ length r.entries) × (is_full r ≡ false) × GoesOn r e next × Draws r.server.machine x c t e.reply x' × (out ≡ reply_text (settled_text c) e.reply))
-      ⊎ ((f : Fault) × (refusal_in r c t ≡ Some f) × (out ≡ refused_text f) × (next ≡ r) × (x' ≡ x))
+  -- A command at a moment, in the run and with the chooser before: one that is answered prints its reply, and is the next entry of the run,
+  -- with the pass 0 and the number of the entries before it; one that is refused prints the fault's number, and changes nothing
+  abbrev pub Does : Place Ran C → Command → ℕ → List ℕ → Place Ran C → Type 0
+  Does before c t out after =
+      ((e : Entry) × (e.command ≡ c) × (e.moment ≡ t) × (e.pass ≡ 0) × (e.number ≡ length before.state.entries) × (is_full before.state ≡ false) × GoesOn before.state e after.state
+      × Draws before.state.server.machine before.context c t e.reply after.context × (out ≡ reply_text (settled_text c) e.reply))
+      ⊎ ((f : Fault) × (refusal_in before.state c t ≡ Some f) × (out ≡ refused_text f) × (after ≡ before))
 
-  -- a line that says this prints out once the registry is open, and takes its run and the chooser from r and x to next and x'
-  abbrev pub SaysOpened : Line → Ran → C → List ℕ → Ran → C → Type 0
-  SaysOpened (Apply t c) r x out next x' = Does r x c t out next x'
-  SaysOpened (Look t k) r x out next x' = Sees r (λ s. look_text (one s k t)) out next × (x' ≡ x)
-  SaysOpened (Counts t) r x out next x' = Sees r (λ s. counts_text (counts s)) out next × (x' ≡ x)
-  SaysOpened (Page t) r x out next x' = Sees r (λ s. shown_page (counts s) (listing None s)) out next × (x' ≡ x)
+  -- this line prints out once the registry is open, and takes its run and the chooser from before to after
+  abbrev pub SaysOpened : Line → Place Ran C → List ℕ → Place Ran C → Type 0
+  SaysOpened (Apply t c) before out after = Does before c t out after
+  SaysOpened (Look t k) before out after = Sees before (λ s. look_text (one s k t)) out after
+  SaysOpened (Counts t) before out after = Sees before (λ s. counts_text (counts s)) out after
+  SaysOpened (Page t) before out after = Sees before (λ s. shown_page (counts s) (listing None s)) out after
   -- the registry is opened only once
-  SaysOpened (Open opening) r x out next x' = ⊥
+  SaysOpened (Open opening) before out after = ⊥
 
--- The registry is the run that it has made, or None before it is opened
+-- The state is the run that the registry has made, or None before it is opened; the context is the chooser's state
 module _ {C : Type 0} (config : Config) (asks : C → ℕ → ℕ × C) where
-  -- a line that says this prints out, and takes registry and chooser from s and x to s' and x'
-  abbrev pub Says : Option Line → Option Ran → C → List ℕ → Option Ran → C → Type 0
-  Says (Some said) None x out s' x' = (next : Ran) × SaysClosed config said out next × (s' ≡ Some next) × (x' ≡ x)
-  Says (Some said) (Some r) x out s' x' = (next : Ran) × SaysOpened asks said r x out next x' × (s' ≡ Some next)
-  -- one that says nothing is bad
-  Says None s x out s' x' = ⊥
+  -- this line prints out in this state and with the chooser x, and leads to the place after
+  abbrev pub Says : Option Line → Option Ran → C → List ℕ → Place (Option Ran) C → Type 0
+  Says (Some line) None x out after = (next : Ran) × SaysClosed config line out next × (after ≡ place (Some next) x)
+  Says (Some line) (Some r) x out after = (next : Place Ran C) × SaysOpened asks line (place r x) out next × (after ≡ place (Some next.state) next.context)
+  -- a text that is no line is bad
+  Says None s x out after = ⊥
 
-  -- this line prints out, and takes registry and chooser from s and x to s' and x'
-  abbrev pub Answers : Option Ran → C → List ℕ → List ℕ → Option Ran → C → Type 0
-  Answers s x line out s' x' = Says (line_of line) s x out s' x'
+  -- the line of this text prints out, and takes registry and chooser from before to after
+  abbrev pub Answers : Place (Option Ran) C → List ℕ → List ℕ → Place (Option Ran) C → Type 0
+  Answers before text out after = Says (line_of text) before.state before.context out after
 
--- what is said is nothing, or may not be said here: the registry is opened once, and before anything else
+-- a text is no line, or the line may not stand here: the registry is opened once, and before anything else
 abbrev pub opens : Line → Bool
 opens (Open opening) = true
 opens _ = false
 
 abbrev pub IsMisplaced : Option Line → Option Ran → Type 0
 IsMisplaced None s = Unit {0}
-IsMisplaced (Some said) None = IsTrue (not (opens said))
-IsMisplaced (Some said) (Some r) = IsTrue (opens said)
+IsMisplaced (Some line) None = IsTrue (not (opens line))
+IsMisplaced (Some line) (Some r) = IsTrue (opens line)
 
--- this line is bad
-abbrev pub Refuses : {C : Type 0} → Option Ran → C → List ℕ → Type 0
-Refuses s x line = IsMisplaced (line_of line) s
+-- the line of this text is bad
+abbrev pub Refuses : {C : Type 0} → Place (Option Ran) C → List ℕ → Type 0
+Refuses here text = IsMisplaced (line_of text) here.state
 
--- What a script of these settings did, by its result: it read these bytes and left these, wrote out, and took the chooser from x to x'.
--- It began before the registry is opened. The flags say whether reader and writer failed
-abbrev pub ScriptRuns : {C : Type 0} → Config → (C → ℕ → ℕ × C) → C → C → Option (List ℕ) → Bool → Bool → List ℕ → Result (Unit {0}) ScriptFault → List ℕ → Type 0
-ScriptRuns config asks x x' left failed_reader failed_writer read result out =
-    (end : Option Ran) × Outcome script_limits (Answers config asks) Refuses None x end x' left failed_reader failed_writer read result out
+-- What a script of these settings did, by its result: it took the chooser from x to x', this became of its streams, and it wrote out.
+-- It began before the registry is opened
+abbrev pub ScriptRuns : {C : Type 0} → Config → (C → ℕ → ℕ × C) → C → C → Streams → Result (Unit {0}) ScriptFault → List ℕ → Type 0
+ScriptRuns config asks x x' streams result out =
+    (end : Option Ran) × Outcome script_limits (Answers config asks) Refuses (place None x) (place end x') streams result out

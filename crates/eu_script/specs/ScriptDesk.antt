@@ -7,7 +7,7 @@ use Rattle.eu_book.specs.Peers.{state_of}
 use Rattle.eu_lines.specs.declared.faults.ScriptFault.{ScriptFault}
 use Rattle.eu_lines.specs.declared.faults.ScriptFault.TheVariants.{OutOfMemory, Write}
 use Rattle.eu_lines.specs.Lines.{script_limits}
-use Rattle.eu_lines.specs.Script.{Outcome}
+use Rattle.eu_lines.specs.Script.{Place, Streams, Outcome, place}
 use Rattle.eu_journal_text.specs.Text.{journal_text}
 use Rattle.eu_model.specs.declared.commands.Command.{Command}
 use Rattle.eu_model.specs.Server.{plain_server}
@@ -33,27 +33,30 @@ HoldsRun (Some a) None = ⊥
 abbrev pub Keeps : ScriptDesk → Option Ran → Type 0
 Keeps d s = HoldsRun d.book s
 
--- From each run whose account the desk keeps, the line is answered so, and the account of the run after is kept
-abbrev pub DeskAnswers : {C : Type 0} → (C → ℕ → ℕ × C) → ScriptDesk → C → List ℕ → List ℕ → ScriptDesk → C → Type 0
-DeskAnswers asks d x line out d' x' =
-    (d'.config ≡ d.config)
-    × ((s : Option Ran) → Keeps d s → (s' : Option Ran) × Answers d.config asks s x line out s' x' × Keeps d' s')
+-- From each run whose account the desk keeps, the line of this text is answered so, and the account of the run after is kept
+abbrev pub DeskAnswers : {C : Type 0} → (C → ℕ → ℕ × C) → Place ScriptDesk C → List ℕ → List ℕ → Place ScriptDesk C → Type 0
+DeskAnswers asks before text out after =
+    (after.state.config ≡ before.state.config)
+    × ((s : Option Ran) → Keeps before.state s
+    → (end : Option Ran) × Answers before.state.config asks (place s before.context) text out (place end after.context) × Keeps after.state end)
 
 -- each of those runs refuses the line
-abbrev pub DeskRefuses : {C : Type 0} → ScriptDesk → C → List ℕ → Type 0
-DeskRefuses d x line = (s : Option Ran) → Keeps d s → Refuses s x line
+abbrev pub DeskRefuses : {C : Type 0} → Place ScriptDesk C → List ℕ → Type 0
+DeskRefuses here text = (s : Option Ran) → Keeps here.state s → Refuses (place s here.context) text
 
--- before the registry is open, what a line says is answered so, and the account of the run that it begins is kept
+-- before the registry is open, a line is answered so, and the account of the run that it begins is kept
 abbrev pub ClosedAnswers : ScriptDesk → Line → List ℕ → ScriptDesk → Type 0
-ClosedAnswers d said out d' = (next : Ran) × SaysClosed d.config said out next × (d'.config ≡ d.config) × Keeps d' (Some next)
+ClosedAnswers d line out d' = (next : Ran) × SaysClosed d.config line out next × (d'.config ≡ d.config) × Keeps d' (Some next)
 
--- from each run of that account, an open book and a chooser answer what a line says so, and both are the others after
-abbrev pub OpenedAnswers : {C : Type 0} → (C → ℕ → ℕ × C) → Account → C → Line → List ℕ → Account → C → Type 0
-OpenedAnswers asks a x said out b x' = (r : Ran) → Holds a r → (next : Ran) × SaysOpened asks said r x out next x' × Holds b next
+-- from each run of the account before, an open book with a chooser answers a line so, and the account after is that of the run then
+abbrev pub OpenedAnswers : {C : Type 0} → (C → ℕ → ℕ × C) → Line → Place Account C → List ℕ → Place Account C → Type 0
+OpenedAnswers asks line before out after =
+    (r : Ran) → Holds before.state r → (next : Ran) × SaysOpened asks line (place r before.context) out (place next after.context) × Holds after.state next
 
--- from each run of that account, a book and a chooser do a command at a moment, and both are the others after
-abbrev pub Told : {C : Type 0} → (C → ℕ → ℕ × C) → Account → C → Command → ℕ → List ℕ → Account → C → Type 0
-Told asks a x c t out b x' = (r : Ran) → Holds a r → (next : Ran) × Does asks r x c t out next x' × Holds b next
+-- from each run of the account before, a book with a chooser does a command at a moment so, and the account after is that of the run then
+abbrev pub AccountDoes : {C : Type 0} → (C → ℕ → ℕ × C) → Place Account C → Command → ℕ → List ℕ → Place Account C → Type 0
+AccountDoes asks before c t out after =
+    (r : Ran) → Holds before.state r → (next : Ran) × Does asks (place r before.context) c t out (place next after.context) × Holds after.state next
 
 -- the auditor's answer on the journal of an account, and the number of its entries; where there is none, yes and 0
 abbrev pub Audits : Option Account → Bool → ℕ → Type 0
@@ -73,7 +76,7 @@ Writes text failed (Err OutOfMemory) out = out ≡ []
 Writes text failed (Err _) out = ⊥
 
 -- A script ended so: with a desk that keeps the account of its run, or by a fault. It wrote out
-module _ {C : Type 0} (config : Config) (asks : C → ℕ → ℕ × C) (x x' : C) (left : Option (List ℕ)) (failed_reader failed_writer : Bool) (read : List ℕ) where
+module _ {C : Type 0} (config : Config) (asks : C → ℕ → ℕ × C) (x x' : C) (streams : Streams) where
   abbrev pub Leaves : Result ScriptDesk ScriptFault → List ℕ → Type 0
-  Leaves (Ok d) out = (end : Option Ran) × Outcome script_limits (Answers config asks) Refuses None x end x' left failed_reader failed_writer read (Ok tt) out × Keeps d end
-  Leaves (Err fault) out = ScriptRuns config asks x x' left failed_reader failed_writer read (Err fault) out
+  Leaves (Ok d) out = (end : Option Ran) × Outcome script_limits (Answers config asks) Refuses (place None x) (place end x') streams (Ok tt) out × Keeps d end
+  Leaves (Err fault) out = ScriptRuns config asks x x' streams (Err fault) out

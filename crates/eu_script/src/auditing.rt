@@ -64,7 +64,8 @@ pub fn answer_audit<R: Source, W: Sink, C: Chooser>(
 ) -> Result<bool, ScriptFault>
     ensures runs { (read : List ℕ) × Consumes (R.remaining reader.old) (R.remaining reader.new) read
         × Wrote (W.contents writer.old) (W.contents writer.new)
-        (AuditRuns config C.asks chooser.old chooser.new (R.remaining reader.new) (R.failed reader.new) read (W.failed writer.new) result) }
+        (AuditRuns config C.asks chooser.old chooser.new
+        (record { read = read; left = R.remaining reader.new; reader_failed = R.failed reader.new; writer_failed = W.failed writer.new }) result) }
     ensures sound_reader { OnOk result (R.failed reader.new ≡ R.failed reader.old) }
     ensures sound_writer { OnOk result (W.failed writer.new ≡ W.failed writer.old) }
     ensures told_reader { IfErr result (λ fault. fault ≢ ScriptFault.Read → R.failed reader.new ≡ R.failed reader.old) }
@@ -90,9 +91,10 @@ pub fn run_audit<R: Read, W: Write, C: Chooser>(
     chooser: &mut C,
 ) -> Result<bool, ScriptFault>
     ensures { (read : List ℕ) × Consumes (R.remaining reader.old) (R.remaining reader.new) read
-        × (failed_reader : Bool) × (failed_writer : Bool)
+        × (reader_failed : Bool) × (writer_failed : Bool)
         × Wrote (W.contents writer.old) (W.contents writer.new)
-        (AuditRuns config C.asks chooser.old chooser.new (R.remaining reader.new) failed_reader read failed_writer result) }
+        (AuditRuns config C.asks chooser.old chooser.new
+        (record { read = read; left = R.remaining reader.new; reader_failed = reader_failed; writer_failed = writer_failed }) result) }
 {
     let mut reading = Reading::new(reader);
     let mut writing = Writing::new(writer);

@@ -1,12 +1,12 @@
 //! A book that answers the lines of a script.
 ghost use Rattle.std.specs.Prelude.{◌≡◌, ◌≢◌, ◌++◌, [], None, OnOk, IfOk, IfErr, IfSome, Err, IsTrue, not, string_bytes};
-ghost use Rattle.eu_lines.specs.Script.{Wrote};
+ghost use Rattle.eu_lines.specs.Script.{Wrote, place};
 ghost use Rattle.eu_script.specs.Texts.{answer_text, settled_text};
 ghost use Rattle.eu_model.specs.Answers.{Shows};
 ghost use Rattle.eu_model.specs.View.{counts, listing};
 ghost use Rattle.eu_page.specs.Page.{shown_page};
 ghost use Rattle.eu_script.specs.Script.{opens};
-ghost use Rattle.eu_script.specs.ScriptDesk.{Audits, DeskAnswers, DeskRefuses, ClosedAnswers, OpenedAnswers, Told, Writes, text_of};
+ghost use Rattle.eu_script.specs.ScriptDesk.{Audits, DeskAnswers, DeskRefuses, ClosedAnswers, OpenedAnswers, AccountDoes, Writes, text_of};
 
 use crate::printing::{print_counts, print_look, print_page, print_refusal, print_reply};
 use eu_audit::audit;
@@ -150,7 +150,7 @@ fn answer_opened<C: Chooser>(
     out: &mut String,
 ) -> Result<(), LineError>
     requires { string_bytes out.old ≡ [] }
-    ensures ok { OnOk result (OpenedAnswers C.asks book.old chooser.old line (string_bytes out.new) book.new chooser.new) }
+    ensures ok { OnOk result (OpenedAnswers C.asks line (place book.old chooser.old) (string_bytes out.new) (place book.new chooser.new)) }
     ensures bad { result ≡ Err LineError.Bad → IsTrue (opens line) }
     ensures kept { result ≡ Err LineError.Bad → chooser.new ≡ chooser.old }
 {
@@ -184,7 +184,7 @@ fn answer_command<C: Chooser>(
     out: &mut String,
 ) -> Result<(), LineError>
     requires { string_bytes out.old ≡ [] }
-    ensures ok { OnOk result (Told C.asks book.old chooser.old command moment (string_bytes out.new) book.new chooser.new) }
+    ensures ok { OnOk result (AccountDoes C.asks (place book.old chooser.old) command moment (string_bytes out.new) (place book.new chooser.new)) }
     ensures err { IfErr result (λ e. e ≡ LineError.OutOfMemory) }
 {
     let settled = settled_line(&command);

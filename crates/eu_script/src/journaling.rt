@@ -51,7 +51,8 @@ pub fn answer_script_with_journal<R: Source, W: Sink, J: Sink, C: Chooser>(
     ensures runs { (read : List ℕ) × Consumes (R.remaining reader.old) (R.remaining reader.new) read
         × Wrote (W.contents writer.old) (W.contents writer.new) (λ out.
         Wrote (J.contents journal.old) (J.contents journal.new)
-        (JournalRuns config C.asks chooser.old chooser.new (R.remaining reader.new) (R.failed reader.new) (W.failed writer.new) read out (J.failed journal.new) result)) }
+        (JournalRuns config C.asks chooser.old chooser.new
+        (record { read = read; left = R.remaining reader.new; reader_failed = R.failed reader.new; writer_failed = W.failed writer.new }) out (J.failed journal.new) result)) }
     ensures sound_reader { OnOk result (R.failed reader.new ≡ R.failed reader.old) }
     ensures sound_writer { OnOk result (W.failed writer.new ≡ W.failed writer.old) }
     ensures sound_journal { OnOk result (J.failed journal.new ≡ J.failed journal.old) }
@@ -79,10 +80,11 @@ pub fn run_script_with_journal<R: Read, W: Write, J: Write, C: Chooser>(
     chooser: &mut C,
 ) -> Result<(), ScriptFault>
     ensures { (read : List ℕ) × Consumes (R.remaining reader.old) (R.remaining reader.new) read
-        × (failed_reader : Bool) × (failed_writer : Bool) × (failed_journal : Bool)
+        × (reader_failed : Bool) × (writer_failed : Bool) × (journal_failed : Bool)
         × Wrote (W.contents writer.old) (W.contents writer.new) (λ out.
         Wrote (J.contents journal.old) (J.contents journal.new)
-        (JournalRuns config C.asks chooser.old chooser.new (R.remaining reader.new) failed_reader failed_writer read out failed_journal result)) }
+        (JournalRuns config C.asks chooser.old chooser.new
+        (record { read = read; left = R.remaining reader.new; reader_failed = reader_failed; writer_failed = writer_failed }) out journal_failed result)) }
 {
     let mut reading = Reading::new(reader);
     let mut writing = Writing::new(writer);

@@ -24,7 +24,8 @@ pub fn answer_whole<R: Source, W: Sink, C: Chooser>(
 ) -> Result<ScriptDesk, ScriptFault>
     ensures leaves { (read : List ℕ) × Consumes (R.remaining reader.old) (R.remaining reader.new) read
         × Wrote (W.contents writer.old) (W.contents writer.new)
-        (Leaves config C.asks chooser.old chooser.new (R.remaining reader.new) (R.failed reader.new) (W.failed writer.new) read result) }
+        (Leaves config C.asks chooser.old chooser.new
+        (record { read = read; left = R.remaining reader.new; reader_failed = R.failed reader.new; writer_failed = W.failed writer.new }) result) }
     ensures sound_reader { OnOk result (R.failed reader.new ≡ R.failed reader.old) }
     ensures sound_writer { OnOk result (W.failed writer.new ≡ W.failed writer.old) }
     ensures told_reader { IfErr result (λ fault. fault ≢ ScriptFault.Read → R.failed reader.new ≡ R.failed reader.old) }
@@ -101,7 +102,8 @@ pub fn answer_script<R: Source, W: Sink, C: Chooser>(
 ) -> Result<(), ScriptFault>
     ensures runs { (read : List ℕ) × Consumes (R.remaining reader.old) (R.remaining reader.new) read
         × Wrote (W.contents writer.old) (W.contents writer.new)
-        (ScriptRuns config C.asks chooser.old chooser.new (R.remaining reader.new) (R.failed reader.new) (W.failed writer.new) read result) }
+        (ScriptRuns config C.asks chooser.old chooser.new
+        (record { read = read; left = R.remaining reader.new; reader_failed = R.failed reader.new; writer_failed = W.failed writer.new }) result) }
     ensures sound_reader { OnOk result (R.failed reader.new ≡ R.failed reader.old) }
     ensures sound_writer { OnOk result (W.failed writer.new ≡ W.failed writer.old) }
     ensures told_reader { IfErr result (λ fault. fault ≢ ScriptFault.Read → R.failed reader.new ≡ R.failed reader.old) }
@@ -126,9 +128,10 @@ pub fn run_script<R: Read, W: Write, C: Chooser>(
     chooser: &mut C,
 ) -> Result<(), ScriptFault>
     ensures { (read : List ℕ) × Consumes (R.remaining reader.old) (R.remaining reader.new) read
-        × (failed_reader : Bool) × (failed_writer : Bool)
+        × (reader_failed : Bool) × (writer_failed : Bool)
         × Wrote (W.contents writer.old) (W.contents writer.new)
-        (ScriptRuns config C.asks chooser.old chooser.new (R.remaining reader.new) failed_reader failed_writer read result) }
+        (ScriptRuns config C.asks chooser.old chooser.new
+        (record { read = read; left = R.remaining reader.new; reader_failed = reader_failed; writer_failed = writer_failed }) result) }
 {
     let mut reading = Reading::new(reader);
     let mut writing = Writing::new(writer);

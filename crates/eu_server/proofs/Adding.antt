@@ -36,10 +36,10 @@ module _ {K S C H P : Type 0} (old : List (Worker K S C H P)) where
   three a b new chooser x y (Err f) z = tt
   three a b new chooser x y (Ok u) z =
       let (evictor, evicts, first) = x in
-      let (bucket, rolls, second) = y in
+      let (bucket, ends, second) = y in
       let (threshold, updates, third) = z in (
         evictor ∷ bucket ∷ threshold ∷ [],
-        (evictor, bucket, threshold, evicts, rolls, updates, refl),
+        (evictor, bucket, threshold, evicts, ends, updates, refl),
         third ∙ ap (λ ws. ws ++ threshold ∷ []) (second ∙ ap (λ ws. ws ++ bucket ∷ []) first ∙ append_assoc old (evictor ∷ []) (bucket ∷ []))
             ∙ append_assoc old (evictor ∷ bucket ∷ []) (threshold ∷ []),
       )

@@ -18,7 +18,7 @@ use Rattle.eu_model.specs.Server.{PlainServer}
 use Rattle.eu_model.specs.Answers as model
 use Rattle.eu_session.specs.Book.{BookTurns, BookSession, GrewBy, RunsFrom, entry_of, entries_of, AddsTurn, AddTurns}
 use Rattle.eu_model.specs.Chain.{Pairs}
-use Rattle.eu_session.specs.Session.{State, Turn, Step, ComesOf}
+use Rattle.eu_session.specs.Session.{Standing, Turn, Step, ComesOf}
 use Rattle.eu_session.proofs.KeepLemmas.{session_keeps}
 
 stays : (a b : Account) → b ≡ a → GrewBy a [] b
@@ -96,10 +96,10 @@ comes a b t (Answers wanted results) is =
     (entries_of a.totals.steps t.moment is.0.asks results.items, (is.0, is.1, refl), all a b t.moment is.0.asks results.items is.3)
 
 module _ {C : Type 0} (tells : C → ℕ → C → Type 0) where
-  abbrev Steps : State Account C → Turn → State Account C → Type 0
+  abbrev Steps : Standing Account C → Turn → Standing Account C → Type 0
   Steps = Step (λ s ask m r s'. BookAsks s ask m r s') tells
 
-  turn : (old new : State Account C) (t : Turn) → Steps old t new → Adds old.desk t t.outcome new.desk
+  turn : (old new : Standing Account C) (t : Turn) → Steps old t new → Adds old.desk t t.outcome new.desk
   turn old new t step = comes old.desk new.desk t t.outcome step.comes
 
   pub book_turns : BookTurns tells

@@ -9,7 +9,7 @@ use Rattle.eu_http.specs.declared.exchange.Outcome.TheVariants.{Refused, Forbidd
 use Rattle.eu_session.specs.declared.faults.SessionFault.{SessionFault}
 use Rattle.eu_session.specs.declared.faults.SessionFault.TheVariants.{Read, Write, OutOfMemory}
 use Rattle.eu_model.specs.Chain.{Chain, Pairs}
-use Rattle.eu_session.specs.Session.{Ends, Session, Streams, State, Turn, Step, ComesOf}
+use Rattle.eu_session.specs.Session.{Ends, Session, Streams, Standing, Turn, Step, ComesOf}
 
 module _ {D : Type 0} (asked : D → Ask → ℕ → Result Answer Fault → D → Type 0) (R : D → D → Type 0)
     (none : (a b : D) → b ≡ a → R a b)
@@ -27,14 +27,14 @@ module _ {D : Type 0} (asked : D → Ask → ℕ → Result Answer Fault → D �
   comes_keep a b request t (Answers wanted results) is = pairs_keep t a b is.0.asks results.items is.3
 
   module _ {C : Type 0} (tells : C → ℕ → C → Type 0) where
-    step_keeps : (old new : State D C) (t : Turn) → Step asked tells old t new → R old.desk new.desk
+    step_keeps : (old new : Standing D C) (t : Turn) → Step asked tells old t new → R old.desk new.desk
     step_keeps old new t step = comes_keep old.desk new.desk t.request t.moment t.outcome step.comes
 
-    turns_keep : (old new : State D C) (ts : List Turn) → Chain (Step asked tells) old ts new → R old.desk new.desk
+    turns_keep : (old new : Standing D C) (ts : List Turn) → Chain (Step asked tells) old ts new → R old.desk new.desk
     turns_keep old new [] e = none old.desk new.desk (ap (λ s. s.desk) e)
     turns_keep old new (t ∷ ts) (mid, here, rest) = on old.desk mid.desk new.desk (step_keeps old mid t here) (turns_keep mid new ts rest)
 
-    ends_keep : (n : ℕ) (old new : State D C) (s : Streams) (result : Result ℕ SessionFault)
+    ends_keep : (n : ℕ) (old new : Standing D C) (s : Streams) (result : Result ℕ SessionFault)
         → Ends asked tells n old new s result → R old.desk new.desk
     ends_keep n old new s (Ok m) (inl e) = none old.desk new.desk e.1.untouched.desk_is
     ends_keep n old new s (Ok m) (inr (is, inl closes)) = step_keeps old new closes.turn closes.step
@@ -46,7 +46,7 @@ module _ {D : Type 0} (asked : D → Ask → ℕ → Result Answer Fault → D �
     ends_keep n old new s (Err OutOfMemory) (keeps, inr (inl unasked)) = none old.desk new.desk unasked.desk_is
     ends_keep n old new s (Err OutOfMemory) (keeps, inr (inr (t, step))) = step_keeps old new t step
 
-    pub session_keeps : (old new : State D C) (s : Streams) (result : Result ℕ SessionFault)
+    pub session_keeps : (old new : Standing D C) (s : Streams) (result : Result ℕ SessionFault)
         → Session asked tells old new s result → R old.desk new.desk
     session_keeps old new s result session =
         on old.desk session.last.desk new.desk

@@ -13,7 +13,7 @@ use Rattle.eu_model.specs.declared.asks.Ask.{Ask}
 use Rattle.eu_http.specs.Response.{response}
 use Rattle.eu_session.specs.declared.faults.SessionFault.{SessionFault}
 use Rattle.eu_session.specs.declared.faults.SessionFault.TheVariants.{Read, Write, OutOfMemory}
-use Rattle.eu_session.specs.Session.{Turn, text_of, refusal, is_last, State, Breaks, Step, IsOpen, GoesOn, Unread, Ends, Session}
+use Rattle.eu_session.specs.Session.{Turn, text_of, refusal, is_last, Standing, Breaks, Step, IsOpen, GoesOn, FailsClean, Ends, Session}
 use Rattle.eu_session.specs.Steps.{IsInside, Comes, AnswersTo, RefusesBy}
 use Rattle.eu_model.proofs.ChainLemmas.{chain_push, all_push}
 use Rattle.eu_session.proofs.FaultLemmas.{fault_differs, by_number}
@@ -49,7 +49,7 @@ read_cut failed left left' ahead fault (inl (inr read)) e = (read.2, read.3)
 read_cut failed left left' ahead fault (inr breaks) e = absurd (no_bytes left fault breaks e)
 
 refused_unread : (failed : Bool) (left left' : Option (List ℕ)) (ahead : List ℕ) (fault : Fault) (held held' : Option (List ℕ)) (failed_writer : Bool) (e : SessionFault)
-    → Met failed left left' ahead fault → RefusesBy fault held held' failed_writer (Err e) → Unread left left' ahead (Err e)
+    → Met failed left left' ahead fault → RefusesBy fault held held' failed_writer (Err e) → FailsClean left left' ahead (Err e)
 refused_unread failed left left' ahead fault held held' failed_writer Read met x = read_cut failed left left' ahead fault met x.0
 refused_unread failed left left' ahead fault held held' failed_writer Write met x = tt
 refused_unread failed left left' ahead fault held held' failed_writer OutOfMemory met x = tt
@@ -59,7 +59,7 @@ texts_more ts t = sym (flat_map-append text_of ts (t ∷ []) ∙ ap (λ (x : Lis
 
 module _ {D C : Type 0} (asked : D → Ask → ℕ → Result Answer Fault → D → Type 0) (tells : C → ℕ → C → Type 0) where
   -- the state with these bytes to come
-  abbrev state_with : D → C → Option (List ℕ) → State D C
+  abbrev state_with : D → C → Option (List ℕ) → Standing D C
   state_with desk clock l = record { left = l; desk = desk; clock = clock }
 
   pub goes_start : (l : Option (List ℕ)) (desk : D) (clock : C) (held : Option (List ℕ))
@@ -77,7 +77,7 @@ module _ {D C : Type 0} (asked : D → Ask → ℕ → Result Answer Fault → D
       → Step asked tells (record { left = l; desk = desk; clock = clock }) (record { request = request; moment = c.moment; outcome = c.outcome; close = close }) (record { left = l'; desk = desk'; clock = clock' })
   step_of l l' request close desk desk' clock clock' c reads = record { reads = reads; told = c.told; comes = c.comes }
 
-  pub goes_more : (old : State D C) (l l' : Option (List ℕ)) (request : Request) (close : Bool) (desk desk' : D) (clock clock' : C) (before held held' : Option (List ℕ)) (n : ℕ)
+  pub goes_more : (old : Standing D C) (l l' : Option (List ℕ)) (request : Request) (close : Bool) (desk desk' : D) (clock clock' : C) (before held held' : Option (List ℕ)) (n : ℕ)
       → GoesOn asked tells n old (record { left = l; desk = desk; clock = clock }) before held → Between l l' (FindsNext (Some request))
       → (c : Comes asked tells request desk clock desk' clock') × Appends held held' (response c.outcome close) → close ≡ is_last n request → close ≡ false
       → GoesOn asked tells (n + 1) old (record { left = l'; desk = desk'; clock = clock' }) before held'
@@ -93,7 +93,7 @@ module _ {D C : Type 0} (asked : D → Ask → ℕ → Result Answer Fault → D
         written = subst (Appends before held') (texts_more g.turns t) (Appends-trans before held held' _ _ g.written x.1);
       }
 
-  pub session_ended : (old : State D C) (l rest : Option (List ℕ)) (buffer : List ℕ) (desk : D) (clock : C) (before held : Option (List ℕ)) (n : ℕ) (failed_reader failed_writer : Bool)
+  pub session_ended : (old : Standing D C) (l rest : Option (List ℕ)) (buffer : List ℕ) (desk : D) (clock : C) (before held : Option (List ℕ)) (n : ℕ) (failed_reader failed_writer : Bool)
       → GoesOn asked tells n old (record { left = l; desk = desk; clock = clock }) before held → Between l (pending buffer rest) (FindsNext None)
       → Session asked tells old (record { left = rest; desk = desk; clock = clock }) (record { before = before; after = held; reader_failed = failed_reader; writer_failed = failed_writer }) (Ok n)
   session_ended old l rest buffer desk clock before held n failed_reader failed_writer g ends = record {
@@ -106,7 +106,7 @@ module _ {D C : Type 0} (asked : D → Ask → ℕ → Result Answer Fault → D
     ends = inl (refl, record { ends = ends; untouched = record { desk_is = refl; clock_is = refl }; written = Keeps-refl held });
   }
 
-  pub session_closed : (old : State D C) (l rest : Option (List ℕ)) (buffer : List ℕ) (request : Request) (close : Bool) (desk desk' : D) (clock clock' : C) (before held held' : Option (List ℕ)) (n : ℕ) (failed_reader failed_writer : Bool)
+  pub session_closed : (old : Standing D C) (l rest : Option (List ℕ)) (buffer : List ℕ) (request : Request) (close : Bool) (desk desk' : D) (clock clock' : C) (before held held' : Option (List ℕ)) (n : ℕ) (failed_reader failed_writer : Bool)
       → GoesOn asked tells n old (record { left = l; desk = desk; clock = clock }) before held → Between l (pending buffer rest) (FindsNext (Some request))
       → (c : Comes asked tells request desk clock desk' clock') × Appends held held' (response c.outcome close) → close ≡ is_last n request → close ≡ true
       → Session asked tells old (record { left = rest; desk = desk'; clock = clock' }) (record { before = before; after = held'; reader_failed = failed_reader; writer_failed = failed_writer }) (Ok (n + 1))
@@ -130,7 +130,7 @@ module _ {D C : Type 0} (asked : D → Ask → ℕ → Result Answer Fault → D
         );
       }
 
-  pub session_refused : (old : State D C) (l rest : Option (List ℕ)) (buffer : List ℕ) (fault : Fault) (desk : D) (clock : C) (before held held' : Option (List ℕ)) (n : ℕ) (failed_reader failed_writer : Bool)
+  pub session_refused : (old : Standing D C) (l rest : Option (List ℕ)) (buffer : List ℕ) (fault : Fault) (desk : D) (clock : C) (before held held' : Option (List ℕ)) (n : ℕ) (failed_reader failed_writer : Bool)
       → GoesOn asked tells n old (record { left = l; desk = desk; clock = clock }) before held → Met failed_reader l (pending buffer rest) buffer fault → IsInside fault × Appends held held' (refusal fault)
       → Session asked tells old (record { left = rest; desk = desk; clock = clock }) (record { before = before; after = held'; reader_failed = failed_reader; writer_failed = failed_writer }) (Ok (n + 1))
   session_refused old l rest buffer fault desk clock before held held' n failed_reader failed_writer g met x = record {
@@ -152,7 +152,7 @@ module _ {D C : Type 0} (asked : D → Ask → ℕ → Result Answer Fault → D
   }
 
   answered_unread : (l l' : Option (List ℕ)) (ahead : List ℕ) (request : Request) (close : Bool) (desk desk' : D) (clock clock' : C) (held held' : Option (List ℕ)) (failed_writer : Bool) (e : SessionFault)
-      → AnswersTo asked tells request close desk clock held desk' clock' held' failed_writer (Err e) → Unread l l' ahead (Err e)
+      → AnswersTo asked tells request close desk clock held desk' clock' held' failed_writer (Err e) → FailsClean l l' ahead (Err e)
   answered_unread l l' ahead request close desk desk' clock clock' held held' failed_writer Read x = absurd x
   answered_unread l l' ahead request close desk desk' clock clock' held held' failed_writer Write x = tt
   answered_unread l l' ahead request close desk desk' clock clock' held held' failed_writer OutOfMemory x = tt
@@ -176,7 +176,7 @@ module _ {D C : Type 0} (asked : D → Ask → ℕ → Result Answer Fault → D
   ends_answering l l' request close desk desk' clock clock' held held' n failed_reader failed_writer OutOfMemory reads (keeps, inr x) is =
       (keeps, inr (inr (record { request = request; moment = x.moment; outcome = x.outcome; close = close }, step_of l l' request close desk desk' clock clock' x reads)))
 
-  pub session_lost : (old : State D C) (l rest : Option (List ℕ)) (buffer : List ℕ) (request : Request) (close : Bool) (desk desk' : D) (clock clock' : C) (before held held' : Option (List ℕ)) (n : ℕ) (failed_reader failed_writer : Bool) (e : SessionFault)
+  pub session_lost : (old : Standing D C) (l rest : Option (List ℕ)) (buffer : List ℕ) (request : Request) (close : Bool) (desk desk' : D) (clock clock' : C) (before held held' : Option (List ℕ)) (n : ℕ) (failed_reader failed_writer : Bool) (e : SessionFault)
       → GoesOn asked tells n old (record { left = l; desk = desk; clock = clock }) before held → Between l (pending buffer rest) (FindsNext (Some request))
       → AnswersTo asked tells request close desk clock held desk' clock' held' failed_writer (Err e) → close ≡ is_last n request
       → Session asked tells old (record { left = rest; desk = desk'; clock = clock' }) (record { before = before; after = held'; reader_failed = failed_reader; writer_failed = failed_writer }) (Err e)
@@ -206,7 +206,7 @@ module _ {D C : Type 0} (asked : D → Ask → ℕ → Result Answer Fault → D
   )
   ends_refusing l l' ahead fault desk clock held held' n failed_reader failed_writer OutOfMemory met x = (x, inl (record { desk_is = refl; clock_is = refl }))
 
-  pub session_unrefused : (old : State D C) (l rest : Option (List ℕ)) (buffer : List ℕ) (fault : Fault) (desk : D) (clock : C) (before held held' : Option (List ℕ)) (n : ℕ) (failed_reader failed_writer : Bool) (e : SessionFault)
+  pub session_unrefused : (old : Standing D C) (l rest : Option (List ℕ)) (buffer : List ℕ) (fault : Fault) (desk : D) (clock : C) (before held held' : Option (List ℕ)) (n : ℕ) (failed_reader failed_writer : Bool) (e : SessionFault)
       → GoesOn asked tells n old (record { left = l; desk = desk; clock = clock }) before held → Met failed_reader l (pending buffer rest) buffer fault → RefusesBy fault held held' failed_writer (Err e)
       → Session asked tells old (record { left = rest; desk = desk; clock = clock }) (record { before = before; after = held'; reader_failed = failed_reader; writer_failed = failed_writer }) (Err e)
   session_unrefused old l rest buffer fault desk clock before held held' n failed_reader failed_writer e g met x = record {

@@ -14,7 +14,7 @@ use Rattle.eu_model.specs.declared.commands.Entry.{Entry}
 use Rattle.eu_model.specs.Server.{Server, PlainServer, Run, plain_server}
 use Rattle.eu_session.specs.declared.faults.SessionFault.{SessionFault}
 use Rattle.eu_model.specs.Chain.{Chain}
-use Rattle.eu_session.specs.Session.{Session, Streams, State, Turn, Step}
+use Rattle.eu_session.specs.Session.{Session, Streams, Standing, Turn, Step}
 
 -- what an ask at a moment adds to the journal, by its answer: the entry of a command that was answered, with the pass 0 and the number n
 abbrev pub entry_of : ℕ → ℕ → Ask → Result Answer Fault → List Entry
@@ -57,12 +57,12 @@ module _ {C : Type 0} (tells : C → ℕ → C → Type 0) where
   -- by turns with a book, its journal goes on by the commands that were answered in them, in order
   abbrev pub BookTurns : Type 0
   BookTurns =
-      (old new : State Account C) (turns : List Turn) → Chain (Step (λ a ask t r b. BookAsks a ask t r b) tells) old turns new
+      (old new : Standing Account C) (turns : List Turn) → Chain (Step (λ a ask t r b. BookAsks a ask t r b) tells) old turns new
       → (entries : List Entry) × AddTurns old.desk.totals.steps turns entries × GrewBy old.desk entries new.desk
 
   -- by a session with a book its journal goes on, however it ends
   abbrev pub BookSession : Type 0
   BookSession =
-      (old new : State Account C) (s : Streams) (result : Result ℕ SessionFault)
+      (old new : Standing Account C) (s : Streams) (result : Result ℕ SessionFault)
       → Session (λ a ask t r b. BookAsks a ask t r b) tells old new s result
       → (entries : List Entry) × GrewBy old.desk entries new.desk

@@ -37,13 +37,13 @@ abbrev pub is_last : ℕ → Request → Bool
 is_last k request = request.closes || (k == 99)
 
 -- what a session changes between its turns: the bytes that are to come, where they are known, the desk and the clock
-pub record State (D C : Type 0) : Type 0 where
+pub record Standing (D C : Type 0) : Type 0 where
   pub left : Option (List ℕ)
   pub desk : D
   pub clock : C
 
 -- neither the desk nor the clock was asked anything
-pub record Untouched (D C : Type 0) (old new : State D C) : Type 0 where
+pub record Untouched (D C : Type 0) (old new : Standing D C) : Type 0 where
   pub desk_is : new.desk ≡ old.desk
   pub clock_is : new.clock ≡ old.clock
 
@@ -65,13 +65,13 @@ module _ {D : Type 0} (asked : D → Ask → ℕ → Result Answer Fault → D �
 -- `tells c moment c'`: a clock in the state c tells the moment and is in the state c' then
 module _ {D C : Type 0} (asked : D → Ask → ℕ → Result Answer Fault → D → Type 0) (tells : C → ℕ → C → Type 0) where
   -- One turn: its request is the next of the bytes to come, the clock tells its moment, once, and this comes of it.
-  pub record Step (old : State D C) (t : Turn) (new : State D C) : Type 0 where
+  pub record Step (old : Standing D C) (t : Turn) (new : Standing D C) : Type 0 where
     pub reads : Between old.left new.left (FindsNext (Some t.request))
     pub told : tells old.clock t.moment new.clock
     pub comes : ComesOf asked old.desk t.request t.moment t.outcome new.desk
 
   -- A turn that memory ended before the desk was asked: the next request was read, and the clock asked once.
-  pub record Unasked (old new : State D C) : Type 0 where
+  pub record Unasked (old new : Standing D C) : Type 0 where
     pub request : Request
     pub moment : ℕ
     pub reads : Between old.left new.left (FindsNext (Some request))
@@ -86,11 +86,11 @@ pub record IsOpen (t : Turn) : Type 0 where
   pub response : t.close ≡ false
 
 -- Where a read failed no byte was lost, and those that were read ahead begin with no whole request: each that came whole before was answered.
-abbrev pub Unread : Option (List ℕ) → Option (List ℕ) → List ℕ → Result ℕ SessionFault → Type 0
-Unread old new ahead (Ok m) = ⊤
-Unread old new ahead (Err Read) = Keeps old new × IsCut ahead
-Unread old new ahead (Err Write) = ⊤
-Unread old new ahead (Err OutOfMemory) = ⊤
+abbrev pub FailsClean : Option (List ℕ) → Option (List ℕ) → List ℕ → Result ℕ SessionFault → Type 0
+FailsClean old new ahead (Ok m) = ⊤
+FailsClean old new ahead (Err Read) = Keeps old new × IsCut ahead
+FailsClean old new ahead (Err Write) = ⊤
+FailsClean old new ahead (Err OutOfMemory) = ⊤
 
 -- what the writer held before and holds after, and whether the reader and the writer have failed
 pub record Streams : Type 0 where
@@ -103,7 +103,7 @@ pub record Streams : Type 0 where
 module _ {D C : Type 0} (asked : D → Ask → ℕ → Result Answer Fault → D → Type 0) (tells : C → ℕ → C → Type 0) where
   -- From old to new n requests were answered, one after another, and the session goes on: they are fewer than 100, and none
   -- closes it. What was written is their responses, in order.
-  pub record GoesOn (n : ℕ) (old new : State D C) (before after : Option (List ℕ)) : Type 0 where
+  pub record GoesOn (n : ℕ) (old new : Standing D C) (before after : Option (List ℕ)) : Type 0 where
     pub turns : List Turn
     pub chain : Chain (Step asked tells) old turns new
     pub count : length turns ≡ n
@@ -112,13 +112,13 @@ module _ {D C : Type 0} (asked : D → Ask → ℕ → Result Answer Fault → D
     pub written : Appends before after (flat_map text_of turns)
 
   -- The bytes end before a request, and nothing was asked or written.
-  pub record EndsBytes (old new : State D C) (before after : Option (List ℕ)) : Type 0 where
+  pub record EndsBytes (old new : Standing D C) (before after : Option (List ℕ)) : Type 0 where
     pub ends : Between old.left new.left (FindsNext None)
     pub untouched : Untouched D C old new
     pub written : Keeps before after
 
   -- The request at the place k is the last, and its response says so.
-  pub record Closes (k : ℕ) (old new : State D C) (before after : Option (List ℕ)) : Type 0 where
+  pub record Closes (k : ℕ) (old new : Standing D C) (before after : Option (List ℕ)) : Type 0 where
     pub turn : Turn
     pub step : Step asked tells old turn new
     pub last : is_last k turn.request ≡ true
@@ -126,14 +126,14 @@ module _ {D C : Type 0} (asked : D → Ask → ℕ → Result Answer Fault → D
     pub written : Appends before after (text_of turn)
 
   -- The bytes begin with no request. The fault was written, and nothing was asked.
-  pub record Refuses (old new : State D C) (before after : Option (List ℕ)) : Type 0 where
+  pub record AnswersFault (old new : Standing D C) (before after : Option (List ℕ)) : Type 0 where
     pub fault : Fault
     pub breaks : Breaks old.left fault
     pub untouched : Untouched D C old new
     pub written : Appends before after (refusal fault)
 
   -- A request was answered, but only a front of its response was written; all of it may have been, where the flush failed.
-  pub record LosesResponse (k : ℕ) (old new : State D C) (before after : Option (List ℕ)) : Type 0 where
+  pub record LosesResponse (k : ℕ) (old new : Standing D C) (before after : Option (List ℕ)) : Type 0 where
     pub turn : Turn
     pub step : Step asked tells old turn new
     pub close : turn.close ≡ is_last k turn.request
@@ -141,7 +141,7 @@ module _ {D C : Type 0} (asked : D → Ask → ℕ → Result Answer Fault → D
     pub written : Appends before after (take len (text_of turn))
 
   -- The bytes begin with no request, but only a front of the fault's text was written. Nothing was asked.
-  pub record LosesRefusal (old new : State D C) (before after : Option (List ℕ)) : Type 0 where
+  pub record LosesRefusal (old new : Standing D C) (before after : Option (List ℕ)) : Type 0 where
     pub fault : Fault
     pub breaks : Breaks old.left fault
     pub untouched : Untouched D C old new
@@ -149,11 +149,11 @@ module _ {D C : Type 0} (asked : D → Ask → ℕ → Result Answer Fault → D
     pub written : Appends before after (take len (refusal fault))
 
   -- How a session that goes on after n requests ends, by its result.
-  abbrev pub Ends : ℕ → State D C → State D C → Streams → Result ℕ SessionFault → Type 0
+  abbrev pub Ends : ℕ → Standing D C → Standing D C → Streams → Result ℕ SessionFault → Type 0
   -- The bytes end; or one request more closes the session; or there is none by some fault, which counts as one.
   Ends n old new s (Ok m) =
       ((m ≡ n) × EndsBytes old new s.before s.after)
-      ⊎ ((m ≡ n + 1) × (Closes n old new s.before s.after ⊎ Refuses old new s.before s.after))
+      ⊎ ((m ≡ n + 1) × (Closes n old new s.before s.after ⊎ AnswersFault old new s.before s.after))
   -- The reader failed before the next request was whole: nothing was asked or written.
   Ends n old new s (Err Read) = (s.reader_failed ≡ true) × Untouched D C old new × Keeps s.before s.after
   -- The writer failed.
@@ -164,11 +164,11 @@ module _ {D C : Type 0} (asked : D → Ask → ℕ → Result Answer Fault → D
       Keeps s.before s.after × (Untouched D C old new ⊎ (Unasked asked tells old new ⊎ ((t : Turn) × Step asked tells old t new)))
 
   -- A session, by its result: requests are answered, and it ends. `ahead` was read of the bytes, and isn't used.
-  pub record Session (old new : State D C) (s : Streams) (result : Result ℕ SessionFault) : Type 0 where
+  pub record Session (old new : Standing D C) (s : Streams) (result : Result ℕ SessionFault) : Type 0 where
     pub n : ℕ
-    pub last : State D C
+    pub last : Standing D C
     pub held : Option (List ℕ)
     pub goes_on : GoesOn n old last s.before held
     pub ahead : List ℕ
-    pub unread : Unread last.left (pending ahead new.left) ahead result
+    pub unread : FailsClean last.left (pending ahead new.left) ahead result
     pub ends : Ends n last (record { left = pending ahead new.left; desk = new.desk; clock = new.clock }) (record s { before = held }) result

@@ -14,27 +14,27 @@ use Rattle.eu_model.specs.declared.views.Query.{Query}
 use Rattle.eu_model.specs.declared.views.View.{View}
 use Rattle.eu_model.specs.Answers.{Shows}
 use Rattle.eu_model.specs.View.{view}
-use Rattle.eu_shared.specs.Passes.{Caller, IsAnswer, IsBegun, IsRefused, IsShown, answered, shown}
+use Rattle.eu_shared.specs.Passes.{PassAccount, IsAnsweredBySome, IsBegunBySome, IsRefusedBySome, IsShownBySome, after_answer, after_view}
 
 module _ (c : Command) (t : ℕ) where
-  pub is_answer : {S : Type 0} (asks : Asks S) (x x' : S) (p p' : Caller) (a b : Account) (y : Receipt) → IsLawful a → IsLawful b → Applies asks a x (entry p.number y.number c t y.reply) b x'
-      → p' ≡ answered p (logged c t y.reply y.number) b.first → IsAnswer asks x p (entry p.number y.number c t y.reply) x' p'
-  is_answer asks x x' p p' a b y before after is told = (a, b, before, after, is, ap (λ (k : Caller). k.seen) told)
+  pub is_answer : {S : Type 0} (asks : Asks S) (x x' : S) (p p' : PassAccount) (a b : Account) (y : Receipt) → IsLawful a → IsLawful b → Applies asks a x (entry p.number y.number c t y.reply) b x'
+      → p' ≡ after_answer p (logged c t y.reply y.number) b.first → IsAnsweredBySome asks x p (entry p.number y.number c t y.reply) x' p'
+  is_answer asks x x' p p' a b y before after is told = (a, b, before, after, is, ap (λ (k : PassAccount). k.journal_first) told)
 
-  pub is_refused : (a : Account) (f : Fault) → IsLawful a → Refuses a c t f → IsRefused c t f
+  pub is_refused : (a : Account) (f : Fault) → IsLawful a → Refuses a c t f → IsRefusedBySome c t f
   is_refused a f before is = (a, before, is)
 
   any_config : Config
   any_config = record { preservation = true; percent = 85; interval = 30; evict_ms = 60000 }
 
   -- memory may be wanted at any time
-  pub memory_is_wanted : IsRefused c t OutOfMemory
+  pub memory_is_wanted : IsRefusedBySome c t OutOfMemory
   memory_is_wanted = (opened any_config 0 0, (opened_kept any_config 0 0 (omega arith) (omega arith)).lawful, λ s at. inl refl)
 
-pub is_shown : (q : Query) (t : ℕ) (p p' : Caller) (a : Account) (r : Result View AllocError) → IsLawful a → IfOk r (λ v. Shows a.state.registry (λ s. view s q t) v)
-    → OnOk r (p' ≡ shown p a.first) → IfOk r (λ v. IsShown p q t v p')
-is_shown q t p p' a (Ok v) lawful is told = (a, lawful, is, ap (λ (k : Caller). k.seen) told)
+pub is_shown : (q : Query) (t : ℕ) (p p' : PassAccount) (a : Account) (r : Result View AllocError) → IsLawful a → IfOk r (λ v. Shows a.state.registry (λ s. view s q t) v)
+    → OnOk r (p' ≡ after_view p a.first) → IfOk r (λ v. IsShownBySome p q t v p')
+is_shown q t p p' a (Ok v) lawful is told = (a, lawful, is, ap (λ (k : PassAccount). k.journal_first) told)
 is_shown q t p p' a (Err e) lawful is told = is
 
-pub is_begun : (p p' : Caller) (a : Account) → IsLawful a → p' ≡ shown p a.totals.steps → IsBegun p p'
-is_begun p p' a lawful told = (a, lawful, ap (λ (k : Caller). k.seen) told)
+pub is_begun : (p p' : PassAccount) (a : Account) → IsLawful a → p' ≡ after_view p a.totals.steps → IsBegunBySome p p'
+is_begun p p' a lawful told = (a, lawful, ap (λ (k : PassAccount). k.journal_first) told)

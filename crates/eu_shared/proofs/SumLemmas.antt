@@ -5,9 +5,9 @@ use Rattle.std.proofs.lemmas.Bool.Decides.{nat_tests}
 use Rattle.eu_model.specs.declared.tallies.Tally.{Tally}
 use Rattle.eu_book.proofs.HistoryLemmas.{nothing_plus, plus_assoc, plus_nothing}
 use Rattle.eu_model.specs.Delta.{plus}
-use Rattle.eu_shared.specs.Passes.{Caller, done_for}
+use Rattle.eu_shared.specs.Passes.{PassAccount, done_for}
 
-pub done_for_push : (ps : List Caller) (p : Caller) → done_for (ps ++ p ∷ []) ≡ plus (done_for ps) p.tally
+pub done_for_push : (ps : List PassAccount) (p : PassAccount) → done_for (ps ++ p ∷ []) ≡ plus (done_for ps) p.tally
 done_for_push [] p = plus_nothing p.tally ∙ sym (nothing_plus p.tally)
 done_for_push (x ∷ ps) p = ap (plus x.tally) (done_for_push ps p) ∙ sym (plus_assoc x.tally (done_for ps) p.tally)
 

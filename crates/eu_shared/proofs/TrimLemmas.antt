@@ -43,10 +43,10 @@ from_later first later less (l ∷ ls) =
     ] refl
 
 -- the same, by its parts
-pub pushed : (seen later : ℕ) (ls ms : List Logged) (l : Logged) → later ≡ seen → from_first seen ls ≡ ls → later ≤ l.number → ms ≡ ls ++ (l ∷ []) → from_first later ms ≡ ms
-pushed seen later ls ms l same fresh fits is =
+pub pushed : (journal_first later : ℕ) (ls ms : List Logged) (l : Logged) → later ≡ journal_first → from_first journal_first ls ≡ ls → later ≤ l.number → ms ≡ ls ++ (l ∷ []) → from_first later ms ≡ ms
+pushed journal_first later ls ms l same fresh fits is =
     ap (from_first later) is ∙ from_first_push later ls l (ap (λ n. from_first n ls) same ∙ fresh) fits ∙ sym is
 
 -- a log that was trimmed is trimmed
-pub trimmed_is : (seen : ℕ) (ls ms : List Logged) → ms ≡ from_first seen ls → from_first seen ms ≡ ms
-trimmed_is seen ls ms is = ap (from_first seen) is ∙ from_later seen seen (omega (arith)) ls ∙ sym is
+pub trimmed_is : (journal_first : ℕ) (ls ms : List Logged) → ms ≡ from_first journal_first ls → from_first journal_first ms ≡ ms
+trimmed_is journal_first ls ms is = ap (from_first journal_first) is ∙ from_later journal_first journal_first (omega (arith)) ls ∙ sym is

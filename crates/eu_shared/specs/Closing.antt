@@ -10,7 +10,7 @@ use Rattle.eu_model.specs.declared.tallies.Tally.{Tally}
 use Rattle.eu_model.specs.State.{server_of_state}
 use Rattle.eu_settle.specs.declared.closed.Closed.{Closed}
 use Rattle.eu_settle.specs.declared.closed.PassLog.{PassLog}
-use Rattle.eu_shared.specs.Passes.{Caller, Holding, done_for}
+use Rattle.eu_shared.specs.Passes.{PassAccount, Holding, done_for}
 
 -- what a closed book says of the book
 abbrev pub account_of : Closed → Account
@@ -23,7 +23,7 @@ account_of c = record {
 }
 
 -- a number with its log
-abbrev pub log_of : Caller → ℕ × List Logged
+abbrev pub log_of : PassAccount → ℕ × List Logged
 log_of p = (p.number, p.log)
 
 abbrev pub logged_by : PassLog → ℕ × List Logged
@@ -31,7 +31,7 @@ logged_by l = (l.pass, l.log.items)
 
 -- the closed book is the one that was held, with base and end as plain data, its totals are what was done for the passes, and its logs are those of the passes, by
 -- their numbers
-pub record IsClosed (h : Holding) (ps : List Caller) (c : Closed) : Type 0 where
+pub record IsClosed (h : Holding) (ps : List PassAccount) (c : Closed) : Type 0 where
   pub whole : account_of c ≡ h.book
   pub base : c.base ≡ state_of h.book.base
   pub end : c.end ≡ state_of h.book.state
@@ -46,10 +46,10 @@ IsReason OutOfMemory sums totals = sums ≡ totals
 IsReason _ sums totals = ⊥
 
 -- a book that isn't closed is handed back with the passes, as they were
-pub record IsUnclosed (h : Holding) (ps : List Caller) (fault : Fault) (sums totals : Tally) (made : ℕ) (passes : List Caller) (held : Holding) : Type 0 where
+pub record IsUnclosed (h : Holding) (ps : List PassAccount) (fault : Fault) (sums totals : Tally) (pass_count : ℕ) (passes : List PassAccount) (held : Holding) : Type 0 where
   pub reason : IsReason fault sums totals
   pub sums_are : sums ≡ done_for ps
   pub totals_are : totals ≡ h.book.totals
-  pub made_is : made ≡ h.made
+  pub made_is : pass_count ≡ h.pass_count
   pub passes_are : passes ≡ ps
   pub held_is : held ≡ h

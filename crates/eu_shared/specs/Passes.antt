@@ -12,61 +12,61 @@ use Rattle.eu_model.specs.declared.views.Query.{Query}
 use Rattle.eu_model.specs.declared.views.View.{View}
 use Rattle.eu_model.specs.Answers.{Shows}
 use Rattle.eu_model.specs.Delta.{delta, nothing, plus}
-use Rattle.eu_model.specs.View as seen
+use Rattle.eu_model.specs.View as model_view
 use Rattle.eu_settle.specs.Settled.{from_first}
 
 -- a pass: its number, what it was answered, what that did, and the greatest `first` that it has seen
-pub record Caller : Type 0 where
+pub record PassAccount : Type 0 where
   pub number : ℕ
   pub log : List Logged
   pub tally : Tally
-  pub seen : ℕ
+  pub journal_first : ℕ
 
 -- the shared book, and how many passes were made
 pub record Holding : Type 0 where
   pub book : Account
-  pub made : ℕ
+  pub pass_count : ℕ
 
 -- as it is opened, for so many peers
 abbrev pub opening : Config → ℕ → ℕ → Holding
-opening config expected peers = record { book = opened config expected peers; made = 0 }
+opening config expected peers = record { book = opened config expected peers; pass_count = 0 }
 
 -- a pass that was just made
-abbrev pub fresh : ℕ → Caller
-fresh n = record { number = n; log = []; tally = nothing; seen = 0 }
+abbrev pub new_pass : ℕ → PassAccount
+new_pass n = record { number = n; log = []; tally = nothing; journal_first = 0 }
 
 -- a pass that was answered, by a journal that begins at `first`
-abbrev pub answered : Caller → Logged → ℕ → Caller
-answered p l first = record { number = p.number; log = p.log ++ l ∷ []; tally = plus p.tally (delta l.command l.reply); seen = max p.seen first }
+abbrev pub after_answer : PassAccount → Logged → ℕ → PassAccount
+after_answer p l first = record { number = p.number; log = p.log ++ l ∷ []; tally = plus p.tally (delta l.command l.reply); journal_first = max p.journal_first first }
 
 -- a pass that was shown a state, of a journal that begins at `first`
-abbrev pub shown : Caller → ℕ → Caller
-shown p first = record { number = p.number; log = p.log; tally = p.tally; seen = max p.seen first }
+abbrev pub after_view : PassAccount → ℕ → PassAccount
+after_view p first = record { number = p.number; log = p.log; tally = p.tally; journal_first = max p.journal_first first }
 
 -- a pass whose log has no more what lies before the greatest `first` that it has seen
-abbrev pub trimmed : Caller → Caller
-trimmed p = record { number = p.number; log = from_first p.seen p.log; tally = p.tally; seen = p.seen }
+abbrev pub trimmed : PassAccount → PassAccount
+trimmed p = record { number = p.number; log = from_first p.journal_first p.log; tally = p.tally; journal_first = p.journal_first }
 
 -- what was done for all these passes
-abbrev pub done_for : List Caller → Tally
+abbrev pub done_for : List PassAccount → Tally
 done_for [] = nothing
 done_for (p ∷ ps) = plus p.tally (done_for ps)
 
 -- ---- what is known of an answer, where the book behind the lock isn't
 
 -- some lawful book answers the pass with this entry, and is lawful after; the pass has then seen where its journal begins
-abbrev pub IsAnswer : {S : Type 0} → Asks S → S → Caller → Entry → S → Caller → Type 0
-IsAnswer asks x p e x' p' =
-    (before : Account) × (after : Account) × IsLawful before × IsLawful after × Applies asks before x e after x' × (p'.seen ≡ max p.seen after.first)
+abbrev pub IsAnsweredBySome : {S : Type 0} → Asks S → S → PassAccount → Entry → S → PassAccount → Type 0
+IsAnsweredBySome asks x p e x' p' =
+    (before : Account) × (after : Account) × IsLawful before × IsLawful after × Applies asks before x e after x' × (p'.journal_first ≡ max p.journal_first after.first)
 
 -- some lawful book refuses it so
-abbrev pub IsRefused : Command → ℕ → Fault → Type 0
-IsRefused c t f = (a : Account) × IsLawful a × Refuses a c t f
+abbrev pub IsRefusedBySome : Command → ℕ → Fault → Type 0
+IsRefusedBySome c t f = (a : Account) × IsLawful a × Refuses a c t f
 
 -- some lawful book shows it to the pass, which has then seen where its journal begins
-abbrev pub IsShown : Caller → Query → ℕ → View → Caller → Type 0
-IsShown p q t v p' = (a : Account) × IsLawful a × Shows a.state.registry (λ s. seen.view s q t) v × (p'.seen ≡ max p.seen a.first)
+abbrev pub IsShownBySome : PassAccount → Query → ℕ → View → PassAccount → Type 0
+IsShownBySome p q t v p' = (a : Account) × IsLawful a × Shows a.state.registry (λ s. model_view.view s q t) v × (p'.journal_first ≡ max p.journal_first a.first)
 
 -- some lawful book's journal begins anew for the pass, which has then seen where: after all steps
-abbrev pub IsBegun : Caller → Caller → Type 0
-IsBegun p p' = (a : Account) × IsLawful a × (p'.seen ≡ max p.seen a.totals.steps)
+abbrev pub IsBegunBySome : PassAccount → PassAccount → Type 0
+IsBegunBySome p p' = (a : Account) × IsLawful a × (p'.journal_first ≡ max p.journal_first a.totals.steps)

@@ -27,7 +27,7 @@ pub struct Unclosed<K: Label> {
     /// What was done in all.
     pub totals: Tally,
     /// How many passes were made.
-    pub made: u64,
+    pub pass_count: u64,
     /// The passes, as they were.
     pub passes: Vec<Pass<K>>,
     /// The book, as it was.
@@ -40,10 +40,10 @@ impl<K: Label> Held<K> {
     /// `PassMissing`, which takes no memory, exactly where what was done for these passes isn't what was done in all; never where as
     /// many passes are handed in as were made. Else `OutOfMemory`. Either hands back the book and the passes, as they were.
     pub fn close(self, alloc: Global, passes: Vec<Pass<K>>) -> Result<Closed, Unclosed<K>>
-        ensures whole { vec_len passes ≡ self.made → done_for passes.items ≡ self.book.totals }
+        ensures whole { vec_len passes ≡ self.pass_count → done_for passes.items ≡ self.book.totals }
         ensures closed { IfOk result (IsClosed self passes.items) }
         ensures lawful { IfOk result (λ c. IsLawful (account_of c)) }
-        ensures unclosed { IfErr result (λ u. IsUnclosed self passes.items u.fault u.sums u.totals u.made u.passes.items u.held) }
+        ensures unclosed { IfErr result (λ u. IsUnclosed self passes.items u.fault u.sums u.totals u.pass_count u.passes.items u.held) }
     {
         let mut held = self;
         let mut passes = passes;
@@ -96,13 +96,13 @@ fn hand_back<K: Label>(
 ) -> Unclosed<K>
     requires sums { sums ≡ done_for passes.items }
     requires reason { IsReason fault sums held.book.totals }
-    ensures { IsUnclosed held passes.items result.fault result.sums result.totals result.made result.passes.items result.held }
+    ensures { IsUnclosed held passes.items result.fault result.sums result.totals result.pass_count result.passes.items result.held }
 {
     Unclosed {
         fault,
         sums,
         totals: held.book().totals(),
-        made: held.made(),
+        pass_count: held.pass_count(),
         passes,
         held,
     }

@@ -5,7 +5,7 @@ ghost use Rattle.eu_book.specs.Checkpoint.{IsJournal, IsRetired};
 ghost use Rattle.eu_model.specs.Answers.{Shows};
 ghost use Rattle.eu_model.specs.Delta.{plus};
 ghost use Rattle.eu_model.specs.View.{view};
-ghost use Rattle.eu_shared.specs.Passes.{answered, done_for, fresh, opening, shown};
+ghost use Rattle.eu_shared.specs.Passes.{after_answer, done_for, new_pass, opening, after_view};
 
 use crate::pass::{Pass, is_stale_with, see};
 use crate::shares::{Blanks, Label, Shares, Totals};
@@ -43,7 +43,7 @@ impl Told {
 #[derive(Drop)]
 pub struct Held<K: Label> {
     book: Book,
-    made: u64,
+    pass_count: u64,
     totals: Totals<K>,
     rest: Shares<K>,
 }
@@ -58,9 +58,9 @@ impl<K: Label> Model for Held<K> {
 
     ghost coded = { coded_holding };
 
-    ghost view = { λ h. record { book = h.book; made = h.made } };
+    ghost view = { λ h. record { book = h.book; pass_count = h.pass_count } };
 
-    ghost invariant = { λ h. (h.totals ≡ h.book.totals) × (h.rest.tally ≡ nothing) × (h.rest.parts + h.made ≡ 1025) × (h.made ≤ 1024) × (K.parts ≡ 1025) };
+    ghost invariant = { λ h. (h.totals ≡ h.book.totals) × (h.rest.tally ≡ nothing) × (h.rest.parts + h.pass_count ≡ 1025) × (h.pass_count ≤ 1024) × (K.parts ≡ 1025) };
 }
 
 impl<K: Label> Held<K> {
@@ -82,7 +82,7 @@ impl<K: Label> Held<K> {
         let (totals, rest) = blanks.open::<K>();
         Ok(Held {
             book,
-            made: 0,
+            pass_count: 0,
             totals,
             rest,
         })
@@ -103,7 +103,7 @@ impl<K: Label> Held<K> {
     {
         let Held {
             book,
-            made: _,
+            pass_count: _,
             totals: _,
             rest: _,
         } = self;
@@ -111,32 +111,32 @@ impl<K: Label> Held<K> {
     }
 
     /// How many passes were made. Takes no memory.
-    pub fn made(&self) -> u64
-        ensures { result ≡ self.now.made }
+    pub fn pass_count(&self) -> u64
+        ensures { result ≡ self.now.pass_count }
     {
-        self.made
+        self.pass_count
     }
 
     /// A new pass: the first has the number 0, and each further one the next number. Takes no memory.
     ///
     /// `TooManyPasses` exactly where 1,024 were made. It changes nothing.
     pub fn pass(&mut self, alloc: Global) -> Result<Pass<K>, Fault>
-        ensures pass { IfOk result (λ pass. pass ≡ fresh self.old.made) }
-        ensures made { OnOk result (self.new ≡ record { book = self.old.book; made = self.old.made + 1 }) }
-        ensures many { (result ≡ Err Fault.TooManyPasses) ↔ (self.old.made ≡ 1024) }
+        ensures pass { IfOk result (λ pass. pass ≡ new_pass self.old.pass_count) }
+        ensures pass_count { OnOk result (self.new ≡ record { book = self.old.book; pass_count = self.old.pass_count + 1 }) }
+        ensures many { (result ≡ Err Fault.TooManyPasses) ↔ (self.old.pass_count ≡ 1024) }
         ensures no_other { IfErr result (λ f. f ≡ Fault.TooManyPasses) }
         ensures err { OnErr result (self.new ≡ self.old) }
     {
-        if self.made == MOST_PASSES {
+        if self.pass_count == MOST_PASSES {
             return Err(Fault::TooManyPasses);
         }
-        let number = self.made;
-        self.made += 1;
+        let number = self.pass_count;
+        self.pass_count += 1;
         Ok(Pass {
             number,
             log: Vec::new(alloc),
             tally: Tally::nothing(),
-            seen: 0,
+            journal_first: 0,
             is_stale: false,
             shares: self.rest.split_off(1),
         })
@@ -145,7 +145,7 @@ impl<K: Label> Held<K> {
     /// What was done for these passes: all that was done, where they are as many as were made. Changes nothing.
     pub(crate) fn sums(&mut self, passes: &mut Vec<Pass<K>>) -> Tally
         ensures sums { result ≡ done_for passes.old.items }
-        ensures whole { vec_len passes.old ≡ self.old.made → result ≡ self.old.book.totals }
+        ensures whole { vec_len passes.old ≡ self.old.pass_count → result ≡ self.old.book.totals }
         ensures passes { (passes.new.items ≡ passes.old.items) × (vec_len passes.new ≡ vec_len passes.old) }
         ensures same { self.new ≡ self.old }
     {
@@ -166,11 +166,11 @@ impl<K: Label> Held<K> {
         chooser: &mut C,
     ) -> Result<Receipt, Fault>
         ensures applied { IfOk result (λ r. Applies C.asks self.old.book chooser.old (entry pass.old.number r.number command moment r.reply) self.new.book chooser.new) }
-        ensures pass { IfOk result (λ r. pass.new ≡ answered pass.old (logged command moment r.reply r.number) self.new.book.first) }
-        ensures fresh { IfOk result (λ r. pass.old.tally.steps ≤ r.number) }
+        ensures pass { IfOk result (λ r. pass.new ≡ after_answer pass.old (logged command moment r.reply r.number) self.new.book.first) }
+        ensures after_own { IfOk result (λ r. pass.old.tally.steps ≤ r.number) }
         ensures before { IsLawful self.old.book }
         ensures after { OnOk result (IsLawful self.new.book) }
-        ensures made { self.new.made ≡ self.old.made }
+        ensures pass_count { self.new.pass_count ≡ self.old.pass_count }
         ensures refused { IfErr result (λ f. Refuses self.old.book command moment f) }
         ensures err { OnErr result ((self.new ≡ self.old) × (pass.new ≡ pass.old)) }
         ensures unasked { OnErr result (chooser.new ≡ chooser.old) }
@@ -197,12 +197,12 @@ impl<K: Label> Held<K> {
     ) -> Result<Told, Fault>
         requires same { mine ≡ command }
         ensures applied { IfOk result (λ t. Applies C.asks self.old.book chooser.old (entry pass.old.number t.receipt.number command moment t.receipt.reply) self.new.book chooser.new) }
-        ensures pass { IfOk result (λ t. pass.new ≡ answered pass.old (logged command moment t.receipt.reply t.receipt.number) self.new.book.first) }
-        ensures fresh { IfOk result (λ t. pass.old.tally.steps ≤ t.receipt.number) }
+        ensures pass { IfOk result (λ t. pass.new ≡ after_answer pass.old (logged command moment t.receipt.reply t.receipt.number) self.new.book.first) }
+        ensures after_own { IfOk result (λ t. pass.old.tally.steps ≤ t.receipt.number) }
         ensures retired { IfOk result (λ t. IsRetired self.old.book t.retired) }
         ensures before { IsLawful self.old.book }
         ensures after { OnOk result (IsLawful self.new.book) }
-        ensures made { self.new.made ≡ self.old.made }
+        ensures pass_count { self.new.pass_count ≡ self.old.pass_count }
         ensures refused { IfErr result (λ f. Refuses self.old.book command moment f) }
         ensures err { OnErr result ((self.new ≡ self.old) × (pass.new ≡ pass.old)) }
         ensures unasked { OnErr result (chooser.new ≡ chooser.old) }
@@ -222,11 +222,11 @@ impl<K: Label> Held<K> {
         let _totals = self.book.totals();
         pass.tally = sum(pass.tally, done);
         see(
-            &mut pass.seen,
+            &mut pass.journal_first,
             &mut pass.is_stale,
             self.book.journal().first,
         );
-        pass.is_stale = is_stale_with(pass.is_stale, pass.seen, outcome.logged.number);
+        pass.is_stale = is_stale_with(pass.is_stale, pass.journal_first, outcome.logged.number);
         pass.log.push_reserved(outcome.logged);
         Ok(Told {
             receipt: outcome.receipt,
@@ -244,12 +244,12 @@ impl<K: Label> Held<K> {
         moment: Moment,
     ) -> Result<View, AllocError>
         ensures view { IfOk result (λ v. Shows self.now.book.state.registry (λ s. view s query.now moment) v) }
-        ensures pass { OnOk result (pass.new ≡ shown pass.old self.now.book.first) }
+        ensures pass { OnOk result (pass.new ≡ after_view pass.old self.now.book.first) }
         ensures err { OnErr result (pass.new ≡ pass.old) }
     {
         let view = self.book.read(alloc, query, moment)?;
         see(
-            &mut pass.seen,
+            &mut pass.journal_first,
             &mut pass.is_stale,
             self.book.journal().first,
         );
@@ -264,9 +264,9 @@ impl<K: Label> Held<K> {
         alloc: Global,
         pass: &mut Pass<K>,
     ) -> Result<Box<Journal>, AllocError>
-        ensures book { OnOk result (self.new ≡ record { book = cleared self.old.book; made = self.old.made }) }
-        ensures pass { OnOk result (pass.new ≡ shown pass.old self.old.book.totals.steps) }
-        ensures fresh { OnOk result (pass.old.tally.steps ≤ self.old.book.totals.steps) }
+        ensures book { OnOk result (self.new ≡ record { book = cleared self.old.book; pass_count = self.old.pass_count }) }
+        ensures pass { OnOk result (pass.new ≡ after_view pass.old self.old.book.totals.steps) }
+        ensures after_own { OnOk result (pass.old.tally.steps ≤ self.old.book.totals.steps) }
         ensures before { IsLawful self.old.book }
         ensures retired { IfOk result (λ j. IsJournal self.old.book j.value) }
         ensures err { OnErr result ((self.new ≡ self.old) × (pass.new ≡ pass.old)) }
@@ -275,7 +275,7 @@ impl<K: Label> Held<K> {
         let retired = self.book.checkpoint(alloc)?;
         self.totals.audit(&mut pass.shares);
         see(
-            &mut pass.seen,
+            &mut pass.journal_first,
             &mut pass.is_stale,
             self.book.journal().first,
         );

@@ -21,7 +21,7 @@ pub struct Pass<K: Label> {
     pub(crate) log: Vec<Logged>,
     pub(crate) tally: Tally,
     /// The greatest number with which it has seen the journal begin.
-    pub(crate) seen: u64,
+    pub(crate) journal_first: u64,
     /// Whether its log may have what is numbered below that.
     pub(crate) is_stale: bool,
     pub(crate) shares: Shares<K>,
@@ -30,16 +30,16 @@ pub struct Pass<K: Label> {
 impl<K: Label> Model for Pass<K> {
     ghost use Rattle.std.specs.Prelude.{◌≡◌, false};
     ghost use Rattle.eu_settle.specs.Settled.{from_first};
-    ghost use Rattle.eu_shared.specs.Passes.{Caller};
-    ghost use Rattle.eu_shared.specs.PassCode.{coded_caller};
+    ghost use Rattle.eu_shared.specs.Passes.{PassAccount};
+    ghost use Rattle.eu_shared.specs.PassCode.{coded_pass};
 
-    ghost Value = { Caller };
+    ghost Value = { PassAccount };
 
-    ghost coded = { coded_caller };
+    ghost coded = { coded_pass };
 
-    ghost view = { λ p. record { number = p.number; log = p.log.items; tally = p.tally; seen = p.seen } };
+    ghost view = { λ p. record { number = p.number; log = p.log.items; tally = p.tally; journal_first = p.journal_first } };
 
-    ghost invariant = { λ p. (p.shares ≡ record { parts = 1; tally = p.tally }) × (p.is_stale ≡ false → from_first p.seen p.log.items ≡ p.log.items) };
+    ghost invariant = { λ p. (p.shares ≡ record { parts = 1; tally = p.tally }) × (p.is_stale ≡ false → from_first p.journal_first p.log.items ≡ p.log.items) };
 }
 
 impl<K: Label> Pass<K> {
@@ -69,7 +69,7 @@ impl<K: Label> Pass<K> {
     pub fn trim(&mut self)
         ensures { self.new ≡ trimmed self.old }
     {
-        trim_log(&mut self.log, self.seen, &mut self.is_stale);
+        trim_log(&mut self.log, self.journal_first, &mut self.is_stale);
     }
 
     /// Makes room in its log for what it is answered next, and gives the command once more, to be kept there. `AllocError` where no
@@ -94,7 +94,7 @@ impl<K: Label> Pass<K> {
             number,
             log,
             tally: _,
-            seen: _,
+            journal_first: _,
             is_stale: _,
             shares: _,
         } = self;
@@ -104,21 +104,21 @@ impl<K: Label> Pass<K> {
 
 /// Keeps that the journal was seen to begin with `first`, where that is the greatest number so far: then a log may have what is
 /// numbered below it.
-pub(crate) fn see(seen: &mut u64, is_stale: &mut bool, first: u64)
-    ensures seen { seen.new ≡ max seen.old first }
-    ensures stale { is_stale.new ≡ false → (is_stale.old ≡ false) × (seen.new ≡ seen.old) }
-    ensures exact { is_stale.new ≡ (is_stale.old || nat_lt seen.old first) }
+pub(crate) fn see(journal_first: &mut u64, is_stale: &mut bool, first: u64)
+    ensures journal_first { journal_first.new ≡ max journal_first.old first }
+    ensures stale { is_stale.new ≡ false → (is_stale.old ≡ false) × (journal_first.new ≡ journal_first.old) }
+    ensures exact { is_stale.new ≡ (is_stale.old || nat_lt journal_first.old first) }
 {
-    *is_stale = *is_stale || *seen < first;
-    *seen = (*seen).max(first);
+    *is_stale = *is_stale || *journal_first < first;
+    *journal_first = (*journal_first).max(first);
 }
 
-/// Whether a log may have what is numbered below `seen`, once it has an entry of that number more.
-pub(crate) fn is_stale_with(is_stale: bool, seen: u64, number: u64) -> bool
-    ensures fresh { result ≡ false → (is_stale ≡ false) × (seen ≤ number) }
-    ensures exact { result ≡ (is_stale || nat_lt number seen) }
+/// Whether a log may have what is numbered below `journal_first`, once it has an entry of that number more.
+pub(crate) fn is_stale_with(is_stale: bool, journal_first: u64, number: u64) -> bool
+    ensures fresh { result ≡ false → (is_stale ≡ false) × (journal_first ≤ number) }
+    ensures exact { result ≡ (is_stale || nat_lt number journal_first) }
 {
-    is_stale || number < seen
+    is_stale || number < journal_first
 }
 
 /// Drops from a log what is numbered below `first`, where it may have such. Afterwards it has none.

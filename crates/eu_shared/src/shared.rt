@@ -1,8 +1,8 @@
 //! The book behind its lock.
 //!
 //! Each call takes the lock once, makes the one call of its name on what lies behind it (`Held`; an ask has copied its command before),
-//! and releases it; a journal that has begun anew is let go only then. What is behind a lock is known by its type alone: so a clause says of an answer that some lawful book gives it, and
-//! not which.
+//! and releases it; a journal that has begun anew is let go only then. What is behind a lock is known by its type alone: so a clause
+//! says of an answer that some lawful book gives it, and not which.
 ghost use Rattle.std.specs.Prelude.{◌≡◌, ◌∷◌, ◌++◌, ◌≤◌, [], map, vec_len, IfOk, IfErr, OnErr, OnOk, IsPermutation};
 ghost use Rattle.std.specs.List.Sorted.{IsNonDecreasingBy};
 ghost use Rattle.std.specs.Sync.Mutex.{mutex_guard_value};
@@ -11,7 +11,7 @@ ghost use Rattle.eu_book.specs.Peers.{state_of};
 ghost use Rattle.eu_model.specs.Delta.{delta, plus};
 ghost use Rattle.eu_settle.specs.declared.closed.PassLog.{PassLog};
 ghost use Rattle.eu_shared.specs.Closing.{account_of, log_of, logged_by, IsReason};
-ghost use Rattle.eu_shared.specs.Passes.{done_for, fresh, IsAnswer, IsBegun, IsRefused, IsShown};
+ghost use Rattle.eu_shared.specs.Passes.{done_for, new_pass, IsAnsweredBySome, IsBegunBySome, IsRefusedBySome, IsShownBySome};
 
 use crate::closing::Unclosed;
 use crate::held::Held;
@@ -26,7 +26,7 @@ use std::alloc::{AllocError, Global};
 use std::hint::spin_loop;
 use std::sync::{Mutex, MutexGuard, Wait};
 
-/// How often one looks whether the lock is free before one sleeps: some 0.1 ms.
+/// How often one looks whether the lock is free before one sleeps: some 0.14 ms.
 const MOST_LOOKS: u32 = 1_000;
 
 /// A book that threads share, behind one lock.
@@ -88,7 +88,7 @@ impl<K: Label> Shared<K> {
     ///
     /// `TooManyPasses` where 1,024 were made.
     pub fn pass<R: Wait>(&self, rt: &R, alloc: Global) -> Result<Pass<K>, Fault>
-        ensures pass { IfOk result (λ pass. pass ≡ fresh pass.number) }
+        ensures pass { IfOk result (λ pass. pass ≡ new_pass pass.number) }
         ensures no_other { IfErr result (λ f. f ≡ Fault.TooManyPasses) }
     {
         self.lock(rt).pass(alloc)
@@ -113,10 +113,10 @@ impl<K: Label> Pass<K> {
         ensures log { IfOk result (λ r. self.new.log ≡ self.old.log ++ logged command moment r.reply r.number ∷ []) }
         ensures tally { IfOk result (λ r. self.new.tally ≡ plus self.old.tally (delta command r.reply)) }
         ensures number { self.new.number ≡ self.old.number }
-        ensures seen { self.old.seen ≤ self.new.seen }
-        ensures fresh { IfOk result (λ r. self.old.tally.steps ≤ r.number) }
-        ensures answer { IfOk result (λ r. IsAnswer C.asks chooser.old self.old (entry self.old.number r.number command moment r.reply) chooser.new self.new) }
-        ensures refused { IfErr result (λ f. IsRefused command moment f) }
+        ensures journal_first { self.old.journal_first ≤ self.new.journal_first }
+        ensures after_own { IfOk result (λ r. self.old.tally.steps ≤ r.number) }
+        ensures answer { IfOk result (λ r. IsAnsweredBySome C.asks chooser.old self.old (entry self.old.number r.number command moment r.reply) chooser.new self.new) }
+        ensures refused { IfErr result (λ f. IsRefusedBySome command moment f) }
         ensures err { OnErr result (self.new ≡ self.old) }
         ensures unasked { OnErr result (chooser.new ≡ chooser.old) }
     {
@@ -140,8 +140,8 @@ impl<K: Label> Pass<K> {
         query: &Query,
         moment: Moment,
     ) -> Result<View, AllocError>
-        ensures view { IfOk result (λ v. IsShown self.old query.now moment v self.new) }
-        ensures pass { (self.new.number ≡ self.old.number) × (self.new.log ≡ self.old.log) × (self.new.tally ≡ self.old.tally) × (self.old.seen ≤ self.new.seen) }
+        ensures view { IfOk result (λ v. IsShownBySome self.old query.now moment v self.new) }
+        ensures pass { (self.new.number ≡ self.old.number) × (self.new.log ≡ self.old.log) × (self.new.tally ≡ self.old.tally) × (self.old.journal_first ≤ self.new.journal_first) }
         ensures err { OnErr result (self.new ≡ self.old) }
     {
         shared.lock(rt).read(alloc, self, query, moment)
@@ -156,9 +156,9 @@ impl<K: Label> Pass<K> {
         shared: &Shared<K>,
         alloc: Global,
     ) -> Result<(), AllocError>
-        ensures pass { (self.new.number ≡ self.old.number) × (self.new.log ≡ self.old.log) × (self.new.tally ≡ self.old.tally) × (self.old.seen ≤ self.new.seen) }
-        ensures begun { OnOk result (IsBegun self.old self.new) }
-        ensures fresh { OnOk result (self.old.tally.steps ≤ self.new.seen) }
+        ensures pass { (self.new.number ≡ self.old.number) × (self.new.log ≡ self.old.log) × (self.new.tally ≡ self.old.tally) × (self.old.journal_first ≤ self.new.journal_first) }
+        ensures begun { OnOk result (IsBegunBySome self.old self.new) }
+        ensures after_own { OnOk result (self.old.tally.steps ≤ self.new.journal_first) }
         ensures err { OnErr result (self.new ≡ self.old) }
     {
         let retired = shared.lock(rt).checkpoint(alloc, self)?;
@@ -183,8 +183,8 @@ pub fn close<K: Label>(
     ensures logs { IfOk result (λ c. IsPermutation (map log_of passes.items) (map logged_by c.logs.items)) }
     ensures ascending { IfOk result (λ c. IsNonDecreasingBy (λ (l : PassLog). l.pass) c.logs.items) }
     ensures unclosed { IfErr result (λ u. (u.sums ≡ done_for passes.items) × IsReason u.fault u.sums u.totals × (u.passes.items ≡ passes.items)) }
-    ensures book { IfErr result (λ u. (u.totals ≡ u.held.book.totals) × (u.made ≡ u.held.made)) }
-    ensures whole { IfErr result (λ u. vec_len passes ≡ u.made → u.sums ≡ u.totals) }
+    ensures book { IfErr result (λ u. (u.totals ≡ u.held.book.totals) × (u.pass_count ≡ u.held.pass_count)) }
+    ensures whole { IfErr result (λ u. vec_len passes ≡ u.pass_count → u.sums ≡ u.totals) }
 {
     let Shared { held } = shared;
     held.into_inner().close(alloc, passes)

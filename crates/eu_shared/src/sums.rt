@@ -38,7 +38,7 @@ pub(crate) fn sum_up<K: Label>(
         number,
         log,
         tally,
-        seen,
+        journal_first,
         is_stale,
         mut shares,
     } = pass;
@@ -50,7 +50,7 @@ pub(crate) fn sum_up<K: Label>(
         number,
         log,
         tally,
-        seen,
+        journal_first,
         is_stale,
         shares,
     });

@@ -10,7 +10,7 @@ use Rattle.eu_book.proofs.HistoryLemmas.{plus_nothing}
 use Rattle.eu_clock.specs.Front.{Asks}
 use Rattle.eu_model.specs.declared.commands.Command.{Command}
 use Rattle.eu_model.specs.Delta.{delta, plus}
-use Rattle.eu_shared.specs.Passes.{Caller, IsAnswer}
+use Rattle.eu_shared.specs.Passes.{PassAccount, IsAnsweredBySome}
 use Rattle.eu_workers.specs.declared.ended.Ended.{Ended}
 use Rattle.eu_workers.specs.Ended.{Counts}
 use Rattle.eu_workers.specs.Returned.{done_by, ComesBack, IsAsked, TakesTurns, Tidies}
@@ -26,13 +26,13 @@ done_steps : (ls : List Logged) → (done_by ls).steps ≡ length ls
 done_steps [] = refl
 done_steps (l ∷ ls) = omega (arith, done_steps ls)
 
-grown_steps : (p q : Caller) (b : ComesBack p q) → q.tally.steps ≡ p.tally.steps + length b.added
+grown_steps : (p q : PassAccount) (b : ComesBack p q) → q.tally.steps ≡ p.tally.steps + length b.added
 grown_steps p q b = ap (λ t. t.steps) b.tally ∙ ap (λ n. p.tally.steps + n) (done_steps b.added)
 
-pub asks_none : (c : Command) (p : Caller) (e : Ended) → e.turns ≡ 0 → e.refused ≡ 0 → AsksOnly c 0 p p e
+pub asks_none : (c : Command) (p : PassAccount) (e : Ended) → e.turns ≡ 0 → e.refused ≡ 0 → AsksOnly c 0 p p e
 asks_none c p e t r = record { turns = takes_none p e t r; only = tt; many = omega (arith, t, r); steps = omega (arith, t, r) }
 
-module _ (c : Command) (n m : ℕ) (p q q' q'' : Caller) (e e' : Ended) (a : AsksOnly c n p q e) (seen : q.seen ≤ q'.seen) (number : q'.number ≡ q.number) (tidies : Tidies q' q'') where
+module _ (c : Command) (n m : ℕ) (p q q' q'' : PassAccount) (e e' : Ended) (a : AsksOnly c n p q e) (journal_first : q.journal_first ≤ q'.journal_first) (number : q'.number ≡ q.number) (tidies : Tidies q' q'') where
   -- one that was answered, and one that was refused
   pub asks_more : (r : Result Receipt Fault)
       → IfOk r (λ y. q'.log ≡ q.log ++ logged c m y.reply y.number ∷ [])
@@ -42,7 +42,7 @@ module _ (c : Command) (n m : ℕ) (p q q' q'' : Caller) (e e' : Ended) (a : Ask
       → AsksOnly c (n + 1) p q'' e'
   asks_more (Ok y) log tally same counts =
       let one = logged c m y.reply y.number ∷ [] in
-      let asked : IsAsked q q' = record { added = one; number = number; log = log; tally = tally ∙ ap (plus q.tally) (sym (plus_nothing (delta c y.reply))); seen = seen } in
+      let asked : IsAsked q q' = record { added = one; number = number; log = log; tally = tally ∙ ap (plus q.tally) (sym (plus_nothing (delta c y.reply))); journal_first = journal_first } in
       let turns : TakesTurns (n + 1) p q'' e' = takes_more n p q q' q'' e e' false a.turns asked tidies counts in
       let many : length turns.pass.added + e'.refused ≡ e'.turns = omega (arith, length-append a.turns.pass.added one, a.many, counts.0, counts.1) in
       record {
@@ -62,7 +62,7 @@ module _ (c : Command) (n m : ℕ) (p q q' q'' : Caller) (e e' : Ended) (a : Ask
         steps = omega (arith, grown_steps p q'' turns.pass, many);
       }
 
-pub asks_within : (c : Command) (n limit : ℕ) (p q : Caller) (e : Ended) → AsksOnly c n p q e → n ≤ limit → AsksOnly c limit p q e
+pub asks_within : (c : Command) (n limit : ℕ) (p q : PassAccount) (e : Ended) → AsksOnly c n p q e → n ≤ limit → AsksOnly c limit p q e
 asks_within c n limit p q e a few = record { turns = takes_within n limit p q e a.turns few; only = a.only; many = a.many; steps = a.steps }
 
 -- ---- what was drawn
@@ -76,16 +76,16 @@ answers_same : {S : Type 0} (chooser : Asks S) (x y z : S) (n : ℕ) (ls : List 
 answers_same {S} chooser x y z n ls all same =
     subst (λ (ms : List Logged). AnswersAll chooser x n ms z) (sym (append-nil ls)) (subst (λ (w : S). AnswersAll chooser x n ls w) (sym same) all)
 
-pub draws_none : {S : Type 0} (chooser : Asks S) (x : S) (c : Command) (p : Caller) (e : Ended) → e.turns ≡ 0 → e.refused ≡ 0 → AsksBy chooser x c 0 p p e x
+pub draws_none : {S : Type 0} (chooser : Asks S) (x : S) (c : Command) (p : PassAccount) (e : Ended) → e.turns ≡ 0 → e.refused ≡ 0 → AsksBy chooser x c 0 p p e x
 unfolding asks_none
 draws_none chooser x c p e t r = record { asks = asks_none c p e t r; drawn = refl }
 
-module _ {S : Type 0} (chooser : Asks S) (x y y' : S) (c : Command) (n m : ℕ) (p q q' q'' : Caller) (e e' : Ended) (a : AsksBy chooser x c n p q e y) (seen : q.seen ≤ q'.seen)
+module _ {S : Type 0} (chooser : Asks S) (x y y' : S) (c : Command) (n m : ℕ) (p q q' q'' : PassAccount) (e e' : Ended) (a : AsksBy chooser x c n p q e y) (journal_first : q.journal_first ≤ q'.journal_first)
     (number : q'.number ≡ q.number) (tidies : Tidies q' q'') where
   pub draws_more : (r : Result Receipt Fault)
       → IfOk r (λ v. q'.log ≡ q.log ++ logged c m v.reply v.number ∷ [])
       → IfOk r (λ v. q'.tally ≡ plus q.tally (delta c v.reply))
-      → IfOk r (λ v. IsAnswer chooser y q (entry q.number v.number c m v.reply) y' q')
+      → IfOk r (λ v. IsAnsweredBySome chooser y q (entry q.number v.number c m v.reply) y' q')
       → OnErr r (q' ≡ q)
       → OnErr r (y' ≡ y)
       → Counts e (is_err r) e'
@@ -96,14 +96,14 @@ module _ {S : Type 0} (chooser : Asks S) (x y y' : S) (c : Command) (n m : ℕ) 
       let one : Answers chooser y p.number (logged c m v.reply v.number) y' =
       (answer.0, answer.1, answer.2, answer.3, subst (λ (k : ℕ). Applies chooser answer.0 y (entry k v.number c m v.reply) answer.1 y') number_is answer.4) in
       record {
-        asks = asks_more c n m p q q' q'' e e' a.asks seen number tidies (Ok v) log tally same counts;
+        asks = asks_more c n m p q q' q'' e e' a.asks journal_first number tidies (Ok v) log tally same counts;
         drawn = answers_more chooser x y y' p.number a.asks.turns.pass.added (logged c m v.reply v.number) a.drawn one;
       }
   draws_more (Err f) log tally answer same unasked counts = record {
-    asks = asks_more c n m p q q' q'' e e' a.asks seen number tidies (Err f) log tally same counts;
+    asks = asks_more c n m p q q' q'' e e' a.asks journal_first number tidies (Err f) log tally same counts;
     drawn = answers_same chooser x y y' p.number a.asks.turns.pass.added a.drawn unasked;
   }
 
-pub draws_within : {S : Type 0} (chooser : Asks S) (x y : S) (c : Command) (n limit : ℕ) (p q : Caller) (e : Ended) → AsksBy chooser x c n p q e y → n ≤ limit → AsksBy chooser x c limit p q e y
+pub draws_within : {S : Type 0} (chooser : Asks S) (x y : S) (c : Command) (n limit : ℕ) (p q : PassAccount) (e : Ended) → AsksBy chooser x c n p q e y → n ≤ limit → AsksBy chooser x c limit p q e y
 unfolding asks_within
 draws_within chooser x y c n limit p q e a few = record { asks = asks_within c n limit p q e a.asks few; drawn = a.drawn }

@@ -16,10 +16,10 @@ use Rattle.eu_peer.specs.Turns.{Turns}
 use Rattle.eu_peer.proofs.KeepLemmas.{turns_keep}
 use Rattle.eu_shared.specs.Seat.{PassAsks}
 use Rattle.eu_session.specs.declared.faults.SessionFault.{SessionFault}
-use Rattle.eu_session.specs.Session.{Session, Streams, State}
+use Rattle.eu_session.specs.Session.{Session, Streams, Standing}
 use Rattle.eu_session.proofs.KeepLemmas.{session_keeps}
 use Rattle.eu_settle.specs.Settled.{from_first}
-use Rattle.eu_shared.specs.Passes.{Caller, trimmed}
+use Rattle.eu_shared.specs.Passes.{PassAccount, trimmed}
 use Rattle.eu_shared.proofs.TrimLemmas.{from_nothing, from_first_on, from_later, trimmed_is}
 use Rattle.eu_workers.specs.declared.ended.Ended.{Ended}
 use Rattle.eu_workers.specs.Ended.{Counts, IsWithin}
@@ -31,16 +31,16 @@ done_on (l ∷ ls) ms = ap (plus (delta l.command l.reply)) (done_on ls ms) ∙ 
 
 -- ---- asks
 
-abbrev pub asked_nothing : (p q : Caller) → q ≡ p → IsAsked p q
+abbrev pub asked_nothing : (p q : PassAccount) → q ≡ p → IsAsked p q
 asked_nothing p q e = record {
   added = [];
-  number = ap (λ (x : Caller). x.number) e;
-  log = ap (λ (x : Caller). x.log) e ∙ sym (append-nil p.log);
-  tally = ap (λ (x : Caller). x.tally) e ∙ sym (plus_nothing p.tally);
-  seen = omega (arith, ap (λ (x : Caller). x.seen) e);
+  number = ap (λ (x : PassAccount). x.number) e;
+  log = ap (λ (x : PassAccount). x.log) e ∙ sym (append-nil p.log);
+  tally = ap (λ (x : PassAccount). x.tally) e ∙ sym (plus_nothing p.tally);
+  journal_first = omega (arith, ap (λ (x : PassAccount). x.journal_first) e);
 }
 
-pub asked_more : (p q r : Caller) → IsAsked p q → IsAsked q r → IsAsked p r
+pub asked_more : (p q r : PassAccount) → IsAsked p q → IsAsked q r → IsAsked p r
 asked_more p q r one two = record {
   added = one.added ++ two.added;
   number = two.number ∙ one.number;
@@ -48,17 +48,17 @@ asked_more p q r one two = record {
   tally =
       two.tally ∙ ap (λ t. plus t (done_by two.added)) one.tally ∙ plus_assoc p.tally (done_by one.added) (done_by two.added)
       ∙ ap (plus p.tally) (sym (done_on one.added two.added));
-  seen = omega (arith, one.seen, two.seen);
+  journal_first = omega (arith, one.journal_first, two.journal_first);
 }
 
 -- one ask of a session or of a turn for a peer
-pub asks : (p : Caller) (ask : Ask) (t : ℕ) (r : Result Answer Fault) (q : Caller) → PassAsks p ask t r q → IsAsked p q
+pub asks : (p : PassAccount) (ask : Ask) (t : ℕ) (r : Result Answer Fault) (q : PassAccount) → PassAsks p ask t r q → IsAsked p q
 asks p (Do c) t (Ok (Did reply)) q is = record {
   added = logged c t reply is.number ∷ [];
   number = is.same;
   log = is.log;
   tally = is.tally ∙ ap (plus p.tally) (sym (plus_nothing (delta c reply)));
-  seen = is.seen;
+  journal_first = is.journal_first;
 }
 asks p (Do c) t (Ok (Saw v)) q never = absurd never
 asks p (Do c) t (Err f) q is = asked_nothing p q is.1
@@ -68,34 +68,34 @@ asks p (See look) t (Ok (Saw v)) q is = record {
   number = is.1.same;
   log = is.1.log ∙ sym (append-nil p.log);
   tally = is.1.tally ∙ sym (plus_nothing p.tally);
-  seen = is.1.seen;
+  journal_first = is.1.journal_first;
 }
 asks p (See look) t (Err f) q is = asked_nothing p q is.1
 
 -- ---- turns
 
-pub trims : (p q : Caller) → q ≡ trimmed p → Tidies p q
-trims p q is = subst (Tidies p) (sym is) (record { number = refl; tally = refl; seen = omega (arith); log = refl })
+pub trims : (p q : PassAccount) → q ≡ trimmed p → Tidies p q
+trims p q is = subst (Tidies p) (sym is) (record { number = refl; tally = refl; journal_first = omega (arith); log = refl })
 
-pub is_trimmed : (p q : Caller) → Tidies p q → IsTrimmed q
-is_trimmed p q t = trimmed_is q.seen p.log q.log t.log
+pub is_trimmed : (p q : PassAccount) → Tidies p q → IsTrimmed q
+is_trimmed p q t = trimmed_is q.journal_first p.log q.log t.log
 
 -- what is trimmed now was behind what was trimmed before
-pub tidied : (p q s : Caller) (added more : List Logged) (first : ℕ) → q.log ≡ from_first first (p.log ++ added) → first ≤ s.seen → (later : List Logged) → later ≡ from_first s.seen (q.log ++ more)
-    → later ≡ from_first s.seen (p.log ++ (added ++ more))
+pub tidied : (p q s : PassAccount) (added more : List Logged) (first : ℕ) → q.log ≡ from_first first (p.log ++ added) → first ≤ s.journal_first → (later : List Logged) → later ≡ from_first s.journal_first (q.log ++ more)
+    → later ≡ from_first s.journal_first (p.log ++ (added ++ more))
 tidied p q s added more first log fits later is =
-    is ∙ from_first_on s.seen q.log more
-    ∙ ap (λ ls. from_first s.seen ls ++ from_first s.seen more) log
-    ∙ ap (λ ls. ls ++ from_first s.seen more) (from_later first s.seen fits (p.log ++ added))
-    ∙ sym (from_first_on s.seen (p.log ++ added) more)
-    ∙ ap (from_first s.seen) (append_assoc p.log added more)
+    is ∙ from_first_on s.journal_first q.log more
+    ∙ ap (λ ls. from_first s.journal_first ls ++ from_first s.journal_first more) log
+    ∙ ap (λ ls. ls ++ from_first s.journal_first more) (from_later first s.journal_first fits (p.log ++ added))
+    ∙ sym (from_first_on s.journal_first (p.log ++ added) more)
+    ∙ ap (from_first s.journal_first) (append_assoc p.log added more)
 
-abbrev pub comes_more : (p q r s : Caller) → ComesBack p q → IsAsked q r → Tidies r s → ComesBack p s
+abbrev pub comes_more : (p q r s : PassAccount) → ComesBack p q → IsAsked q r → Tidies r s → ComesBack p s
 comes_more p q r s back asked tidies = record {
   added = back.added ++ asked.added;
-  first = s.seen;
+  first = s.journal_first;
   number = tidies.number ∙ asked.number ∙ back.number;
-  log = tidied p q s back.added asked.added back.first back.log (omega (arith, back.begins, asked.seen, tidies.seen)) s.log (tidies.log ∙ ap (from_first s.seen) asked.log);
+  log = tidied p q s back.added asked.added back.first back.log (omega (arith, back.begins, asked.journal_first, tidies.journal_first)) s.log (tidies.log ∙ ap (from_first s.journal_first) asked.log);
   tally =
       tidies.tally ∙ asked.tally ∙ ap (λ t. plus t (done_by asked.added)) back.tally ∙ plus_assoc p.tally (done_by back.added) (done_by asked.added)
       ∙ ap (plus p.tally) (sym (done_on back.added asked.added));
@@ -106,7 +106,7 @@ pub counts_within : (n : ℕ) (e e' : Ended) (refused : Bool) → IsWithin n e �
 counts_within n e e' true within counts = (omega (arith, within.0, counts.0, counts.1), omega (arith, within.1, counts.0))
 counts_within n e e' false within counts = (omega (arith, within.0, counts.0, counts.1), omega (arith, within.1, counts.0))
 
-abbrev pub takes_none : (p : Caller) (e : Ended) → e.turns ≡ 0 → e.refused ≡ 0 → TakesTurns 0 p p e
+abbrev pub takes_none : (p : PassAccount) (e : Ended) → e.turns ≡ 0 → e.refused ≡ 0 → TakesTurns 0 p p e
 takes_none p e t r = record {
   within = (omega (arith, t, r), omega (arith, t));
   pass = record {
@@ -121,7 +121,7 @@ takes_none p e t r = record {
   trimmed = λ some. absurd (omega (arith, some, t));
 }
 
-abbrev pub takes_more : (n : ℕ) (p q r s : Caller) (e e' : Ended) (refused : Bool) → TakesTurns n p q e → IsAsked q r → Tidies r s → Counts e refused e' → TakesTurns (n + 1) p s e'
+abbrev pub takes_more : (n : ℕ) (p q r s : PassAccount) (e e' : Ended) (refused : Bool) → TakesTurns n p q e → IsAsked q r → Tidies r s → Counts e refused e' → TakesTurns (n + 1) p s e'
 takes_more n p q r s e e' refused takes asked tidies counts = record {
   within = counts_within n e e' refused takes.within counts;
   pass = comes_more p q r s takes.pass asked tidies;
@@ -129,16 +129,16 @@ takes_more n p q r s e e' refused takes asked tidies counts = record {
   trimmed = λ _. is_trimmed r s tidies;
 }
 
-pub takes_turn : (n : ℕ) (p q s : Caller) (e e' : Ended) (refused : Bool) → TakesTurns n p q e → HasTurn q s → Counts e refused e' → TakesTurns (n + 1) p s e'
+pub takes_turn : (n : ℕ) (p q s : PassAccount) (e e' : Ended) (refused : Bool) → TakesTurns n p q e → HasTurn q s → Counts e refused e' → TakesTurns (n + 1) p s e'
 takes_turn n p q s e e' refused takes turn counts = takes_more n p q turn.0 s e e' refused takes turn.1 turn.2 counts
 
-abbrev pub takes_within : (n limit : ℕ) (p q : Caller) (e : Ended) → TakesTurns n p q e → n ≤ limit → TakesTurns limit p q e
+abbrev pub takes_within : (n limit : ℕ) (p q : PassAccount) (e : Ended) → TakesTurns n p q e → n ≤ limit → TakesTurns limit p q e
 takes_within n limit p q e takes few = record { within = (takes.within.0, omega (arith, takes.within.1, few)); pass = takes.pass; idle = takes.idle; trimmed = takes.trimmed }
 
 -- ---- by who asks for it: sessions, and turns for a peer, over whatever holds the pass
 
-module _ {D C : Type 0} (pass : D → Caller) (tells : C → ℕ → C → Type 0) where
-  pub asked_by_session : (old new : State D C) (s : Streams) (result : Result ℕ SessionFault)
+module _ {D C : Type 0} (pass : D → PassAccount) (tells : C → ℕ → C → Type 0) where
+  pub asked_by_session : (old new : Standing D C) (s : Streams) (result : Result ℕ SessionFault)
       → Session (λ s ask t r s'. PassAsks (pass s) ask t r (pass s')) tells old new s result → IsAsked (pass old.desk) (pass new.desk)
   asked_by_session old new s result is =
       session_keeps (λ s ask t r s'. PassAsks (pass s) ask t r (pass s')) (λ a b. IsAsked (pass a) (pass b))
@@ -147,7 +147,7 @@ module _ {D C : Type 0} (pass : D → Caller) (tells : C → ℕ → C → Type 
       (λ a ask t r b. asks (pass a) ask t r (pass b))
       tells old new s result is
 
-pub asked_by_turn : {D P C : Type 0} (a b : D) (pass : D → Caller) (submits : P → List Task → Option (List ItemAnswer) → P → Type 0) (tells : C → ℕ → C → Type 0) (peer : ℕ) (p p' : P) (c c' : C) (result : Result Turn Fault)
+pub asked_by_turn : {D P C : Type 0} (a b : D) (pass : D → PassAccount) (submits : P → List Task → Option (List ItemAnswer) → P → Type 0) (tells : C → ℕ → C → Type 0) (peer : ℕ) (p p' : P) (c c' : C) (result : Result Turn Fault)
     → Turns (λ s ask t r s'. PassAsks (pass s) ask t r (pass s')) submits tells peer a p c result b p' c' → IsAsked (pass a) (pass b)
 asked_by_turn a b pass submits tells peer p p' c c' result is =
     turns_keep (λ s ask t r s'. PassAsks (pass s) ask t r (pass s')) (λ a b. IsAsked (pass a) (pass b))

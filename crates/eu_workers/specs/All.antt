@@ -2,7 +2,7 @@
 use Rattle.std.specs.Prelude.{◌≡◌, ℕ}
 use Rattle.eu_clock.specs.Front.{Asks}
 use Rattle.eu_model.specs.declared.commands.Command.TheVariants.{Evict, EndMinute, Update}
-use Rattle.eu_shared.specs.Passes.{Caller}
+use Rattle.eu_shared.specs.Passes.{PassAccount}
 use Rattle.eu_workers.specs.declared.all.Job.{Job}
 use Rattle.eu_workers.specs.declared.all.Work.{Work}
 use Rattle.eu_workers.specs.declared.all.Work.TheVariants.{Sessions, Evictor, Bucket, Threshold, Replicator}
@@ -13,7 +13,7 @@ use Rattle.eu_workers.specs.Returned.{TakesTurns}
 use Rattle.eu_workers.specs.Timers.{AsksBy, AsksOnly}
 
 -- what a worker did with its pass, by its work, and what is left of that: one of its kind, and a chooser from which the victims were drawn
-abbrev pub IsWorked : {S H P : Type 0} → Asks H → Work S H P → Work S H P → ℕ → Caller → Caller → Ended → Type 0
+abbrev pub IsWorked : {S H P : Type 0} → Asks H → Work S H P → Work S H P → ℕ → PassAccount → PassAccount → Ended → Type 0
 IsWorked {S} {H} {P} chooser (Sessions source) left limit p q e = ((s : S) × (left ≡ Sessions s)) × TakesTurns limit p q e
 IsWorked {S} {H} {P} chooser (Evictor x) left limit p q e = (x' : H) × (left ≡ Evictor x') × AsksBy chooser x Evict limit p q e x'
 IsWorked {S} {H} {P} chooser Bucket left limit p q e = (left ≡ Bucket) × AsksOnly EndMinute limit p q e
@@ -29,7 +29,7 @@ module _ {K S C H P : Type 0} where
 module _ {K S C H P : Type 0} (chooser : Asks H) where
   -- a worker did its job, and gives back with what it worked
   abbrev pub DidJob : Job K S C H P → Worker K S C H P → Type 0
-  DidJob job w = (q : Caller) × (e : Ended) × (left : Work S H P) × (w ≡ Done q e left) × IsWorked chooser job.work left job.limit job.pass q e
+  DidJob job w = (q : PassAccount) × (e : Ended) × (left : Work S H P) × (w ≡ Done q e left) × IsWorked chooser job.work left job.limit job.pass q e
 
   -- a worker did its job, if it has one and its number
   abbrev pub HasRun : Worker K S C H P → Worker K S C H P → Type 0

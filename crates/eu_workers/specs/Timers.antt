@@ -8,7 +8,7 @@ use Rattle.eu_gate.specs.declared.timers.Timer.{Timer}
 use Rattle.eu_gate.specs.declared.timers.Timer.TheVariants.{Evictor, Bucket, Threshold}
 use Rattle.eu_model.specs.declared.commands.Command.{Command}
 use Rattle.eu_model.specs.declared.commands.Command.TheVariants.{Evict, EndMinute, Update}
-use Rattle.eu_shared.specs.Passes.{Caller}
+use Rattle.eu_shared.specs.Passes.{PassAccount}
 use Rattle.eu_workers.specs.declared.ended.Ended.{Ended}
 use Rattle.eu_workers.specs.Returned.{TakesTurns}
 
@@ -26,7 +26,7 @@ is_due_after Threshold turns = false
 
 -- In each turn a pass asked for the command once: it was answered in all turns but for the refused ones, and for nothing else. So its steps grow by the turns
 -- less the refused ones
-pub record AsksOnly (command : Command) (limit : ℕ) (p q : Caller) (e : Ended) : Type 0 where
+pub record AsksOnly (command : Command) (limit : ℕ) (p q : PassAccount) (e : Ended) : Type 0 where
   pub turns : TakesTurns limit p q e
   pub only : AllByRecursion (λ (l : Logged). l.command ≡ command) turns.pass.added
   pub many : length turns.pass.added + e.refused ≡ e.turns
@@ -42,6 +42,6 @@ AnswersAll chooser x pass [] x' = x' ≡ x
 AnswersAll {S} chooser x pass (l ∷ ls) x' = (y : S) × Answers chooser x pass l y × AnswersAll chooser y pass ls x'
 
 -- A pass asked for the command alone, and what it was answered was drawn by the words of the chooser that it was lent; a turn that was refused draws none
-pub record AsksBy {S : Type 0} (chooser : Asks S) (x : S) (command : Command) (limit : ℕ) (p q : Caller) (e : Ended) (x' : S) : Type 0 where
+pub record AsksBy {S : Type 0} (chooser : Asks S) (x : S) (command : Command) (limit : ℕ) (p q : PassAccount) (e : Ended) (x' : S) : Type 0 where
   pub asks : AsksOnly command limit p q e
   pub drawn : AnswersAll chooser x p.number asks.turns.pass.added x'

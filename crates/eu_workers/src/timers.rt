@@ -3,7 +3,7 @@ ghost use Rattle.std.specs.Prelude.{◌≡◌, ◌<◌, ◌≤◌, ◌∷◌, �
 ghost use Rattle.eu_book.specs.Account.{entry, logged};
 ghost use Rattle.eu_model.specs.Delta.{delta, plus};
 ghost use Rattle.eu_model.specs.declared.commands.Command.TheVariants as command;
-ghost use Rattle.eu_shared.specs.Passes.{Caller, IsAnswer};
+ghost use Rattle.eu_shared.specs.Passes.{PassAccount, IsAnsweredBySome};
 ghost use Rattle.eu_workers.specs.Returned.{Tidies};
 ghost use Rattle.eu_workers.specs.Timers.{command_of, is_due_after, AsksBy, AsksOnly};
 
@@ -45,7 +45,7 @@ fn is_checkpoint_due(timer: Timer, turns: u64) -> bool
 /// By what a timer's worker asks: its pass of the shared book. A test has one that is refused at first.
 pub(crate) trait Asks {
     // The pass.
-    ghost pass: { Self → Caller };
+    ghost pass: { Self → PassAccount };
 
     /// Asks once (`Pass::ask`).
     fn ask_once<C: Chooser>(
@@ -58,8 +58,8 @@ pub(crate) trait Asks {
         ensures log { IfOk result (λ r. (pass self.new).log ≡ (pass self.old).log ++ logged command moment r.reply r.number ∷ []) }
         ensures tally { IfOk result (λ r. (pass self.new).tally ≡ plus (pass self.old).tally (delta command r.reply)) }
         ensures number { (pass self.new).number ≡ (pass self.old).number }
-        ensures seen { (pass self.old).seen ≤ (pass self.new).seen }
-        ensures answer { IfOk result (λ r. IsAnswer C.asks chooser.old (pass self.old) (entry (pass self.old).number r.number command moment r.reply) chooser.new (pass self.new)) }
+        ensures journal_first { (pass self.old).journal_first ≤ (pass self.new).journal_first }
+        ensures answer { IfOk result (λ r. IsAnsweredBySome C.asks chooser.old (pass self.old) (entry (pass self.old).number r.number command moment r.reply) chooser.new (pass self.new)) }
         ensures err { OnErr result (pass self.new ≡ pass self.old) }
         ensures unasked { OnErr result (chooser.new ≡ chooser.old) };
 
@@ -67,8 +67,8 @@ pub(crate) trait Asks {
     /// the log of the pass. `AllocError` where no memory is left for a journal that is due.
     fn end_turn(&mut self, alloc: Global, timer: Timer, turns: u64) -> Result<(), AllocError>
         ensures tidies { Tidies (pass self.old) (pass self.new) }
-        ensures begun { is_due_after timer turns ≡ true → OnOk result ((pass self.old).tally.steps ≤ (pass self.new).seen) }
-        ensures left { is_due_after timer turns ≡ false → (pass self.new).seen ≡ (pass self.old).seen };
+        ensures begun { is_due_after timer turns ≡ true → OnOk result ((pass self.old).tally.steps ≤ (pass self.new).journal_first) }
+        ensures left { is_due_after timer turns ≡ false → (pass self.new).journal_first ≡ (pass self.old).journal_first };
 }
 
 impl<K: Label, R: Wait> Asks for Seat<'_, K, R> {

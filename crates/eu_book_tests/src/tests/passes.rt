@@ -25,7 +25,7 @@ pub fn refusal_of<K: Label>(unclosed: &Unclosed<K>) -> Refusal {
         fault: unclosed.fault,
         sums: unclosed.sums,
         totals: unclosed.totals,
-        made: unclosed.made,
+        made: unclosed.pass_count,
         passes: unclosed.passes.len(),
     }
 }

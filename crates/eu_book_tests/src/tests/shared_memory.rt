@@ -32,7 +32,7 @@ fn command(alloc: Global, say: Say) -> Result<Command, Fault> {
 fn shown<K: Label>(alloc: Global, held: &Held<K>, pass: &Pass<K>) -> Result<String, AllocError> {
     let state = held.book().state(alloc)?;
     let (journal, totals) = (held.book().journal(), held.book().totals());
-    let (made, log, tallies) = (held.made(), pass.log(), pass.tallies());
+    let (made, log, tallies) = (held.pass_count(), pass.log(), pass.tallies());
     let text = format!(in alloc; "{state:?} {journal:?} {totals:?} {made} {log:?} {tallies:?}");
     drop(state);
     text
@@ -117,12 +117,12 @@ fn are_accepted<K: Label>(alloc: Global, opened: &mut Opened<K>) -> Result<bool,
 
 /// A pass more, at the second try where the first finds no memory, if that left the book as it was.
 fn pass<K: Label>(alloc: Global, held: &mut Held<K>) -> Result<Pass<K>, Fault> {
-    let made = held.made();
+    let made = held.pass_count();
     pause_or_go_on(alloc);
     let first = held.pass(alloc);
     pause_or_go_on(alloc);
     match first {
-        Err(Fault::OutOfMemory) if held.made() == made => held.pass(alloc),
+        Err(Fault::OutOfMemory) if held.pass_count() == made => held.pass(alloc),
         Err(_) => Err(Fault::Mismatch),
         Ok(pass) => Ok(pass),
     }

@@ -54,7 +54,7 @@ fn asks(alloc: Global, routes: &Routes, row: &(&str, &str, &str, &str)) -> Resul
     let (method, page, query, wanted) = row;
     let mut path = String::from_str(alloc, "/eureka/")?;
     path.push_str(page)?;
-    let route = routes.find(alloc, method, path.as_str(), query)?;
+    let route = routes.find(alloc, method, path.as_str(), query, true)?;
     Ok(words(alloc, route)?.as_str() == *wanted)
 }
 

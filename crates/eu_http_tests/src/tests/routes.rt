@@ -1,6 +1,7 @@
 //! Requests with what each asks for, by the table of routes, and the values of queries.
 use eu_base::{App, Config, Fault, Key, Stamp, Status};
 use eu_fixtures::joined;
+use eu_model::Command;
 use eu_routes::{Route, Routes, read_stamp, read_status};
 use std::alloc::{AllocError, Global};
 
@@ -39,46 +40,42 @@ fn tell_settings(text: &mut String, config: &Config) -> Result<(), AllocError> {
     )
 }
 
-/// Writes what a change of a status asks for.
-fn tell_change(text: &mut String, route: &Route) -> Result<(), AllocError> {
-    match route {
-        Route::SetStatus {
+/// Writes a command of a route, field by field.
+fn tell_command(text: &mut String, command: &Command) -> Result<(), AllocError> {
+    match command {
+        Command::SetStatus {
             key,
             status,
             last_dirty,
+            ..
         } => {
             tell_key(text, "set", key)?;
             write!(text, " {status:?}")?;
             tell_stamp(text, last_dirty)
         }
-        Route::UnsetStatus {
+        Command::UnsetStatus {
             key,
             status,
             last_dirty,
+            ..
         } => {
             tell_key(text, "unset", key)?;
             tell_status(text, status)?;
             tell_stamp(text, last_dirty)
         }
-        _ => Ok(()),
-    }
-}
-
-/// Writes what a route of a lease asks for.
-fn tell_lease(text: &mut String, route: &Route) -> Result<(), AllocError> {
-    match route {
-        Route::Cancel(key) => tell_key(text, "cancel", key),
-        Route::One(key) => tell_key(text, "one", key),
-        Route::Renew {
+        Command::Cancel { key, .. } => tell_key(text, "cancel", key),
+        Command::Renew {
             key,
             last_dirty,
             overridden,
+            ..
         } => {
             tell_key(text, "renew", key)?;
             tell_stamp(text, last_dirty)?;
             tell_status(text, overridden)
         }
-        _ => tell_change(text, route),
+        Command::Reconfigure { config } => tell_settings(text, config),
+        _ => Ok(()),
     }
 }
 
@@ -91,8 +88,8 @@ fn tell(text: &mut String, route: &Route) -> Result<(), AllocError> {
         Route::Delta => text.push_str("delta"),
         Route::Batch => text.push_str("batch"),
         Route::StatusPage => text.push_str("page"),
-        Route::Reconfigure(config) => tell_settings(text, config),
-        _ => tell_lease(text, route),
+        Route::One(key) => tell_key(text, "one", key),
+        Route::Do(command) => tell_command(text, command),
     }
 }
 
@@ -108,7 +105,7 @@ pub fn words(alloc: Global, route: Route) -> Result<String, AllocError> {
 /// The route of a request.
 fn route_of(alloc: Global, method: &str, path: &str, query: &str) -> Result<Route, Fault> {
     let routes = Routes::new(alloc)?;
-    let route = routes.find(alloc, method, path, query);
+    let route = routes.find(alloc, method, path, query, false);
     drop(routes);
     route
 }

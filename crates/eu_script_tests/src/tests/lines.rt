@@ -11,9 +11,9 @@ use std::cell::Cell;
 struct Lengths;
 
 impl Answerer<u64> for Lengths {
-    ghost answers = { λ _ _ _ _ _ _. Unit {0} };
+    ghost answers = { λ _ _ _ _. Unit {0} };
 
-    ghost refuses = { λ _ _ _. Unit {0} };
+    ghost refuses = { λ _ _. Unit {0} };
 
     fn answer(
         &mut self,

@@ -74,7 +74,7 @@ fn evicts<K: Label, R: Wait>(
 }
 
 /// What the bucket's worker does with so many turns.
-fn rolls<K: Label, R: Wait>(
+fn ends_minutes<K: Label, R: Wait>(
     site: &Site<'_, K, R, Always>,
     clock: &mut ListClock,
     limit: u64,
@@ -112,7 +112,7 @@ fn work_at<K: Label, R: Wait>(
     limits: Limits,
 ) -> Result<Timers, Fault> {
     let evictor = evicts(site, clock, limits.0)?;
-    let bucket = rolls(site, clock, limits.1)?;
+    let bucket = ends_minutes(site, clock, limits.1)?;
     let threshold = updates(site, clock, limits.2)?;
     Ok(Timers {
         evictor,

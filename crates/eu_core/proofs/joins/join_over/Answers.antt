@@ -10,7 +10,7 @@ pub returns-clause-joins : goal.returns-clause-joins
 returns-clause-joins c =
     let l = c.args.held.now in
     let n = c.args.instance.now in
-    let row = c.args.known.row in
+    let row = c.args.context.row in
     let s = c.judge_statuses-statuses.ensures in
     let term = c.begun-lease.ensures ∙ ap (λ (a : Term). let b : Term = record a { up = up_after a.up c.judge_statuses-statuses.result.status c.args.moment } in b)
     (c.anew-anew.ensures ∙ ap (λ a. anew a c.args.moment n.secs) c.lease.ensures) in

@@ -12,7 +12,7 @@ returns-clause-joins c =
     let l = c.args.held.now in
     let n = c.args.newcomer.now in
     let j : Instance = record l.instance { secs = n.secs } in
-    let row = c.args.known.row in
+    let row = c.args.context.row in
     let x = c.judge_statuses-statuses.result in
     let s = c.judge_statuses-statuses.ensures in
     let own = c.instance-own.ensures in

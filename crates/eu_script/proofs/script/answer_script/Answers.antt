@@ -9,5 +9,13 @@ returns-in_err-desk-clause-runs g c =
 
 pub returns-clause-runs : goal.returns-clause-runs
 returns-clause-runs g c =
-    let a = c.in_ok-desk.ensures.leaves in
-    (a.0, a.1, (a.2.0, a.2.1, left_so c.args.config g.C.Chooser.asks c.in_ok-desk.desk c.args.chooser.now c.answer_whole.new.chooser (g.R.Source.remaining c.answer_whole.new.reader) (g.R.Source.failed c.answer_whole.new.reader) (g.W.Sink.failed c.answer_whole.new.writer) a.0 a.2.0 a.2.2))
+    let a = c.in_ok-desk.ensures.leaves in (
+      a.0,
+      a.1,
+      (
+        a.2.0,
+        a.2.1,
+        left_so c.args.config g.C.Chooser.asks c.in_ok-desk.desk c.args.chooser.now c.answer_whole.new.chooser
+            (record { read = a.0; left = g.R.Source.remaining c.answer_whole.new.reader; reader_failed = g.R.Source.failed c.answer_whole.new.reader; writer_failed = g.W.Sink.failed c.answer_whole.new.writer }) a.2.0 a.2.2,
+      ),
+    )

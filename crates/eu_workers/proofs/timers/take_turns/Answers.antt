@@ -18,7 +18,7 @@ loop-turn-preserved g c =
     record {
       asks = draws_more g.H.Chooser.asks c.args.chooser.now c.loop-turn.chooser c.ask_once-asked.new.chooser (command_of c.args.timer) c.loop-turn._turn c.now-moment.result
           (g.A.Asks.pass c.args.asker.now) (g.A.Asks.pass c.loop-turn.asker) (g.A.Asks.pass c.ask_once-asked.new.self) (g.A.Asks.pass c.end_turn.new.self) c.loop-turn.ended c.count.new.self
-          c.loop-turn.invariant.asks c.ask_once-asked.ensures.seen c.ask_once-asked.ensures.number c.end_turn.ensures.tidies c.ask_once-asked.result log tally answer c.ask_once-asked.ensures.err c.ask_once-asked.ensures.unasked counts;
+          c.loop-turn.invariant.asks c.ask_once-asked.ensures.journal_first c.ask_once-asked.ensures.number c.end_turn.ensures.tidies c.ask_once-asked.result log tally answer c.ask_once-asked.ensures.err c.ask_once-asked.ensures.unasked counts;
       each = counts.0 ∙ ap (λ n. n + 1) c.loop-turn.invariant.each;
     }
 

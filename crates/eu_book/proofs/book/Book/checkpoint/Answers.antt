@@ -1,14 +1,14 @@
 use Rattle.std.proofs.Common.{◌∙◌, ap, refl, subst, sym}
 use Rattle.eu_model.specs.State.{server_of_state}
 use Rattle.eu_book.specs.Account.{Account, IsKept, cleared}
-use Rattle.eu_book.specs.Peers.{served}
+use Rattle.eu_book.specs.Peers.{server_with}
 use Rattle.eu_book.proofs.BookLemmas.{begun, begun_plain, cleared_kept}
 use Rattle.eu_book.proofs.book.Book.checkpoint.Goals as goal
 
 pub invariant_of-self : goal.invariant_of-self
 invariant_of-self c =
     let s = c.self.inside.journal.base in
-    let a : Account = record { base = server_of_state s; first = c.self.inside.journal.first; entries = c.self.inside.journal.entries.items; state = served c.self.inside.registry c.self.inside.peers; totals = c.self.inside.totals } in
+    let a : Account = record { base = server_of_state s; first = c.self.inside.journal.first; entries = c.self.inside.journal.entries.items; state = server_with c.self.inside.registry c.self.inside.peers; totals = c.self.inside.totals } in
     let fresh = c.in_ok-next.ensures.fresh in
     let journal = c.swap.ensures.x_after ∙ c.as_mut.ensures.value in
     let base = ap (λ j. j.base) journal ∙ c.in_ok-next.ensures.base in
@@ -20,7 +20,7 @@ invariant_of-self c =
 pub returns-clause-ok : goal.returns-clause-ok
 returns-clause-ok c =
     let s = c.self.inside.journal.base in
-    let a : Account = record { base = server_of_state s; first = c.self.inside.journal.first; entries = c.self.inside.journal.entries.items; state = served c.self.inside.registry c.self.inside.peers; totals = c.self.inside.totals } in
+    let a : Account = record { base = server_of_state s; first = c.self.inside.journal.first; entries = c.self.inside.journal.entries.items; state = server_with c.self.inside.registry c.self.inside.peers; totals = c.self.inside.totals } in
     let fresh = c.in_ok-next.ensures.fresh in
     let journal = c.swap.ensures.x_after ∙ c.as_mut.ensures.value in
     let base = ap (λ j. j.base) journal ∙ c.in_ok-next.ensures.base in

@@ -6,7 +6,7 @@ use Rattle.eu_model.specs.Answers.{ServerAnswers}
 use Rattle.eu_model.specs.State.{server_of_state}
 use Rattle.eu_book.specs.Account.{Account, Applies, IsKept, Refuses, entry, grown, known_fault, ready}
 use Rattle.eu_base.specs.declared.faults.Fault.TheVariants.{OutOfMemory}
-use Rattle.eu_book.specs.Peers.{served}
+use Rattle.eu_book.specs.Peers.{server_with}
 use Rattle.eu_book.specs.Checkpoint.{entries_by}
 use Rattle.eu_book.proofs.BookLemmas.{sums_fit, kept_entered, entered, entered_plain, is_refused}
 use Rattle.eu_book.proofs.book.Book.enter.Goals as goal
@@ -16,19 +16,19 @@ note-requires-clause-steps g c = omega (arith, c.self.invariant.1.steps)
 
 pub note-requires-clause-counted : goal.note-requires-clause-counted
 note-requires-clause-counted g c =
-    omega (arith, (sums_fit _ c.self.invariant.1 c.args.command c.args.moment c.in-Ok.accepted.answered.reply (served c.answer.new.registry c.answer.new.peers) c.in-Ok.ensures.answers).0)
+    omega (arith, (sums_fit _ c.self.invariant.1 c.args.command c.args.moment c.in-Ok.accepted.answered.reply (server_with c.answer.new.registry c.answer.new.peers) c.in-Ok.ensures.answers).0)
 
 pub note-requires-clause-added : goal.note-requires-clause-added
 note-requires-clause-added g c =
-    omega (arith, (sums_fit _ c.self.invariant.1 c.args.command c.args.moment c.in-Ok.accepted.answered.reply (served c.answer.new.registry c.answer.new.peers) c.in-Ok.ensures.answers).1)
+    omega (arith, (sums_fit _ c.self.invariant.1 c.args.command c.args.moment c.in-Ok.accepted.answered.reply (server_with c.answer.new.registry c.answer.new.peers) c.in-Ok.ensures.answers).1)
 
 pub note-requires-clause-removed : goal.note-requires-clause-removed
 note-requires-clause-removed g c =
-    omega (arith, (sums_fit _ c.self.invariant.1 c.args.command c.args.moment c.in-Ok.accepted.answered.reply (served c.answer.new.registry c.answer.new.peers) c.in-Ok.ensures.answers).2)
+    omega (arith, (sums_fit _ c.self.invariant.1 c.args.command c.args.moment c.in-Ok.accepted.answered.reply (server_with c.answer.new.registry c.answer.new.peers) c.in-Ok.ensures.answers).2)
 
 pub returns-in-Err-clause-refused : goal.returns-in-Err-clause-refused
 returns-in-Err-clause-refused g c =
-    let state = served c.self.inside.registry c.self.inside.peers in
+    let state = server_with c.self.inside.registry c.self.inside.peers in
     let a : Account = record { base = server_of_state c.self.inside.journal.base; first = c.self.inside.journal.first; entries = c.self.inside.journal.entries.items; state = state; totals = c.self.inside.totals } in
     subst (λ x. Refuses x c.args.command c.args.moment c.in-Err.fault) c.self.view_is (is_refused a c.args.command c.args.moment c.in-Err.fault c.in-Err.ensures.refused)
 
@@ -39,9 +39,9 @@ returns-in-Err-clause-memory g c =
 pub invariant_of-self : goal.invariant_of-self
 invariant_of-self g c =
     let s = c.self.inside.journal.base in
-    let a : Account = record { base = server_of_state s; first = c.self.inside.journal.first; entries = c.self.inside.journal.entries.items; state = served c.self.inside.registry c.self.inside.peers; totals = c.self.inside.totals } in
+    let a : Account = record { base = server_of_state s; first = c.self.inside.journal.first; entries = c.self.inside.journal.entries.items; state = server_with c.self.inside.registry c.self.inside.peers; totals = c.self.inside.totals } in
     let kept = c.self.invariant.1 in
-    let new = served c.answer.new.registry c.answer.new.peers in
+    let new = server_with c.answer.new.registry c.answer.new.peers in
     let reply = c.in-Ok.accepted.answered.reply in
     let e = entry c.args.pass a.totals.steps c.args.command c.args.moment reply in
     let next = option_map (λ j. j.value.base) c.in-Ok.accepted.renewal in
@@ -54,9 +54,9 @@ invariant_of-self g c =
 pub returns-in-Ok-clause-applied : goal.returns-in-Ok-clause-applied
 returns-in-Ok-clause-applied g c =
     let s = c.self.inside.journal.base in
-    let a : Account = record { base = server_of_state s; first = c.self.inside.journal.first; entries = c.self.inside.journal.entries.items; state = served c.self.inside.registry c.self.inside.peers; totals = c.self.inside.totals } in
+    let a : Account = record { base = server_of_state s; first = c.self.inside.journal.first; entries = c.self.inside.journal.entries.items; state = server_with c.self.inside.registry c.self.inside.peers; totals = c.self.inside.totals } in
     let kept = c.self.invariant.1 in
-    let new = served c.answer.new.registry c.answer.new.peers in
+    let new = server_with c.answer.new.registry c.answer.new.peers in
     let reply = c.in-Ok.accepted.answered.reply in
     let e = entry c.args.pass a.totals.steps c.args.command c.args.moment reply in
     let next = option_map (λ j. j.value.base) c.in-Ok.accepted.renewal in

@@ -2,7 +2,7 @@
 ghost use Rattle.std.specs.Prelude.{◌≡◌, ◌==◌, ◌+◌, ◌≤◌, ◌<◌, ◌↔◌, ◌&&◌, ◌∷◌, ◌++◌, [], not, drop, take, filter, length, map, option_to_list, true, false, nat_le, if◌then◌else◌, Some, None, IfNone, IfOk, OnOk, IsTrue};
 ghost use Rattle.std.specs.VecDeque.{deque_len};
 ghost use Rattle.eu_base.specs.Values.{same_name};
-ghost use Rattle.eu_model.specs.Server.{again, all_answered, answered, bounded, live, put, waits};
+ghost use Rattle.eu_model.specs.Server.{again, after_codes, after_code, bounded, live, put, waits};
 ghost use Rattle.eu_audit_queue.specs.PlainQueue.{are_apart};
 ghost use Rattle.eu_audit_queue.specs.Names.{AreNoted, name_of};
 
@@ -225,7 +225,7 @@ impl Waiting {
         codes: &[u16],
         moment: Moment,
     ) -> Result<(), AllocError>
-        ensures { OnOk result (self.new ≡ all_answered moment batch.now codes.now self.old) }
+        ensures { OnOk result (self.new ≡ after_codes moment batch.now codes.now self.old) }
     {
         let mut codes = codes.iter();
         for task in batch {
@@ -246,7 +246,7 @@ impl Waiting {
         code: u16,
         moment: Moment,
     ) -> Result<(), AllocError>
-        ensures { OnOk result (self.new ≡ answered moment task.now code self.old) }
+        ensures { OnOk result (self.new ≡ after_code moment task.now code self.old) }
     {
         if !matches!(task.action, Action::Heartbeat) || code != NOT_FOUND {
             return Ok(());

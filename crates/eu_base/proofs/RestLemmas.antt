@@ -1,12 +1,11 @@
--- Members that are cloned are the same tree
-use Rattle.std.proofs.Common.{◌≡◌, List, [], ◌∷◌, refl, String, Global, string_bytes}
-use Rattle.std.specs.List.{AllZip}
-use Rattle.serde_json.specs.Data.{member}
-use Rattle.serde_json.specs.View.{view, members_view}
-use Rattle.serde_json.specs.declared.value.Value.{Value}
+-- Members that are kept
+use Rattle.std.proofs.Common.{◌≡◌, true, is_some}
+use Rattle.serde_json.specs.Data.{Data}
+use Rattle.serde_json.specs.Find.{as_object}
+use Rattle.serde_json.specs.Read.{max_depth}
+use Rattle.eu_text.specs.Fit.{is_fit}
+use Rattle.eu_text.proofs.ReadLemmas.{has_no_float}
+use Rattle.eu_base.specs.Rest.{IsRest}
 
-pub cloned : (es fs : List (String Global × Value)) → AllZip (λ p q. (string_bytes q.0 ≡ string_bytes p.0) × (view q.1 ≡ view p.1)) es fs → members_view fs ≡ members_view es
-cloned [] [] h = refl
-cloned [] (f ∷ fs) h = absurd h
-cloned (e ∷ es) [] h = absurd h
-cloned (e ∷ es) (f ∷ fs) h = let rest = cloned es fs h.1 in λ i. member (h.0.0 i) (h.0.1 i) (rest i)
+pub is_rest : (d : Data) → is_some (as_object d) ≡ true → is_fit d ≡ true → IsRest d
+is_rest d object fit = record { members = object; whole = has_no_float max_depth d fit; fit = fit }

@@ -1,7 +1,7 @@
 pub mod Fault
 pub mod Name
 pub mod Values
-pub mod Tree
+pub mod Digits
 pub mod Rest
 pub mod Members
 pub mod Limits

@@ -7,11 +7,13 @@ use Rattle.serde_json.specs.Find.{as_object}
 use Rattle.serde_json.specs.View.{view}
 use Rattle.serde_json.specs.Written.{has_float}
 use Rattle.serde_json.specs.declared.value.Value.{Value}
+use Rattle.eu_text.specs.Fit.{is_fit}
 
--- an object, whose numbers are all whole
+-- an object whose numbers are all whole, which nests no deeper than JSON that is read, and whose members are in order, as in all that is read
 pub record IsRest (d : Data) : Type 0 where
   pub members : is_some (as_object d) ≡ true
   pub whole : has_float d ≡ false
+  pub fit : is_fit d ≡ true
 
 -- a data center of the client's own
 abbrev pub center_of_host : Data

@@ -2,7 +2,9 @@
 #![tactic(auto)]
 
 mod boxed;
+mod digits;
 mod faults;
+mod hosts;
 mod instances;
 mod items;
 mod limits;
@@ -13,9 +15,9 @@ mod settings;
 mod statuses;
 mod tasks;
 mod times;
-mod trees;
 
 pub use boxed::BoxedInstance;
+pub use digits::read_digits;
 pub use faults::Fault;
 pub use instances::Instance;
 pub use items::Items;
@@ -26,7 +28,7 @@ pub use limits::{
 };
 pub use names::{App, Id, Key, Keys};
 pub use order::keys_are_ordered;
-pub use rest::{Rest, has_fraction};
+pub use rest::Rest;
 pub use settings::{Config, ExpectedRenewalSecs, Percent};
 pub use statuses::Status;
 pub use tasks::{Action, Codes, Task, TaskName, Tasks};

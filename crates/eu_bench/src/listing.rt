@@ -1,5 +1,5 @@
 //! Listings of many instances.
-ghost use Rattle.std.specs.Prelude.{◌≡◌, List, IfOk, string_bytes};
+ghost use Rattle.std.specs.Prelude.{◌≡◌, List, IfOk};
 ghost use Rattle.serde_json.specs.Written.{compact_text};
 ghost use Rattle.eu_json.specs.Tree.{applications_tree};
 ghost use Rattle.eu_model.specs.declared.views.Listed.{Listed};
@@ -8,7 +8,7 @@ use eu_base::{
     App, Config, Fault, Id, Instance, Key, LeaseSecs, Moment, RenewalSecs, Rest, Stamp, Status,
 };
 use eu_core::Registry;
-use eu_json::applications_value;
+use eu_json::append_applications;
 use eu_model::Listed;
 use std::alloc::Global;
 
@@ -57,18 +57,17 @@ fn listed(alloc: Global, count: u32) -> Result<Vec<Listed>, Fault> {
 }
 
 /// The JSON of a listing.
-fn text_of(alloc: Global, held: &[Listed]) -> Result<String, Fault>
-    ensures { IfOk result (λ text. string_bytes text ≡ compact_text (applications_tree held.now)) }
+fn text_of(alloc: Global, held: &[Listed]) -> Result<Vec<u8>, Fault>
+    ensures { IfOk result (λ text. text.items ≡ compact_text (applications_tree held.now)) }
 {
-    let value = applications_value(alloc, held)?;
-    let text = value.to_string(alloc)?;
-    drop(value);
+    let mut text = Vec::new(alloc);
+    append_applications(alloc, &mut text, held)?;
     Ok(text)
 }
 
 /// The JSON of a registry that holds so many instances. `Full` where they are more than a registry holds; `OutOfMemory`.
-pub fn listing_text(alloc: Global, count: u32) -> Result<String, Fault>
-    ensures { IfOk result (λ text. (held : List Listed) × (string_bytes text ≡ compact_text (applications_tree held))) }
+pub fn listing_text(alloc: Global, count: u32) -> Result<Vec<u8>, Fault>
+    ensures { IfOk result (λ text. (held : List Listed) × (text.items ≡ compact_text (applications_tree held))) }
 {
     let held = listed(alloc, count)?;
     let text = text_of(alloc, held.as_slice());

@@ -5,9 +5,9 @@ use crate::heartbeats::count_routed;
 use crate::listing::listing_text;
 use crate::pieces::{Pieces, Totals, count_requests};
 use eu_base::Fault;
-use std::io;
 use std::sync::Wait;
 use std::thread::Threads;
+use std::{io, str};
 
 /// Prints what the reading of requests came to.
 pub fn print_totals(rt: &impl Print, totals: Result<Totals, Fault>) -> io::Result<()> {
@@ -44,7 +44,8 @@ fn print_pieces<R: Print + AllocGlobal>(rt: &R, text: &[u8]) -> anyhow::Result<(
 /// Listings of no instance and of one.
 fn print_listings<R: Print + AllocGlobal>(rt: &R) -> anyhow::Result<()> {
     for count in [0, 1] {
-        let text = listing_text(rt.alloc(), count)?;
+        let bytes = listing_text(rt.alloc(), count)?;
+        let text = str::from_utf8(bytes.as_slice()).unwrap_or("not UTF-8");
         println!(rt; "{text}")?;
     }
     Ok(())

@@ -9,7 +9,7 @@ ghost use Rattle.eu_core.specs.Answered.{for_log};
 ghost use Rattle.eu_book.specs.Checkpoint.{IsJournal, IsRetired};
 ghost use Rattle.eu_book.specs.Peers.{server_with, state_of};
 
-use crate::checkpoint::{begin, plain};
+use crate::checkpoint::{begin, plain_state};
 use crate::entering::{answer, note};
 use crate::journal::{Journal, Logged};
 use crate::peers::Peers;
@@ -110,7 +110,7 @@ impl Book {
         })
     }
 
-    /// Tells the registry a command at a moment. `pass` is the number of who asks: it is only noted in the entry.
+    /// Puts a command to the registry at a moment. `pass` is the number of who asks: it is only noted in the entry.
     ///
     /// The registry answers as the call does that the command names (`Registry`), and the command with its reply is one entry
     /// more of the journal. Only an eviction asks the chooser.
@@ -171,7 +171,7 @@ impl Book {
         }
     }
 
-    /// Tells the registry a command, and enters it in the journal; gives its reply once more for a log, where one `logs` it.
+    /// Puts a command to the registry, and enters it in the journal; gives its reply once more for a log, where one `logs` it.
     fn enter<C: Chooser>(
         &mut self,
         alloc: Global,
@@ -244,6 +244,7 @@ impl Book {
             Query::OfApp(app) => View::OfApp(Listing::new(self.registry.list(alloc, Some(app))?)),
             Query::All => View::All(Listing::new(self.registry.list(alloc, None)?)),
             Query::Counts => View::Counts(self.registry.counts()),
+            Query::Page => View::Page(self.registry.counts(), self.registry.status_counts()),
         })
     }
 
@@ -293,7 +294,7 @@ impl Book {
     pub fn state(&self, alloc: Global) -> Result<State, AllocError>
         ensures { IfOk result (λ s. s ≡ state_of self.now.state) }
     {
-        plain(alloc, &self.registry, &self.peers)
+        plain_state(alloc, &self.registry, &self.peers)
     }
 }
 

@@ -14,7 +14,11 @@ use std::alloc::{AllocError, Global};
 use std::mem;
 
 /// A registry and what waits for its peers, as plain data.
-pub(crate) fn plain(alloc: Global, registry: &Registry, peers: &Peers) -> Result<State, AllocError>
+pub(crate) fn plain_state(
+    alloc: Global,
+    registry: &Registry,
+    peers: &Peers,
+) -> Result<State, AllocError>
     ensures { IfOk result (λ s. s ≡ state_of (server_with registry.now peers.now)) }
 {
     let mut state = registry.plain(alloc)?;
@@ -34,7 +38,7 @@ pub(crate) fn begin(
     ensures fresh { IfOk result (λ j. BeginsAt steps j.value) }
 {
     let entries = Vec::with_capacity(alloc, MOST_ENTRIES)?;
-    let base = plain(alloc, registry, peers)?;
+    let base = plain_state(alloc, registry, peers)?;
     Ok(Box::new(
         alloc,
         Journal {

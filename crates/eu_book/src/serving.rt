@@ -12,7 +12,7 @@ use crate::peers::Peers;
 use crate::tasks::told_key;
 use eu_base::{Fault, Key, Moment};
 use eu_clock::Chooser;
-use eu_core::{Answered, Registry, Stepped, plain};
+use eu_core::{Answered, Registry, Stepped, owning_nothing};
 use eu_model::{Command, Reply};
 use std::alloc::{AllocError, Global};
 
@@ -37,11 +37,11 @@ pub(crate) fn serve<C: Chooser>(
         Command::Drain { peer } => peers.drain(alloc, *peer, moment, logs),
         Command::Landed { peer, codes } => {
             peers.landed(*peer, codes, moment)?;
-            Ok(plain(alloc, Reply::Settled, logs))
+            Ok(owning_nothing(alloc, Reply::Settled, logs))
         }
         Command::Lost { peer } => {
             peers.lost(*peer, moment)?;
-            Ok(plain(alloc, Reply::Settled, logs))
+            Ok(owning_nothing(alloc, Reply::Settled, logs))
         }
         command => match key_told(command, peers) {
             Some(key) => {

@@ -1,10 +1,11 @@
 -- What a look at a lease gives, and what is listed, is what the machine shows
 use Rattle.std.proofs.Common.{◌≡◌, ℕ, Bool, true, false, List, Result, Ok, Err, IfOk, sym, ap, ◌∙◌}
 use Rattle.std.specs.Prelude.{cond, ◌&&◌, Option, Some, None}
+use Rattle.eu_model.specs.declared.status_counts.StatusCounts.{StatusCounts}
 use Rattle.eu_base.specs.declared.names.Key.{Key}
 use Rattle.eu_model.specs.declared.views.Listed.{Listed}
 use Rattle.eu_model.specs.Plain.{Plain}
-use Rattle.eu_model.specs.View.{one, listing}
+use Rattle.eu_model.specs.View.{one, listing, status_counts}
 use Rattle.eu_model.specs.Answers.{Shows}
 use Rattle.eu_model.specs.PlainSteps.{plain_expired, plain_listing, plain_one, plain_seen}
 use Rattle.eu_model.proofs.SeenLemmas.{one-kept}
@@ -27,3 +28,7 @@ pub lists : {V E : Type 0} (app : Option (List ℕ)) (a : Inside) (p : Plain) �
     → IfOk r (λ v. items v ≡ listing_of app a.leases.held) → IfOk r (λ v. Shows p (listing app) (items v))
 lists app a p is items (Ok v) listed = λ s e. listed ∙ ap (plain_listing app) is ∙ listing_shown app p s e
 lists app a p is items (Err f) listed = tt
+
+-- and so are the counts by status
+pub counts_by_status : (a : Inside) (p : Plain) → plain_of a ≡ p → (value : StatusCounts) → value ≡ status_counts (listing_of None a.leases.held) → Shows p (λ s. status_counts (listing None s)) value
+counts_by_status a p is value counted = λ s e. counted ∙ ap (λ (q : Plain). status_counts (plain_listing None q)) is ∙ ap status_counts (listing_shown None p s e)

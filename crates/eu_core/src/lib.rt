@@ -10,5 +10,5 @@ mod statuses;
 mod step;
 
 pub use registry::Registry;
-pub use replies::{Answered, plain, replies_for, split};
+pub use replies::{Answered, owning_nothing, replies_for, split};
 pub use step::Stepped;

@@ -7,7 +7,7 @@ ghost use Rattle.eu_model.specs.Change.{one_more};
 ghost use Rattle.eu_model.specs.Machine.{opening, is_permitted};
 ghost use Rattle.eu_model.specs.Plain.{plain};
 ghost use Rattle.eu_model.specs.Answers.{Answers, Shows};
-ghost use Rattle.eu_model.specs.View.{counts, one, listing};
+ghost use Rattle.eu_model.specs.View.{counts, one, listing, status_counts};
 ghost use Rattle.eu_model.specs.PlainSteps.{plain_join_fault, plain_seen};
 ghost use Rattle.eu_model.specs.Step.{extra_time};
 ghost use Rattle.eu_core.specs.Decided.{count_fault, counted, left, Decides, IsFrugal, IsReady};
@@ -25,7 +25,7 @@ use eu_base::{
 use eu_clock::Chooser;
 use eu_eviction::{Eviction, Overrides, run_eviction};
 use eu_lease::{Rate, Threshold};
-use eu_model::{Command, Counts, Listed, Listing, Queues, Reply, State, Times};
+use eu_model::{Command, Counts, Listed, Listing, Queues, Reply, State, StatusCounts, Times};
 use eu_store::{HeldLease, Leases, Place};
 use std::alloc::{AllocError, Global};
 use std::marker::Model;
@@ -86,6 +86,13 @@ impl Registry {
             permitted: self.threshold.permitted(last),
             preservation: self.threshold.config().preservation,
         }
+    }
+
+    /// How many leases are held of each status, expired or not. Takes no memory, and looks at no lease.
+    pub fn status_counts(&self) -> StatusCounts
+        ensures { Shows self.now (λ s. status_counts (listing None s)) result }
+    {
+        self.leases.status_counts()
     }
 
     /// Registers an instance: a new lease begins at the moment (`AbstractInstanceRegistry.register` in Eureka).
@@ -187,7 +194,9 @@ impl Registry {
         ensures err { OnErr result (self.new ≡ self.old) }
     {
         let (place, held, row) = self.find(key);
-        let Decision { change, reply } = self.status(key, held, row, status, last_dirty, moment);
+        let Decision { change, reply } = self.status_setting(
+            key, held, row, status, last_dirty, moment,
+        );
         self.carry_out(alloc, key, place, row, change)?;
         Ok(reply)
     }
@@ -209,7 +218,9 @@ impl Registry {
         ensures { (replicated : Bool) → Answers self.old (Command.UnsetStatus key.now status last_dirty replicated) moment (Ok result) self.new }
     {
         let (place, held, row) = self.find(key);
-        let Decision { change, reply } = self.no_status(key, held, row, status, last_dirty, moment);
+        let Decision { change, reply } = self.status_unsetting(
+            key, held, row, status, last_dirty, moment,
+        );
         self.carry_out_in_place(key, place, row, change);
         reply
     }
@@ -493,7 +504,7 @@ impl Registry {
     }
 
     /// What a status that is set does to the lease of that key, where that is held and its id has that row.
-    pub(crate) fn status(
+    pub(crate) fn status_setting(
         &self,
         key: &Key,
         held: Option<&HeldLease>,
@@ -511,7 +522,7 @@ impl Registry {
     }
 
     /// What a status that is taken back does to the lease of that key, where that is held and its id has that row.
-    pub(crate) fn no_status(
+    pub(crate) fn status_unsetting(
         &self,
         key: &Key,
         held: Option<&HeldLease>,

@@ -47,7 +47,7 @@ pub fn split<R: Drop>(mut replies: Vec<R>, logs: bool) -> Answered<R>
 }
 
 /// A reply that owns no memory, for each of its uses. Takes none.
-pub fn plain(alloc: Global, reply: Reply, logs: bool) -> Answered<Reply>
+pub fn owning_nothing(alloc: Global, reply: Reply, logs: bool) -> Answered<Reply>
     requires { owns_nothing reply ≡ true }
     ensures { result ≡ answered logs reply }
 {

@@ -13,7 +13,7 @@ ghost use Rattle.eu_core.specs.Stepped.{Acts, Steps};
 
 use crate::decision::Decision;
 use crate::registry::Registry;
-use crate::replies::{Answered, copies_left, for_log, plain, replies_for, split};
+use crate::replies::{Answered, copies_left, for_log, owning_nothing, replies_for, split};
 use eu_base::{Config, Fault, Instance, Key, Moment, Status};
 use eu_clock::Chooser;
 use eu_model::{Command, Reply};
@@ -55,7 +55,7 @@ impl Registry {
         ensures unasked { OnErr result (chooser.new ≡ chooser.old) }
     {
         let Some(key) = key_of(command) else {
-            return self.step_by_timer(alloc, command, moment, logs, chooser);
+            return self.step_on_no_lease(alloc, command, moment, logs, chooser);
         };
         let (place, found, row) = self.find(key);
         let decision = self.decide(alloc, command, key, found, row, moment)?;
@@ -75,7 +75,7 @@ impl Registry {
     }
 
     /// The step of a command that is on no lease.
-    fn step_by_timer<C: Chooser>(
+    fn step_on_no_lease<C: Chooser>(
         &mut self,
         alloc: Global,
         command: &Command,
@@ -139,12 +139,12 @@ impl Registry {
                 status,
                 last_dirty,
                 ..
-            } => Ok(self.status(key, held, row, *status, *last_dirty, moment)),
+            } => Ok(self.status_setting(key, held, row, *status, *last_dirty, moment)),
             Command::UnsetStatus {
                 status,
                 last_dirty,
                 ..
-            } => Ok(self.no_status(key, held, row, *status, *last_dirty, moment)),
+            } => Ok(self.status_unsetting(key, held, row, *status, *last_dirty, moment)),
             Command::Adopt { instance } => self.adoption(alloc, instance, held, row, moment),
             _ => unreachable!(),
         }
@@ -198,7 +198,7 @@ fn on_no_lease(alloc: Global, reply: Reply, logs: bool) -> Stepped
     ensures held { result.held.items ≡ [] }
 {
     Stepped {
-        answered: plain(alloc, reply, logs),
+        answered: owning_nothing(alloc, reply, logs),
         held: Vec::new(alloc),
     }
 }

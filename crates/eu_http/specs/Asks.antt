@@ -47,10 +47,6 @@ change c = Some (record { wanted = wanted.Change; asks = Do c ∷ [] })
 abbrev pub batch_asks : ℕ → List ℕ → Result (Option Wants) Fault
 batch_asks moment body = batch_in moment body >>= λ commands. Ok (Some (record { wanted = wanted.Batch; asks = map (λ c. Do c) commands }))
 
--- what a status page shows
-abbrev pub for_page : Option Wants
-for_page = Some (record { wanted = wanted.Page; asks = See query.Counts ∷ See query.All ∷ [] })
-
 -- what is asked for a route, by a body at a moment; nothing, where it is forbidden. A peer sends every command of a batch, whatever the request says
 abbrev pub asks_for : Route → Bool → List ℕ → ℕ → Result (Option Wants) Fault
 asks_for (route.Register app) replicated body moment = registration app replicated body moment >>= λ c. Ok (change c)
@@ -60,7 +56,7 @@ asks_for route.All replicated body moment = Ok (Some (record { wanted = wanted.A
 asks_for (route.OfApp app) replicated body moment = Ok (Some (record { wanted = wanted.OfApp; asks = See (query.OfApp app) ∷ [] }))
 asks_for (route.One key) replicated body moment = Ok (Some (record { wanted = wanted.One; asks = See (query.One key) ∷ [] }))
 asks_for route.Delta replicated body moment = Ok None
-asks_for route.StatusPage replicated body moment = Ok for_page
+asks_for route.StatusPage replicated body moment = Ok (Some (record { wanted = wanted.Page; asks = See query.Page ∷ [] }))
 
 -- what a request asks at a moment, or its first fault
 abbrev pub asks_of : Request → ℕ → Result (Option Wants) Fault

@@ -1,5 +1,5 @@
 -- Responses: their text, and what is answered for what came of a request
-use Rattle.std.specs.Prelude.{ℕ, Bool, List, [], ◌++◌, length, codes, if◌then◌else◌, ◌==◌, ◌∷◌, map, Option, Some, None, Result, Ok, Err, string_bytes}
+use Rattle.std.specs.Prelude.{ℕ, Bool, List, [], ◌++◌, drop, length, codes, if◌then◌else◌, ◌==◌, ◌∷◌, map, Option, Some, None, Result, Ok, Err, string_bytes}
 use Rattle.std.specs.Fmt.{decimal}
 use Rattle.http.specs.StatusCode.{status_text}
 use Rattle.serde_json.specs.Written.{compact_text}
@@ -7,6 +7,7 @@ use Rattle.eu_base.specs.declared.faults.Fault.{Fault}
 use Rattle.eu_base.specs.Fault.{fault_number}
 use Rattle.eu_base.specs.declared.instances.Instance.{Instance}
 use Rattle.eu_model.specs.declared.commands.Reply.{Reply}
+use Rattle.eu_model.specs.declared.status_counts.StatusCounts.{StatusCounts}
 use Rattle.eu_model.specs.declared.views.Counts.{Counts}
 use Rattle.eu_model.specs.declared.views.Listed.{Listed}
 use Rattle.eu_json.specs.Batch.{answers_tree}
@@ -61,18 +62,22 @@ type_line (Json text) = line (codes "Content-Type: application/json")
 type_line (Plain text) = line (codes "Content-Type: text/plain; charset=utf-8")
 
 -- how many bytes it has; 204 never has any and says none (RFC 9110, section 8.6)
-abbrev pub length_line : ℕ → List ℕ → List ℕ
-length_line status text = if status == 204 then [] else line (codes "Content-Length: " ++ decimal (length text))
+abbrev pub length_line : ℕ → ℕ → List ℕ
+length_line status len = if status == 204 then [] else line (codes "Content-Length: " ++ decimal len)
 
 -- no request follows on the connection (RFC 9112, section 9.6)
 abbrev pub close_line : Bool → List ℕ
 close_line close = if close then line (codes "Connection: close") else []
 
--- the status line, the fields, an empty line and the content
-abbrev pub print : Response → Bool → List ℕ
-print r close =
+-- the status line, the fields and an empty line
+abbrev pub head : Response → Bool → List ℕ
+head r close =
     line (codes "HTTP/1.1 " ++ status_text r.status)
-    ++ (type_line r.content ++ (length_line r.status (text_of r.content) ++ (close_line close ++ (line [] ++ text_of r.content))))
+    ++ (type_line r.content ++ (length_line r.status (length (text_of r.content)) ++ (close_line close ++ line [])))
+
+-- the head and the content
+abbrev pub print : Response → Bool → List ℕ
+print r close = head r close ++ text_of r.content
 
 -- ---- what a request is answered
 
@@ -166,8 +171,8 @@ abbrev pub all : List Listed → Response
 all ls = record { status = 200; content = Json (compact_text (applications_tree ls)) }
 
 -- the status page
-unfoldable pub page : Counts → List Listed → Response
-page c ls = record { status = 200; content = Plain (shown_page c ls) }
+unfoldable pub page : Counts → StatusCounts → Response
+page c statuses = record { status = 200; content = Plain (shown_page c statuses) }
 
 -- ---- answers
 
@@ -191,12 +196,8 @@ abbrev pub told_all : List (Result Answer Fault) → Response
 told_all (Ok (Saw (seen.All ls)) ∷ []) = all ls
 told_all other = not_found
 
-abbrev pub told_counts : Counts → List (Result Answer Fault) → Response
-told_counts c (Ok (Saw (seen.All ls)) ∷ []) = page c ls
-told_counts c other = not_found
-
 abbrev pub told_page : List (Result Answer Fault) → Response
-told_page (Ok (Saw (seen.Counts c)) ∷ answers) = told_counts c answers
+told_page (Ok (Saw (seen.Page c statuses)) ∷ []) = page c statuses
 told_page other = not_found
 
 abbrev pub answered : Wanted → List (Result Answer Fault) → Response
@@ -236,10 +237,14 @@ response_to (Answers wanted answers) = response_with wanted answers.items
 abbrev pub response : Outcome → Bool → List ℕ
 response outcome close = print (response_to outcome) close
 
+-- how many bytes are left free before a content, for the head of its response
+abbrev pub head_room : ℕ
+head_room = 128
+
 -- a response as it is made
 abbrev pub content_of : Made → Content
 content_of made.Nothing = Nothing
-content_of (made.Json text) = Json (string_bytes text)
+content_of (made.Json bytes) = Json (drop head_room bytes.items)
 content_of (made.Plain text) = Plain (string_bytes text)
 
 abbrev pub response_of : Draft → Response

@@ -6,10 +6,10 @@ use crate::exchange::Outcome;
 use crate::response::{
     Response, all, bare, batch, did, item_of, of_app, one, page, refused, telling,
 };
-use crate::text::print;
+use crate::text::{ResponseBytes, print};
 use crate::wanted::Wanted;
 use eu_base::Fault;
-use eu_model::{Answer, Counts, View};
+use eu_model::{Answer, View};
 use http::StatusCode;
 use std::alloc::{AllocError, Global};
 
@@ -76,26 +76,12 @@ fn told_all(alloc: Global, answers: &[Result<Answer, Fault>]) -> Result<Response
     }
 }
 
-/// The response for these counts and the view of all that is held.
-fn told_counts(
-    alloc: Global,
-    counts: &Counts,
-    answers: &[Result<Answer, Fault>],
-) -> Result<Response, AllocError>
-    ensures { IfOk result (λ r. spec.response_of r ≡ spec.told_counts counts.now answers.now) }
-{
-    match answers {
-        [Ok(Answer::Saw(View::All(held)))] => page(alloc, counts, held.as_slice()),
-        _ => Ok(bare(StatusCode::NOT_FOUND)),
-    }
-}
-
-/// The response for the views that a status page shows.
+/// The response for the view of a status page.
 fn told_page(alloc: Global, answers: &[Result<Answer, Fault>]) -> Result<Response, AllocError>
     ensures { IfOk result (λ r. spec.response_of r ≡ spec.told_page answers.now) }
 {
     match answers {
-        [Ok(Answer::Saw(View::Counts(counts))), rest @ ..] => told_counts(alloc, counts, rest),
+        [Ok(Answer::Saw(View::Page(counts, statuses)))] => page(alloc, counts, statuses),
         _ => Ok(bare(StatusCode::NOT_FOUND)),
     }
 }
@@ -162,10 +148,9 @@ fn response_to(alloc: Global, outcome: &Outcome) -> Result<Response, AllocError>
 /// command 404. Any other request that the registry refuses is 503 itself.
 ///
 /// Statuses and contents are those of `docs/FORMATS.md`. `AllocError` where no memory is left.
-pub fn answer(alloc: Global, outcome: &Outcome, close: bool) -> Result<Vec<u8>, AllocError>
-    ensures { IfOk result (λ bytes. bytes.items ≡ spec.response outcome.now close) }
+pub fn answer(alloc: Global, outcome: &Outcome, close: bool) -> Result<ResponseBytes, AllocError>
+    ensures { IfOk result (λ bytes. bytes ≡ spec.response outcome.now close) }
 {
     let response = response_to(alloc, outcome)?;
-    let text = print(alloc, &response, close)?;
-    Ok(text.into_bytes())
+    print(alloc, response, close)
 }

@@ -14,4 +14,5 @@ mod wanted;
 pub use answers::answer;
 pub use exchange::{Asked, Outcome};
 pub use requests::asks;
+pub use text::ResponseBytes;
 pub use wanted::Wanted;

@@ -79,19 +79,6 @@ fn just(alloc: Global, wanted: Wanted, ask: Ask) -> Result<Asked, AllocError>
     Ok(Asked::Asks { wanted, asks })
 }
 
-/// What a status page shows.
-fn for_page(alloc: Global) -> Result<Asked, AllocError>
-    ensures { IfOk result (λ asked. spec.wants_in asked ≡ spec.for_page) }
-{
-    let mut asks = Vec::new(alloc);
-    asks.push(Ask::See(Query::Counts))?;
-    asks.push(Ask::See(Query::All))?;
-    Ok(Asked::Asks {
-        wanted: Wanted::Page,
-        asks,
-    })
-}
-
 /// What is asked for a route.
 fn asks_for(alloc: Global, route: Route, request: &Request, moment: Moment) -> Result<Asked, Fault>
     ensures { spec.Says result (spec.asks_for route request.now.replicated request.now.body.items moment) }
@@ -104,7 +91,7 @@ fn asks_for(alloc: Global, route: Route, request: &Request, moment: Moment) -> R
         Route::One(key) => return Ok(just(alloc, Wanted::One, Ask::See(Query::One(key)))?),
         Route::Delta => return Ok(Asked::Forbidden),
         Route::Batch => return batch(alloc, moment, &request.body),
-        Route::StatusPage => return Ok(for_page(alloc)?),
+        Route::StatusPage => return Ok(just(alloc, Wanted::Page, Ask::See(Query::Page))?),
     };
     Ok(just(alloc, Wanted::Change, Ask::Do(command))?)
 }

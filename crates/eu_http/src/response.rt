@@ -1,23 +1,23 @@
 //! A response, before it is written.
-ghost use Rattle.std.specs.Prelude.{◌≡◌, false, IfOk, None, option_map};
-ghost use Rattle.serde_json.specs.View.{view};
-ghost use Rattle.serde_json.specs.Written.{has_float, compact_text};
+ghost use Rattle.std.specs.Prelude.{◌≡◌, ◌++◌, ℕ, List, IfOk, None, length, option_map};
 ghost use Rattle.eu_http.specs.Response as spec;
 
 use eu_base::Fault;
-use eu_json::{ItemAnswer, application_value, applications_value, batch_answer_value, held_value};
-use eu_model::{Answer, Counts, Listed, Reply};
+use eu_json::{ItemAnswer, append_answers, append_application, append_applications, append_held};
+use eu_model::{Answer, Counts, Listed, Reply, StatusCounts};
 use eu_page::{page_of, status_page};
 use http::StatusCode;
-use serde_json::Value;
 use std::alloc::{AllocError, Global};
+
+/// How many bytes are left free before a content, for the head of its response to be written there.
+pub const HEAD_ROOM: usize = 128;
 
 /// What follows the head of a response.
 #[derive(Debug, Drop)]
 pub enum Content {
     Nothing,
-    /// The text of a JSON value.
-    Json(String),
+    /// The text of a JSON value, behind room for a head.
+    Json(Vec<u8>),
     /// Plain text.
     Plain(String),
 }
@@ -37,6 +37,23 @@ pub fn bare(status: StatusCode) -> Response
         status,
         content: Content::Nothing,
     }
+}
+
+/// Room for a head, and nothing behind it yet.
+fn with_room(alloc: Global) -> Result<Vec<u8>, AllocError>
+    ensures { IfOk result (λ bytes. length bytes.items ≡ HEAD_ROOM) }
+{
+    let mut bytes = Vec::new(alloc);
+    bytes.extend_from_slice(&[0; HEAD_ROOM])?;
+    Ok(bytes)
+}
+
+/// A response with the text of a JSON value, which stands behind room for a head.
+fn json(status: StatusCode, bytes: Vec<u8>) -> Response
+    ensures { (room text : List ℕ) → length room ≡ HEAD_ROOM → bytes.items ≡ room ++ text → spec.response_of result ≡ record { status = status; content = spec.Json text } }
+{
+    let content = Content::Json(bytes);
+    Response { status, content }
 }
 
 /// The status of a request that was refused.
@@ -76,10 +93,9 @@ pub fn telling(alloc: Global, status: StatusCode, fault: Fault) -> Result<Respon
 {
     let number = fault.number();
     let text = format!(in alloc; "{{\"fault\":{number}}}")?;
-    Ok(Response {
-        status,
-        content: Content::Json(text),
-    })
+    let mut bytes = with_room(alloc)?;
+    bytes.extend_from_slice(text.as_bytes())?;
+    Ok(json(status, bytes))
 }
 
 /// The response to a request that was refused.
@@ -92,18 +108,6 @@ pub fn refused(alloc: Global, fault: Fault) -> Result<Response, AllocError>
     }
 }
 
-/// A response with the text of a JSON value.
-fn with_json(alloc: Global, status: StatusCode, value: &Value) -> Result<Response, AllocError>
-    requires { has_float (view value.now) ≡ false }
-    ensures { IfOk result (λ r. spec.response_of r ≡ record { status = status; content = spec.Json (compact_text (view value.now)) }) }
-{
-    let text = value.to_string(alloc)?;
-    Ok(Response {
-        status,
-        content: Content::Json(text),
-    })
-}
-
 /// The response to a command.
 pub fn did(alloc: Global, reply: &Reply) -> Result<Response, AllocError>
     ensures { IfOk result (λ r. spec.response_of r ≡ spec.did reply.now) }
@@ -112,8 +116,9 @@ pub fn did(alloc: Global, reply: &Reply) -> Result<Response, AllocError>
         Reply::Registered { fresh: _ } => Ok(bare(StatusCode::NO_CONTENT)),
         Reply::Done => Ok(bare(StatusCode::OK)),
         Reply::Conflict(instance) => {
-            let value = held_value(alloc, instance, None)?;
-            with_json(alloc, StatusCode::CONFLICT, &value)
+            let mut bytes = with_room(alloc)?;
+            append_held(alloc, &mut bytes, instance, None)?;
+            Ok(json(StatusCode::CONFLICT, bytes))
         }
         _ => Ok(bare(StatusCode::NOT_FOUND)),
     }
@@ -158,8 +163,9 @@ pub fn item_of(alloc: Global, answer: &Result<Answer, Fault>) -> Result<ItemAnsw
 pub fn batch(alloc: Global, items: &[ItemAnswer]) -> Result<Response, AllocError>
     ensures { IfOk result (λ r. spec.response_of r ≡ spec.batch items.now) }
 {
-    let value = batch_answer_value(alloc, items)?;
-    with_json(alloc, StatusCode::OK, &value)
+    let mut bytes = with_room(alloc)?;
+    append_answers(alloc, &mut bytes, items)?;
+    Ok(json(StatusCode::OK, bytes))
 }
 
 /// The response of one lease, if there is one.
@@ -168,8 +174,9 @@ pub fn one(alloc: Global, seen: Option<&Listed>) -> Result<Response, AllocError>
 {
     match seen {
         Some(listed) => {
-            let value = held_value(alloc, &listed.instance, Some(listed.times))?;
-            with_json(alloc, StatusCode::OK, &value)
+            let mut bytes = with_room(alloc)?;
+            append_held(alloc, &mut bytes, &listed.instance, Some(listed.times))?;
+            Ok(json(StatusCode::OK, bytes))
         }
         None => Ok(bare(StatusCode::NOT_FOUND)),
     }
@@ -182,24 +189,26 @@ pub fn of_app(alloc: Global, held: &[Listed]) -> Result<Response, AllocError>
     if held.is_empty() {
         return Ok(bare(StatusCode::NOT_FOUND));
     }
-    let value = application_value(alloc, held)?;
-    with_json(alloc, StatusCode::OK, &value)
+    let mut bytes = with_room(alloc)?;
+    append_application(alloc, &mut bytes, held)?;
+    Ok(json(StatusCode::OK, bytes))
 }
 
 /// The response of all that is held.
 pub fn all(alloc: Global, held: &[Listed]) -> Result<Response, AllocError>
     ensures { IfOk result (λ r. spec.response_of r ≡ spec.all held.now) }
 {
-    let value = applications_value(alloc, held)?;
-    with_json(alloc, StatusCode::OK, &value)
+    let mut bytes = with_room(alloc)?;
+    append_applications(alloc, &mut bytes, held)?;
+    Ok(json(StatusCode::OK, bytes))
 }
 
 /// The response of a status page.
 #[tactic(auto, unfolding(crate::specs::Response::page))]
-pub fn page(alloc: Global, counts: &Counts, held: &[Listed]) -> Result<Response, AllocError>
-    ensures { IfOk result (λ r. spec.response_of r ≡ spec.page counts.now held.now) }
+pub fn page(alloc: Global, counts: &Counts, statuses: &StatusCounts) -> Result<Response, AllocError>
+    ensures { IfOk result (λ r. spec.response_of r ≡ spec.page counts.now statuses.now) }
 {
-    let page = page_of(alloc, counts, held)?;
+    let page = page_of(alloc, counts, statuses)?;
     let text = status_page(alloc, &page)?;
     Ok(Response {
         status: StatusCode::OK,

@@ -1,23 +1,48 @@
 //! A response as it is written.
-ghost use Rattle.std.specs.Prelude.{◌≡◌, ◌++◌, false, IfOk, IfSome, OnOk, string_bytes};
+ghost use Rattle.std.specs.Prelude.{◌≡◌, ◌≤◌, ◌++◌, false, drop, length, IfOk, IfSome, OnOk, string_bytes};
 ghost use Rattle.eu_http.specs.Response.{content_of, response_of};
 ghost use Rattle.eu_http.specs.Response as spec;
 
-use crate::response::{Content, Response};
+use crate::response::{Content, HEAD_ROOM, Response};
 use http::StatusCode;
 use std::alloc::{AllocError, Global};
+use std::marker::Model;
 
-/// As many bytes as the head of a response may have.
-const HEAD_BYTES: usize = 128;
+/// The bytes of a response.
+#[derive(Debug, Drop)]
+pub struct ResponseBytes {
+    buffer: Vec<u8>,
+    start: usize,
+}
+
+impl Model for ResponseBytes {
+    ghost use Rattle.std.specs.Prelude.{ℕ, List, ◌≤◌, drop, length};
+
+    ghost Value = { List ℕ };
+
+    ghost view = { λ r. drop r.start r.buffer.items };
+
+    ghost invariant = { λ r. r.start ≤ length r.buffer.items };
+}
+
+impl ResponseBytes {
+    /// The bytes, in order.
+    pub fn as_slice(&self) -> &[u8]
+        ensures { result.now ≡ self.now }
+    {
+        &self.buffer[self.start..]
+    }
+}
 
 impl Content {
-    fn as_str(&self) -> &str
-        ensures { result.now ≡ spec.text_of (content_of self.now) }
+    /// How many bytes it has.
+    fn len(&self) -> usize
+        ensures { result ≡ length (spec.text_of (content_of self.now)) }
     {
         match self {
-            Content::Nothing => "",
-            Content::Json(text) => text.as_str(),
-            Content::Plain(text) => text.as_str(),
+            Content::Nothing => 0,
+            Content::Json(bytes) => bytes.len().saturating_sub(HEAD_ROOM),
+            Content::Plain(text) => text.len(),
         }
     }
 }
@@ -34,13 +59,12 @@ fn push_type(text: &mut String, content: &Content) -> Result<(), AllocError>
 }
 
 /// Writes how many bytes the content has.
-fn push_length(text: &mut String, status: StatusCode, content: &str) -> Result<(), AllocError>
-    ensures { OnOk result (string_bytes text.new ≡ string_bytes text.old ++ spec.length_line status content.now) }
+fn push_length(text: &mut String, status: StatusCode, len: usize) -> Result<(), AllocError>
+    ensures { OnOk result (string_bytes text.new ≡ string_bytes text.old ++ spec.length_line status len) }
 {
     if status == StatusCode::NO_CONTENT {
         return Ok(());
     }
-    let len = content.len();
     write!(text, "Content-Length: {len}\r\n")
 }
 
@@ -55,20 +79,70 @@ fn push_close(text: &mut String, close: bool) -> Result<(), AllocError>
     }
 }
 
-/// The text of a response, put together.
-fn print_parts(alloc: Global, response: &Response, close: bool) -> Result<String, AllocError>
-    ensures { IfOk result (λ text. string_bytes text ≡ spec.print (response_of response.now) close) }
+/// The head of a response, with the empty line behind it.
+fn head(alloc: Global, response: &Response, close: bool) -> Result<String, AllocError>
+    ensures { IfOk result (λ text. string_bytes text ≡ spec.head (response_of response.now) close) }
 {
     let status = response.status;
-    let content = response.content.as_str();
-    let mut text = String::with_capacity(alloc, content.len().saturating_add(HEAD_BYTES))?;
+    let mut text = String::with_capacity(alloc, HEAD_ROOM)?;
     write!(text, "HTTP/1.1 {status}\r\n")?;
     push_type(&mut text, &response.content)?;
-    push_length(&mut text, status, content)?;
+    push_length(&mut text, status, response.content.len())?;
     push_close(&mut text, close)?;
     text.push_str("\r\n")?;
-    text.push_str(content)?;
     Ok(text)
+}
+
+/// A head and a content, one behind the other.
+fn join(alloc: Global, head: &str, content: &[u8]) -> Result<ResponseBytes, AllocError>
+    ensures { IfOk result (λ bytes. bytes ≡ head.now ++ content.now) }
+{
+    let mut buffer = Vec::with_capacity(alloc, head.len().saturating_add(content.len()))?;
+    buffer.extend_from_slice(head.as_bytes())?;
+    buffer.extend_from_slice(content)?;
+    Ok(ResponseBytes { buffer, start: 0 })
+}
+
+/// The same where room for the head was left before the content, which isn't copied.
+fn join_in_room(mut buffer: Vec<u8>, head: &str) -> ResponseBytes
+    requires head { length head.now ≤ HEAD_ROOM }
+    requires room { HEAD_ROOM ≤ length buffer.items }
+    ensures { result ≡ head.now ++ drop HEAD_ROOM buffer.items }
+{
+    let start = HEAD_ROOM - head.len();
+    buffer[start..HEAD_ROOM].copy_from_slice(head.as_bytes());
+    ResponseBytes { buffer, start }
+}
+
+/// What stands behind the room for a head.
+fn behind_room(bytes: &[u8]) -> &[u8]
+    ensures { result.now ≡ drop HEAD_ROOM bytes.now }
+{
+    if bytes.len() < HEAD_ROOM {
+        return b"";
+    }
+    &bytes[HEAD_ROOM..]
+}
+
+/// A head and the text of a JSON value, which isn't copied where the head fits in its room.
+fn join_json(alloc: Global, bytes: Vec<u8>, head: &str) -> Result<ResponseBytes, AllocError>
+    ensures { IfOk result (λ joined. joined ≡ head.now ++ drop HEAD_ROOM bytes.items) }
+{
+    if head.len() <= HEAD_ROOM && HEAD_ROOM <= bytes.len() {
+        return Ok(join_in_room(bytes, head));
+    }
+    join(alloc, head, behind_room(bytes.as_slice()))
+}
+
+/// A head and a content.
+fn join_content(alloc: Global, content: Content, head: &str) -> Result<ResponseBytes, AllocError>
+    ensures { IfOk result (λ joined. joined ≡ head.now ++ spec.text_of (content_of content)) }
+{
+    match content {
+        Content::Nothing => join(alloc, head, b""),
+        Content::Json(bytes) => join_json(alloc, bytes, head),
+        Content::Plain(text) => join(alloc, head, text.as_bytes()),
+    }
 }
 
 /// The text of a response without content, where its status is one that such responses mostly have. The connection goes on.
@@ -96,12 +170,13 @@ fn ready_text(response: &Response, close: bool) -> Option<&'static str>
     }
 }
 
-/// The text of a response. `AllocError` where no memory is left.
-pub fn print(alloc: Global, response: &Response, close: bool) -> Result<String, AllocError>
-    ensures { IfOk result (λ text. string_bytes text ≡ spec.print (response_of response.now) close) }
+/// The bytes of a response. `AllocError` where no memory is left.
+pub fn print(alloc: Global, response: Response, close: bool) -> Result<ResponseBytes, AllocError>
+    ensures { IfOk result (λ bytes. bytes ≡ spec.print (response_of response) close) }
 {
-    match ready_text(response, close) {
-        Some(text) => String::from_str(alloc, text),
-        None => print_parts(alloc, response, close),
+    if let Some(text) = ready_text(&response, close) {
+        return join(alloc, text, b"");
     }
+    let head = head(alloc, &response, close)?;
+    join_content(alloc, response.content, head.as_str())
 }

@@ -98,7 +98,7 @@ config_back c is =
     ∙ rw (le-leb c.percent 100 is.percent, le-leb 1 c.interval is.interval.0, le-leb c.interval 3600 is.interval.1) refl
 
 rest_back : (rest : Data) → IsRest rest → rest_of rest ≡ Ok rest
-rest_back rest is = rw (is.members, is.whole) refl
+rest_back rest is = rw (is.members, is.whole, is.fit) refl
 
 from_instance : (i : Instance) → IsInstance i → instance_from i.rest (instance_tree i) ≡ Ok i
 unfolding instance_from

@@ -4,6 +4,7 @@ use Rattle.std.specs.Str.{str_to_ascii_uppercase}
 use Rattle.serde_json.specs.Data.{Data}
 use Rattle.serde_json.specs.Find.{as_object}
 use Rattle.serde_json.specs.Written.{has_float}
+use Rattle.eu_text.specs.Fit.{is_fit}
 use Rattle.eu_base.specs.Values.{settings_from}
 use Rattle.eu_base.specs.declared.instances.Instance.{Instance}
 use Rattle.eu_base.specs.declared.names.Key.{Key}
@@ -52,9 +53,9 @@ times_of d = do
   updated ← number_in (codes "updated") d
   Ok (record { registered = registered; updated = updated; up = up })
 
--- a rest is an object whose numbers are whole
+-- a rest is an object whose numbers are whole, and fits, as all does that is read of a line
 abbrev pub rest_of : Data → Result Data LineFault
-rest_of d = if is_some (as_object d) && not (has_float d) then Ok d else Err NotALine
+rest_of d = if is_some (as_object d) && not (has_float d) && is_fit d then Ok d else Err NotALine
 
 unfoldable pub instance_from : Data → Data → Result Instance LineFault
 instance_from rest d = do

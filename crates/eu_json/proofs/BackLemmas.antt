@@ -62,15 +62,15 @@ app_by app filled =
 
 -- ---- the members that are set
 
-abbrev sets : Instance → List (List ℕ × Data)
+abbrev pub sets : Instance → List (List ℕ × Data)
 sets i =
     (codes "app", string i.key.app) ∷ (codes "instanceId", string i.key.id) ∷ (codes "lastDirtyTimestamp", string (decimal i.last_dirty))
     ∷ (codes "leaseInfo", lease_tree i None) ∷ (codes "overriddenStatus", string (status_name i.overridden)) ∷ (codes "status", string (status_name i.status)) ∷ []
 
-abbrev written : Instance → Members → Members
+abbrev pub written : Instance → Members → Members
 written i ms = puts (sets i) ms
 
-tree_is : (i : Instance) (ms : Members) → i.rest ≡ object ms → instance_tree i None ≡ object (written i ms)
+pub tree_is : (i : Instance) (ms : Members) → i.rest ≡ object ms → instance_tree i None ≡ object (written i ms)
 tree_is i ms is = ap (λ d. instance_tree (record i { rest = d }) None) is
 
 got : (q : List ℕ) (i : Instance) (ms : Members) → get_member q (written i ms) ≡ set_last q (sets i) (get_member q ms)
@@ -122,8 +122,11 @@ of_object_back i moment ms said stamp filled =
     ∙ step (secs_in (lease_member (codes "durationInSecs") (object (written i ms)))) _ i.secs secs
     ∙ (λ t. Ok (record { key = i.key; status = status t; overridden = overridden t; last_dirty = i.last_dirty; secs = i.secs; interval = interval t; rest = rest t }))
 
+pub whole_back : (i : Instance) (ms : Members) → IsSaid i ms → members_have_float (written i ms) ≡ false
+whole_back i ms said = whole_puts (sets i) ms said.whole (refl, (refl, (refl, (whole_lease i None, (refl, (refl, tt))))))
+
 pub instance_back : (i : Instance) (moment : ℕ) (ms : Members) → IsSaid i ms → i.last_dirty < 2 ^ 63 → is_blank i.key.app ≡ false
     → of_member i.key.app moment (has_float (instance_tree i None)) (Some (instance_tree i None)) ≡ Ok i
 instance_back i moment ms said stamp filled =
     ap (λ d. of_member i.key.app moment (has_float d) (Some d)) (tree_is i ms said.rest)
-    ∙ (rw (whole_puts (sets i) ms said.whole (refl, (refl, (refl, (whole_lease i None, (refl, (refl, tt))))))) (of_object_back i moment ms said stamp filled))
+    ∙ (rw (whole_back i ms said) (of_object_back i moment ms said stamp filled))

@@ -11,7 +11,8 @@ use Rattle.serde_json.specs.Find.{get_member}
 use Rattle.serde_json.proofs.Views.{get_member-put, get_member-put_other}
 use Rattle.eu_json.specs.Tree.{but_member}
 use Rattle.eu_json.proofs.MemberLemmas.{neither}
-use Rattle.eu_json.proofs.OrderLemmas.{IsBelow, MembersInOrder}
+use Rattle.eu_text.proofs.OrderLemmas.{IsBelow}
+use Rattle.eu_json.proofs.OrderLemmas.{MembersInOrder}
 
 same_name : (name : List ℕ) → slice_cmp nat_cmp name name ≡ Equal
 same_name name = tied_itself nat_list_cmp_total name
@@ -143,7 +144,7 @@ buts_other q (n ∷ ns) ms apart =
     let parts = neither (has q ns) (bytes_eq q n) apart in
     but_other q n (buts ns ms) parts.1 ∙ buts_other q ns ms parts.0
 
-in_order_buts : (ns : List (List ℕ)) (ms : Members) → MembersInOrder ms → MembersInOrder (buts ns ms)
+pub in_order_buts : (ns : List (List ℕ)) (ms : Members) → MembersInOrder ms → MembersInOrder (buts ns ms)
 in_order_buts [] ms order = order
 in_order_buts (n ∷ ns) ms order = in_order_but n (buts ns ms) (in_order_buts ns ms order)
 

@@ -1,11 +1,14 @@
 pub mod BackLemmas
 pub mod BatchLemmas
 pub mod CaseLemmas
-pub mod DigitLemmas
 pub mod ItemLemmas
 pub mod KeptLemmas
+pub mod LeadLemmas
 pub mod MemberLemmas
 pub mod OrderLemmas
+pub mod PartLemmas
 pub mod RunLemmas
 pub mod SaidLemmas
+pub mod TextLemmas
+pub mod ToldLemmas
 pub mod TreeLemmas

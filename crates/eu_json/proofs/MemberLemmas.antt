@@ -1,5 +1,7 @@
 -- Members that are taken out of an object
-use Rattle.std.proofs.Common.{◌≡◌, ℕ, Bool, true, false, ◌||◌, List, [], ◌∷◌, Option, Some, Ordering, Equal, cond, is_some, refl, ap}
+use Rattle.std.proofs.Common.{◌≡◌, ℕ, Bool, true, false, ◌||◌, ◌&&◌, List, [], ◌∷◌, Option, Some, None, Ordering, Equal, cond, is_some, is_lt, refl, ap, ap₂}
+use Rattle.std.proofs.lemmas.Bool.{and_parts}
+use Rattle.std.proofs.lemmas.Cmp.{nat_list_cmp_total}
 use Rattle.std.specs.String.{string_bytes}
 use Rattle.std.specs.Ordering.{nat_cmp, is_eq, match_ordering}
 use Rattle.std.specs.Cmp.Lexicographic.{slice_cmp}
@@ -10,6 +12,8 @@ use Rattle.serde_json.specs.Find.{get, get_member, as_object}
 use Rattle.serde_json.specs.View.{view, members_view}
 use Rattle.serde_json.specs.Written.{has_float, members_have_float}
 use Rattle.serde_json.proofs.Views.{Entry}
+use Rattle.eu_text.specs.Fit.{follows, fits, members_fit, is_fit}
+use Rattle.eu_text.proofs.OrderLemmas.{less_of}
 use Rattle.eu_base.specs.Rest.{IsRest}
 use Rattle.eu_json.specs.Tree.{but_member, without}
 
@@ -61,5 +65,32 @@ pub whole_without : (name : List ℕ) (d : Data) → has_float d ≡ false → h
 whole_without name (object ms) whole = whole_but name ms whole
 whole_without name d whole = whole
 
+-- ---- and it fits as before
+
+follows_later : (last : Option (List ℕ)) (k l : List ℕ) → follows last k ≡ true → follows (Some k) l ≡ true → follows last l ≡ true
+follows_later None k l first second = refl
+follows_later (Some j) k l first second = ap is_lt (nat_list_cmp_total.trans j k l (less_of (slice_cmp nat_cmp j k) first) (less_of (slice_cmp nat_cmp k l) second))
+
+without_first : (n : ℕ) (last : Option (List ℕ)) (k : List ℕ) (ms : Members) → follows last k ≡ true → members_fit n (Some k) ms ≡ true → members_fit n last ms ≡ true
+without_first n last k no_members first fit = refl
+without_first n last k (member l d ms) first fit =
+    let parts = and_parts (follows (Some k) l) (fits n d && members_fit n (Some l) ms) fit in ap₂ (◌&&◌) (follows_later last k l first parts.0) parts.1
+
+fit_at : (o : Ordering) (n : ℕ) (last : Option (List ℕ)) (l : List ℕ) (d : Data) (ms rest : Members) → follows last l ≡ true → fits n d ≡ true → members_fit n (Some l) ms ≡ true → members_fit n (Some l) rest ≡ true
+    → members_fit n last (match_ordering o (member l d rest) ms (member l d rest)) ≡ true
+fit_at Equal n last l d ms rest first here later more = without_first n last l ms first later
+fit_at o n last l d ms rest first here later more = ap₂ (◌&&◌) first (ap₂ (◌&&◌) here more)
+
+fit_but : (name : List ℕ) (n : ℕ) (last : Option (List ℕ)) (ms : Members) → members_fit n last ms ≡ true → members_fit n last (but_member name ms) ≡ true
+fit_but name n last no_members fit = refl
+fit_but name n last (member l d ms) fit =
+    let parts = and_parts (follows last l) (fits n d && members_fit n (Some l) ms) fit in
+    let rest = and_parts (fits n d) (members_fit n (Some l) ms) parts.1 in
+    fit_at (slice_cmp nat_cmp name l) n last l d ms (but_member name ms) parts.0 rest.0 rest.1 (fit_but name n (Some l) ms rest.1)
+
+fit_without : (name : List ℕ) (d : Data) → is_fit d ≡ true → is_fit (without name d) ≡ true
+fit_without name (object ms) fit = fit_but name 126 None ms fit
+fit_without name d fit = fit
+
 pub rest_without : (name : List ℕ) (d e : Data) → e ≡ without name d → IsRest d → IsRest e
-rest_without name d e is kept = rw is (record { members = object_without name d kept.members; whole = whole_without name d kept.whole })
+rest_without name d e is kept = rw is (record { members = object_without name d kept.members; whole = whole_without name d kept.whole; fit = fit_without name d kept.fit })

@@ -1,26 +1,37 @@
--- Members that were read stand in the order of their names, each name once
-use Rattle.std.proofs.Common.{◌≡◌, ℕ, List, Option, Some, None, option_map, option_and_then, unwrap_or, Ordering, Less, Equal, Greater, refl, ap, ◌∙◌, subst, nat_cmp}
-use Rattle.std.specs.Prelude.{⊤}
+-- Each part of a tree that was read stands in order, and fits where its numbers are whole
+use Rattle.std.proofs.Common.{◌≡◌, ℕ, zero, suc, ◌-◌, ◌<◌, ◌≤◌, ◌^◌, ℤ, pos, negsuc, List, drop, Bool, true, false, true≢false, ◌&&◌, nat_lt, nat_le, cond, Option, Some, None, option_map, option_and_then, unwrap_or, Ordering, Less, Equal, Greater, is_lt, refl, ap, ap₂, ◌∙◌, subst, nat_cmp, arith}
+use Rattle.std.specs.Prelude.{⊤, slice_index, ◌==◌}
 use Rattle.std.specs.Ordering.{match_ordering, ordering_reverse}
 use Rattle.std.specs.Cmp.Lexicographic.{slice_cmp}
+use Rattle.std.specs.Float.{binary64, float_is_finite}
 use Rattle.std.proofs.lemmas.Cmp.{nat_list_cmp_total}
+use Rattle.std.proofs.lemmas.Bool.{ltb-true, leb-true, lt-ltb, or_parts}
+use Rattle.fast_float.specs.Text.{minus, Parts, scan, digits_of, nearest, with_sign}
 use Rattle.json.specs.Json as json
 use Rattle.json.specs.Lex.{tokens}
-use Rattle.serde_json.specs.Data.{Data, null, boolean, number, string, array, object, Items, no_items, item, Members, no_members, member, put}
-use Rattle.serde_json.specs.Find.{get, get_member}
-use Rattle.serde_json.specs.Read.{max_depth, number_of, of_json, of_items, of_members, read}
+use Rattle.serde_json.specs.Data.{Num, unsigned, negative, float, Data, null, boolean, number, string, array, object, Items, no_items, item, Members, no_members, member, put, depth, items_depth, members_depth}
+use Rattle.serde_json.specs.Find.{is_float, get, get_member}
+use Rattle.serde_json.specs.Read.{max_depth, is_integer, number_from, number_of, of_json, of_items, of_members, read}
+use Rattle.serde_json.specs.Written.{has_float, items_have_float, members_have_float}
+use Rattle.eu_text.specs.Fit.{is_whole, follows, fits, items_fit, members_fit}
+use Rattle.eu_text.proofs.OrderLemmas.{IsBelow, below_more}
 
--- the name is below those of the members
-abbrev pub IsBelow : List ℕ → Members → Type 0
-IsBelow k no_members = ⊤
-IsBelow k (member l d ms) = (slice_cmp nat_cmp k l ≡ Less) × IsBelow k ms
+-- ---- what is so of each tree that was read
 
--- so it is in each object, at any depth
+abbrev pub FitsNegative : ℤ → Type 0
+FitsNegative (pos n) = ⊥
+FitsNegative (negsuc n) = n < 2 ^ 63
+
+abbrev pub FitsNumber : Num → Type 0
+FitsNumber (unsigned n) = n < 2 ^ 64
+FitsNumber (negative z) = FitsNegative z
+FitsNumber (float x) = ⊤
+
 abbrev mutual
   pub InOrder : Data → Type 0
   InOrder null = ⊤
   InOrder (boolean b) = ⊤
-  InOrder (number n) = ⊤
+  InOrder (number n) = FitsNumber n
   InOrder (string s) = ⊤
   InOrder (array ds) = ItemsInOrder ds
   InOrder (object ms) = MembersInOrder ms
@@ -45,10 +56,6 @@ below_put : (j k : List ℕ) (d : Data) (ms : Members) → slice_cmp nat_cmp j k
 below_put j k d no_members less below = (less, tt)
 below_put j k d (member l e ms) less below = below_at (slice_cmp nat_cmp k l) j k l d e ms (put k d ms) less below.0 below.1 (below_put j k d ms less below.1)
 
-below_more : (j k : List ℕ) (ms : Members) → slice_cmp nat_cmp j k ≡ Less → IsBelow k ms → IsBelow j ms
-below_more j k no_members less below = tt
-below_more j k (member l d ms) less below = (nat_list_cmp_total.trans j k l less below.0, below_more j k ms less below.1)
-
 put_at : (o : Ordering) (k l : List ℕ) (d e : Data) (ms rest : Members) → slice_cmp nat_cmp k l ≡ o → InOrder d → InOrder e → IsBelow l ms → MembersInOrder ms
     → (slice_cmp nat_cmp l k ≡ Less → IsBelow l rest) → MembersInOrder rest
     → MembersInOrder (match_ordering o (member k d (member l e ms)) (member l d ms) (member l e rest))
@@ -56,7 +63,7 @@ put_at Less k l d e ms rest is value here below later more order = ((is, below_m
 put_at Equal k l d e ms rest is value here below later more order = (below, value, later)
 put_at Greater k l d e ms rest is value here below later more order = (more (nat_list_cmp_total.antisymm l k ∙ ap ordering_reverse is), here, order)
 
-in_order_put : (k : List ℕ) (d : Data) (ms : Members) → InOrder d → MembersInOrder ms → MembersInOrder (put k d ms)
+pub in_order_put : (k : List ℕ) (d : Data) (ms : Members) → InOrder d → MembersInOrder ms → MembersInOrder (put k d ms)
 in_order_put k d no_members value order = (tt, value, tt)
 in_order_put k d (member l e ms) value order =
     put_at _ k l d e ms (put k d ms) refl value order.1 order.0 order.2 (λ less. below_put l k d ms less order.0) (in_order_put k d ms value order.2)
@@ -75,37 +82,100 @@ each_and_then : {A B : Type 0} (P : A → Type 0) (Q : B → Type 0) (f : A → 
 each_and_then P Q f keeps None each = tt
 each_and_then P Q f keeps (Some a) each = keeps a each
 
-any : {A : Type 0} (o : Option A) → Each (λ _. ⊤) o
-any None = tt
-any (Some a) = tt
+-- ---- numbers
+
+fits_float : (b : Bool) (x : Num) → FitsNumber x → Each FitsNumber (cond b (Some x) None)
+fits_float true x fits = fits
+fits_float false x fits = tt
+
+fits_unsigned : (i l : Bool) (m : ℕ) (f : Option Num) → (l ≡ true → m < 2 ^ 64) → Each FitsNumber f → Each FitsNumber (cond (i && l) (Some (unsigned m)) f)
+fits_unsigned true true m f less rest = less refl
+fits_unsigned true false m f less rest = rest
+fits_unsigned false l m f less rest = rest
+
+fits_below : (m : ℕ) → nat_lt 0 m ≡ true → m ≤ 2 ^ 63 → FitsNegative (with_sign true m)
+fits_below zero some le = absurd (omega (arith, ltb-true 0 zero some))
+fits_below (suc m) some le = omega arith
+
+fits_negative : (i s l : Bool) (m : ℕ) (f : Option Num) → (s ≡ true → nat_lt 0 m ≡ true) → (l ≡ true → m ≤ 2 ^ 63) → Each FitsNumber f → Each FitsNumber (cond ((i && s) && l) (Some (negative (with_sign true m))) f)
+fits_negative true true true m f some le rest = fits_below m (some refl) (le refl)
+fits_negative true true false m f some le rest = rest
+fits_negative true false l m f some le rest = rest
+fits_negative false s l m f some le rest = rest
+
+fits_from : (sign : Bool) (p : Parts) → Each FitsNumber (number_from sign p)
+fits_from false p = fits_unsigned (is_integer p) (nat_lt (digits_of p) (2 ^ 64)) (digits_of p) _ (λ e. ltb-true (digits_of p) (2 ^ 64) e) (fits_float (float_is_finite (nearest binary64 false p)) _ tt)
+fits_from true p = fits_negative (is_integer p) (nat_lt 0 (digits_of p)) (nat_le (digits_of p) (2 ^ 63)) (digits_of p) _ (λ e. e) (λ e. leb-true (digits_of p) (2 ^ 63) e) (fits_float (float_is_finite (nearest binary64 true p)) _ tt)
+
+fits_either : (b : Bool) (n m : Option Num) → Each FitsNumber n → Each FitsNumber m → Each FitsNumber (cond b n m)
+fits_either true n m first second = first
+fits_either false n m first second = second
+
+fits_number : (s : List ℕ) → Each FitsNumber (number_of s)
+unfolding number_of
+fits_number s = fits_either (slice_index s 0 == minus) _ _ (fits_from true (scan (drop 1 s))) (fits_from false (scan s))
 
 mutual
-  of_json_in_order : (j : json.Json) → Each InOrder (of_json j)
-  of_json_in_order json.null = tt
-  of_json_in_order (json.boolean b) = tt
-  of_json_in_order (json.number s) = each_map (λ _. ⊤) InOrder number (λ a x. tt) (number_of s) (any _)
-  of_json_in_order (json.string s) = tt
-  of_json_in_order (json.array js) = each_map ItemsInOrder InOrder array (λ a x. x) _ (of_items_in_order js)
-  of_json_in_order (json.object ms) = each_map MembersInOrder InOrder object (λ a x. x) _ (of_members_in_order ms no_members tt)
+  of_json_fit : (j : json.Json) → Each InOrder (of_json j)
+  of_json_fit json.null = tt
+  of_json_fit (json.boolean b) = tt
+  of_json_fit (json.number s) = each_map FitsNumber InOrder number (λ a x. x) (number_of s) (fits_number s)
+  of_json_fit (json.string s) = tt
+  of_json_fit (json.array js) = each_map ItemsInOrder InOrder array (λ a x. x) _ (of_items_fit js)
+  of_json_fit (json.object ms) = each_map MembersInOrder InOrder object (λ a x. x) _ (of_members_fit ms no_members tt)
 
-  of_items_in_order : (js : json.Items) → Each ItemsInOrder (of_items js)
-  of_items_in_order json.no_items = tt
-  of_items_in_order (json.item j js) =
-      each_and_then InOrder ItemsInOrder _ (λ d x. each_map ItemsInOrder ItemsInOrder (item d) (λ ds y. (x, y)) _ (of_items_in_order js)) _ (of_json_in_order j)
+  of_items_fit : (js : json.Items) → Each ItemsInOrder (of_items js)
+  of_items_fit json.no_items = tt
+  of_items_fit (json.item j js) =
+      each_and_then InOrder ItemsInOrder _ (λ d x. each_map ItemsInOrder ItemsInOrder (item d) (λ ds y. (x, y)) _ (of_items_fit js)) _ (of_json_fit j)
 
-  of_members_in_order : (ms : json.Members) (found : Members) → MembersInOrder found → Each MembersInOrder (of_members ms found)
-  of_members_in_order json.no_members found order = order
-  of_members_in_order (json.member k j ms) found order =
-      each_and_then InOrder MembersInOrder _ (λ d x. of_members_in_order ms (put k d found) (in_order_put k d found x order)) _ (of_json_in_order j)
+  of_members_fit : (ms : json.Members) (found : Members) → MembersInOrder found → Each MembersInOrder (of_members ms found)
+  of_members_fit json.no_members found order = order
+  of_members_fit (json.member k j ms) found order =
+      each_and_then InOrder MembersInOrder _ (λ d x. of_members_fit ms (put k d found) (in_order_put k d found x order)) _ (of_json_fit j)
 
-parsed_in_order : (o : Option json.Json) → Each InOrder (option_and_then of_json o)
-parsed_in_order None = tt
-parsed_in_order (Some j) = of_json_in_order j
+parsed_fit : (o : Option json.Json) → Each InOrder (option_and_then of_json o)
+parsed_fit None = tt
+parsed_fit (Some j) = of_json_fit j
 
 pub read_in_order : (text : List ℕ) (d : Data) → read text ≡ Some d → InOrder d
 read_in_order text d is =
     let parsed = option_and_then (λ p. json.if_last p.0 p.1) (json.value max_depth (tokens text)) in
-    subst (Each InOrder) is (parsed_in_order parsed)
+    subst (Each InOrder) is (parsed_fit parsed)
+
+-- ---- such a tree of whole numbers fits
+
+whole_number : (n : Num) → is_float n ≡ false → FitsNumber n → is_whole n ≡ true
+whole_number (unsigned n) whole fits = lt-ltb n (2 ^ 64) fits
+whole_number (negative (pos n)) whole fits = absurd fits
+whole_number (negative (negsuc n)) whole fits = lt-ltb n (2 ^ 63) fits
+whole_number (float x) whole fits = absurd (true≢false whole)
+
+follows_below : (last : Option (List ℕ)) (k : List ℕ) (d : Data) (ms : Members) → Each (λ j. IsBelow j (member k d ms)) last → follows last k ≡ true
+follows_below None k d ms below = refl
+follows_below (Some j) k d ms below = ap is_lt below.0
+
+mutual
+  pub ordered_fits : (n : ℕ) (d : Data) → InOrder d → has_float d ≡ false → depth d ≤ n → fits n d ≡ true
+  ordered_fits n null order whole within = refl
+  ordered_fits n (boolean b) order whole within = refl
+  ordered_fits n (number x) order whole within = whole_number x whole order
+  ordered_fits n (string s) order whole within = refl
+  ordered_fits n (array ds) order whole within = ap₂ (◌&&◌) (lt-ltb 0 n (omega (arith, within))) (items_ordered_fit (n - 1) ds order whole (omega (arith, within)))
+  ordered_fits n (object ms) order whole within = ap₂ (◌&&◌) (lt-ltb 0 n (omega (arith, within))) (members_ordered_fit (n - 1) None ms tt order whole (omega (arith, within)))
+
+  items_ordered_fit : (n : ℕ) (ds : Items) → ItemsInOrder ds → items_have_float ds ≡ false → items_depth ds ≤ n → items_fit n ds ≡ true
+  items_ordered_fit n no_items order whole within = refl
+  items_ordered_fit n (item d ds) order whole within =
+      let parts = or_parts (has_float d) (items_have_float ds) whole in
+      ap₂ (◌&&◌) (ordered_fits n d order.0 parts.0 (omega (arith, within))) (items_ordered_fit n ds order.1 parts.1 (omega (arith, within)))
+
+  members_ordered_fit : (n : ℕ) (last : Option (List ℕ)) (ms : Members) → Each (λ j. IsBelow j ms) last → MembersInOrder ms → members_have_float ms ≡ false → members_depth ms ≤ n → members_fit n last ms ≡ true
+  members_ordered_fit n last no_members below order whole within = refl
+  members_ordered_fit n last (member k d ms) below order whole within =
+      let parts = or_parts (has_float d) (members_have_float ms) whole in
+      ap₂ (◌&&◌) (follows_below last k d ms below)
+      (ap₂ (◌&&◌) (ordered_fits n d order.1 parts.0 (omega (arith, within))) (members_ordered_fit n (Some k) ms order.0 order.2 parts.1 (omega (arith, within))))
 
 -- ---- a member that is got
 

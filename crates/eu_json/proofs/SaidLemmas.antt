@@ -11,7 +11,7 @@ use Rattle.eu_base.specs.declared.instances.Instance.{Instance}
 use Rattle.eu_base.specs.Gives.{◌>>=◌}
 use Rattle.eu_json.specs.Tree.{text_at, is_blank}
 use Rattle.eu_json.specs.Reading.{address_stands, app_stands, center_stands, digits_within, instance_of, interval_in, interval_within, lease_member, name_of, of_body, of_member, of_object, secs_digits, secs_in, secs_within, short, stamp_in}
-use Rattle.eu_json.proofs.KeptLemmas.{Lacks, buts, buts_other, buts_self}
+use Rattle.eu_json.proofs.KeptLemmas.{Lacks, buts, buts_other, buts_self, in_order_buts}
 use Rattle.eu_json.proofs.MemberLemmas.{whole_get, whole_without}
 use Rattle.eu_json.proofs.OrderLemmas.{InOrder, MembersInOrder, in_order_get, read_in_order}
 
@@ -25,6 +25,7 @@ own_names =
 pub record IsSaid (i : Instance) (ms : Members) : Type 0 where
   pub rest : i.rest ≡ object ms
   pub lacks : Lacks own_names ms
+  pub order : MembersInOrder ms
   pub whole : members_have_float ms ≡ false
   pub host : is_blank (text_at (codes "hostName") (object ms)) ≡ false
   pub address : address_stands (object ms) ≡ Ok tt
@@ -116,6 +117,7 @@ said_of_object i app moment ms order whole is =
     record {
       rest = sym (ap (λ j. j.rest) same);
       lacks = buts_self own_names ms order;
+      order = in_order_buts own_names ms order;
       whole = whole_rest own_names ms whole;
       host = ap (λ d. is_blank (text_by d)) (buts_other (codes "hostName") own_names ms refl) ∙ filled.0;
       address = ap address_by (buts_other (codes "ipAddr") own_names ms refl) ∙ address.1;

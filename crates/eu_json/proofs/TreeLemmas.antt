@@ -1,24 +1,13 @@
--- Members that are set, and trees whose numbers are all whole
-use Rattle.std.proofs.Common.{◌≡◌, ℕ, false, List, [], ◌∷◌, ◌++◌, Option, Some, None, Ordering, Less, Equal, Greater, String, Global, string_bytes, rules, refl}
+-- Trees whose numbers are all whole
+use Rattle.std.proofs.Common.{◌≡◌, ℕ, false, List, Option, Some, None, Ordering, Less, Equal, Greater, refl}
 use Rattle.std.specs.Ordering.{nat_cmp, match_ordering}
 use Rattle.std.specs.Cmp.Lexicographic.{slice_cmp}
-use Rattle.serde_json.specs.Data.{Data, Members, no_members, member, put, string}
-use Rattle.serde_json.specs.View.{items_of, view}
-use Rattle.serde_json.specs.declared.value.Value.{String as Text, the_lemmas}
-use Rattle.serde_json.specs.Written.{has_float, items_have_float, members_have_float}
+use Rattle.serde_json.specs.Data.{Data, Members, no_members, member, put}
+use Rattle.serde_json.specs.Written.{has_float, members_have_float}
 use Rattle.eu_base.specs.declared.instances.Instance.{Instance}
 use Rattle.eu_model.specs.declared.views.Times.{Times}
-use Rattle.eu_json.specs.Tree.{with_member, lease_tree}
+use Rattle.eu_json.specs.Tree.{lease_tree}
 use Rattle.eu_json.proofs.MemberLemmas.{neither}
-
-pub view-String : (s : String Global) → view (Text s) ≡ string (string_bytes s)
-view-String s = search (rules, the_lemmas)
-
--- a member that is set over equal members, to an equal value
-pub set_over : (name : List ℕ) (d t o p : Data) → d ≡ t → o ≡ p → with_member name d o ≡ with_member name t p
-set_over name d t o p value over = λ i. with_member name (value i) (over i)
-
--- ---- what is set is whole
 
 put_at : (o : Ordering) (k l : List ℕ) (d e : Data) (ms rest : Members) → has_float d ≡ false → has_float e ≡ false → members_have_float ms ≡ false → members_have_float rest ≡ false
     → members_have_float (match_ordering o (member k d (member l e ms)) (member l d ms) (member l e rest)) ≡ false
@@ -35,11 +24,3 @@ whole_put k d (member l e ms) whole value =
 pub whole_lease : (i : Instance) (times : Option Times) → has_float (lease_tree i times) ≡ false
 whole_lease i None = refl
 whole_lease i (Some t) = refl
-
--- ---- lists of trees
-
-pub whole_more : (ds : List Data) (d : Data) → items_have_float (items_of ds) ≡ false → has_float d ≡ false → items_have_float (items_of (ds ++ d ∷ [])) ≡ false
-whole_more [] d whole last = rw last refl
-whole_more (e ∷ ds) d whole last =
-    let parts = neither (has_float e) (items_have_float (items_of ds)) whole in
-    rw (parts.0) (whole_more ds d parts.1 last)

@@ -1,4 +1,5 @@
 pub mod Reading
 pub mod Tree
+pub mod Parts
 pub mod Batch
 pub mod BatchLaw

@@ -4,16 +4,16 @@ ghost use Rattle.std.specs.Option.{option_map};
 ghost use Rattle.serde_json.specs.Find.{as_array, get};
 ghost use Rattle.serde_json.specs.View.{items_view, view};
 ghost use Rattle.eu_json.specs.Batch.{action_in, app_within, batch_of, command_of, last_dirty_in, given, instance_in, items_in, key_in, name_within, of_item, of_items, of_text, stamp_given, status_given, status_needed};
+ghost use Rattle.eu_json.specs.Parts.{InfoFits, InfosFit};
 ghost use Rattle.eu_base.specs.Limits.{most_sent};
 ghost use Rattle.eu_base.specs.Gives.{Gives, result_map};
 
 use crate::members::{take, text_at};
 use crate::numbers::stamp_in;
-use crate::read::{of_object, parse};
-use crate::statuses::{status_in, status_known};
+use crate::read::{is_whole, of_object, parse};
+use crate::statuses::status_in;
 use eu_base::{
     Action, App, BoxedInstance, Fault, Id, Instance, Key, MOST_SENT, Moment, Stamp, Status,
-    has_fraction,
 };
 use eu_model::Command;
 use serde_json::Value;
@@ -55,7 +55,7 @@ fn status_needed(member: Option<&Value>) -> Result<Status, Fault>
     let Some(text) = member.and_then(Value::as_str) else {
         return Err(Fault::BadBatch);
     };
-    status_known(text).ok_or(Fault::BadBatch)
+    Status::read_any_case(text).ok_or(Fault::BadBatch)
 }
 
 /// The action of an item. `BadBatch` where it names none.
@@ -102,6 +102,7 @@ fn key_in(alloc: Global, item: &Value) -> Result<Key, Fault>
 
 /// The instance of an item, with the faults of `read_instance`.
 fn instance_in(alloc: Global, item: Value, app: &App, moment: Moment) -> Result<Instance, Fault>
+    requires { InfoFits (view item) }
     ensures { Gives result (instance_in app.now moment (get (codes "instanceInfo") (view item))) }
 {
     let Some(instance) = take(item, "instanceInfo") else {
@@ -110,7 +111,7 @@ fn instance_in(alloc: Global, item: Value, app: &App, moment: Moment) -> Result<
     if !instance.is_object() {
         return Err(Fault::NotJson);
     }
-    if has_fraction(&instance) {
+    if !is_whole(&instance) {
         return Err(Fault::NotWhole);
     }
     of_object(alloc, instance, app, moment)
@@ -119,6 +120,7 @@ fn instance_in(alloc: Global, item: Value, app: &App, moment: Moment) -> Result<
 /// The registration that an item asks for, of an instance of that application.
 #[tactic(auto, unfolding(crate::specs::Batch::command_of))]
 fn register_of(alloc: Global, item: Value, key: Key, moment: Moment) -> Result<Command, Fault>
+    requires { InfoFits (view item) }
     ensures { Gives result (command_of moment (view item) key Action.Register) }
 {
     let instance = instance_in(alloc, item, &key.app, moment)?;
@@ -175,6 +177,7 @@ fn unset_status_of(item: &Value, key: Key, moment: Moment) -> Result<Command, Fa
 /// What an item asks for.
 #[tactic(auto, unfolding(crate::specs::Batch::of_item, crate::specs::Batch::command_of))]
 fn of_item(alloc: Global, item: Value, moment: Moment) -> Result<Command, Fault>
+    requires { InfoFits (view item) }
     ensures { Gives result (of_item moment (view item)) }
 {
     let action = action_in(&item)?;
@@ -193,6 +196,7 @@ fn of_item(alloc: Global, item: Value, moment: Moment) -> Result<Command, Fault>
 
 /// What each item asks for, in order.
 fn of_items(alloc: Global, items: Vec<Value>, moment: Moment) -> Result<Vec<Command>, Fault>
+    requires { InfosFit (items_view items.items) }
     ensures { Gives (result_map (λ v. v.items) result) (of_items moment (items_view items.items)) }
 {
     let mut commands = Vec::with_capacity(alloc, items.len())?;

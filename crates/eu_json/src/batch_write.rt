@@ -1,100 +1,162 @@
-//! Batches of tasks, and their answers, to JSON.
-ghost use Rattle.std.specs.Prelude.{◌≡◌, ◌≤◌, false, map, string_bytes, IfOk};
+//! Batches of tasks, and their answers, to JSON text.
+ghost use Rattle.std.specs.Prelude.{◌≡◌, ◌≤◌, ◌++◌, ◌∷◌, ℕ, List, map, codes, string_bytes, Some, None, IfOk, OnOk};
+ghost use Rattle.json.specs.Print.{quoted};
 ghost use Rattle.serde_json.specs.Data.{depth};
 ghost use Rattle.serde_json.specs.Read.{max_depth};
-ghost use Rattle.serde_json.specs.View.{items_view, members_view, view};
-ghost use Rattle.serde_json.specs.Written.{compact_text, has_float, items_have_float, members_have_float};
+ghost use Rattle.serde_json.specs.Written.{compact_text};
+ghost use Rattle.eu_text.specs.Text.{led};
+ghost use Rattle.eu_json.specs.Batch.{answer_tree, answers_tree, batch_tree, entity_tree, instance_members, task_tree};
 ghost use Rattle.eu_json.specs.BatchLaw.{IsBatch, SaysTasks};
-ghost use Rattle.eu_json.specs.Batch.{answer_tree, answers_tree, batch_tree, instance_members, task_tree};
+ghost use Rattle.eu_json.specs.Tree.{instance_tree, list_tree};
 
-use crate::listings::push;
-use crate::members::{alone, set, set_text};
-use crate::write::instance_value;
+use crate::write::{append_instance, append_number};
 use eu_base::{Action, BoxedInstance, Instance, Status, Task};
-use serde_json::{Map, Value};
+use eu_text::append_quoted;
+use itoa::Buffer;
 use std::alloc::{AllocError, Global};
 
-/// The members by which a task tells of its instance. `AllocError` where no memory is left.
-fn instance_members(
+/// Appends what leads to a text, and the text in quotes. `AllocError` where no memory is left.
+fn append_led_text(
     alloc: Global,
+    out: &mut Vec<u8>,
+    lead: &str,
+    text: &str,
+) -> Result<(), AllocError>
+    ensures { OnOk result ((s : List ℕ) → out.new.items ++ s ≡ out.old.items ++ (lead.now ++ (quoted text.now ++ s))) }
+{
+    out.extend_from_slice(lead.as_bytes())?;
+    append_quoted(alloc, out, text)?;
+    Ok(())
+}
+
+/// Appends the instance as a whole, as a registration tells it. `AllocError` where no memory is left.
+fn append_info(alloc: Global, out: &mut Vec<u8>, instance: &Instance) -> Result<(), AllocError>
+    ensures { OnOk result ((s : List ℕ) → out.new.items ++ s ≡ out.old.items ++ (codes ",\"instanceInfo\":" ++ (compact_text (instance_tree instance.now None) ++ s))) }
+{
+    out.extend_from_slice(b",\"instanceInfo\":")?;
+    append_instance(alloc, out, instance, None)?;
+    Ok(())
+}
+
+/// Appends what every task that has an instance tells of it, as a heartbeat does: its stamp and its statuses, a comma before each.
+/// `AllocError` where no memory is left.
+fn append_statuses(
+    alloc: Global,
+    out: &mut Vec<u8>,
+    status: Status,
+    instance: &Instance,
+) -> Result<(), AllocError>
+    ensures { OnOk result (out.new.items ≡ out.old.items ++ led (instance_members Action.Heartbeat (Some status) (Some instance.now))) }
+{
+    let mut digits = Buffer::new();
+    let stamp = digits.format(instance.last_dirty.value());
+    append_led_text(alloc, out, ",\"lastDirtyTimestamp\":", stamp)?;
+    append_led_text(
+        alloc,
+        out,
+        ",\"overriddenStatus\":",
+        instance.overridden.name(),
+    )?;
+    append_led_text(alloc, out, ",\"status\":", status.name())?;
+    Ok(())
+}
+
+/// Appends what a registration tells of its instance: the instance as a whole before that. `AllocError` where no memory is left.
+fn append_registration(
+    alloc: Global,
+    out: &mut Vec<u8>,
+    status: Status,
+    instance: &Instance,
+) -> Result<(), AllocError>
+    ensures { OnOk result (out.new.items ≡ out.old.items ++ led (instance_members Action.Register (Some status) (Some instance.now))) }
+{
+    append_info(alloc, out, instance)?;
+    append_statuses(alloc, out, status, instance)?;
+    Ok(())
+}
+
+/// Appends the members by which a task tells of its instance, a comma before each. `AllocError` where no memory is left.
+fn append_parts(
+    alloc: Global,
+    out: &mut Vec<u8>,
     action: Action,
     status: Option<Status>,
     instance: &Instance,
-) -> Result<Map<String, Value>, AllocError>
-    ensures tree { IfOk result (λ members. members_view members.entries ≡ instance_members action status (Some instance.now)) }
-    ensures whole { IfOk result (λ members. members_have_float (members_view members.entries) ≡ false) }
+) -> Result<(), AllocError>
+    ensures { OnOk result (out.new.items ≡ out.old.items ++ led (instance_members action status (Some instance.now))) }
 {
-    let mut members = Map::new(alloc);
-    let last_dirty = Value::String(instance.last_dirty.value().to_string(alloc)?);
-    set(alloc, &mut members, "lastDirtyTimestamp", last_dirty)?;
-    let overridden = instance.overridden.name();
-    set_text(alloc, &mut members, "overriddenStatus", overridden)?;
-    let status = status.unwrap_or(instance.status).name();
-    set_text(alloc, &mut members, "status", status)?;
+    let status = status.unwrap_or(instance.status);
     match action {
-        Action::Register => {
-            let info = instance_value(alloc, instance, None)?;
-            set(alloc, &mut members, "instanceInfo", info)?;
-            Ok(members)
-        }
+        Action::Register => append_registration(alloc, out, status, instance),
         Action::Heartbeat | Action::Cancel | Action::StatusUpdate | Action::DeleteStatusOverride =>
-            Ok(members),
+            append_statuses(alloc, out, status, instance),
     }
 }
 
-/// The members by which a task tells of its instance, where it has one. `AllocError` where no memory is left.
-fn task_members(alloc: Global, task: &Task) -> Result<Map<String, Value>, AllocError>
-    ensures tree { IfOk result (λ members. members_view members.entries ≡ instance_members task.now.action task.now.status task.now.instance) }
-    ensures whole { IfOk result (λ members. members_have_float (members_view members.entries) ≡ false) }
+/// Appends the members by which a task tells of its instance, where it has one. `AllocError` where no memory is left.
+fn append_task_parts(alloc: Global, out: &mut Vec<u8>, task: &Task) -> Result<(), AllocError>
+    ensures { OnOk result (out.new.items ≡ out.old.items ++ led (instance_members task.now.action task.now.status task.now.instance)) }
 {
     match &task.instance {
-        None => Ok(Map::new(alloc)),
-        Some(instance) => instance_members(alloc, task.action, task.status, instance),
+        None => Ok(()),
+        Some(instance) => append_parts(alloc, out, task.action, task.status, instance),
     }
 }
 
-/// The item of a task. `AllocError` where no memory is left.
-fn task_value(alloc: Global, task: &Task) -> Result<Value, AllocError>
-    ensures tree { IfOk result (λ v. view v ≡ task_tree task.now) }
-    ensures whole { IfOk result (λ v. has_float (view v) ≡ false) }
+/// Appends the item of a task. `AllocError` where no memory is left.
+fn append_task(alloc: Global, out: &mut Vec<u8>, task: &Task) -> Result<(), AllocError>
+    ensures { OnOk result (out.new.items ≡ out.old.items ++ compact_text (task_tree task.now)) }
 {
-    let mut members = task_members(alloc, task)?;
-    set_text(alloc, &mut members, "action", task.action.name())?;
-    set_text(alloc, &mut members, "appName", task.key.app.as_str())?;
-    set_text(alloc, &mut members, "id", task.key.id.as_str())?;
-    Ok(Value::Object(members))
+    append_led_text(alloc, out, "{\"action\":", task.action.name())?;
+    append_led_text(alloc, out, ",\"appName\":", task.key.app.as_str())?;
+    append_led_text(alloc, out, ",\"id\":", task.key.id.as_str())?;
+    append_task_parts(alloc, out, task)?;
+    out.extend_from_slice(b"}")?;
+    Ok(())
 }
 
-/// The items of tasks, in order. `AllocError` where no memory is left.
-fn task_values(alloc: Global, tasks: &[Task]) -> Result<Vec<Value>, AllocError>
-    ensures trees { IfOk result (λ v. map view v.items ≡ map task_tree tasks.now) }
-    ensures whole { IfOk result (λ v. items_have_float (items_view v.items) ≡ false) }
+/// Appends the items of tasks, in order. `AllocError` where no memory is left.
+fn append_tasks(alloc: Global, out: &mut Vec<u8>, tasks: &[Task]) -> Result<(), AllocError>
+    ensures { OnOk result (out.new.items ≡ out.old.items ++ compact_text (list_tree (map task_tree tasks.now))) }
 {
-    let mut items = Vec::new(alloc);
+    out.push(b'[')?;
+    let mut first = true;
     for task in tasks {
-        let value = task_value(alloc, task)?;
-        push(&mut items, value)?;
+        if !first {
+            out.push(b',')?;
+        }
+        append_task(alloc, out, task)?;
+        first = false;
     }
-    Ok(items)
+    out.extend_from_slice(b"]")
 }
 
-/// The JSON of a batch of tasks, as it is sent to a peer (`ReplicationList` in Eureka, by its JSON encoder): an object with the
-/// one member `replicationList`, with an item for each task, in order.
+/// Appends the JSON of a batch of tasks. `AllocError` where no memory is left.
+fn append_batch(alloc: Global, out: &mut Vec<u8>, tasks: &[Task]) -> Result<(), AllocError>
+    ensures { OnOk result (out.new.items ≡ out.old.items ++ compact_text (batch_tree tasks.now)) }
+{
+    out.extend_from_slice(b"{\"replicationList\":")?;
+    append_tasks(alloc, out, tasks)?;
+    out.extend_from_slice(b"}")?;
+    Ok(())
+}
+
+/// These bytes as a text. `AllocError` where they aren't UTF-8: all that is written is, but no proof says so, and so it is checked.
+fn text_of(bytes: Vec<u8>) -> Result<String, AllocError>
+    ensures { IfOk result (λ s. string_bytes s ≡ bytes.items) }
+{
+    match String::from_utf8(bytes) {
+        Ok(text) => Ok(text),
+        Err(_) => Err(AllocError),
+    }
+}
+
+/// The JSON text of a batch of tasks, with no space, as it is sent to a peer (`ReplicationList` in Eureka, by its JSON encoder): an
+/// object with the one member `replicationList`, with an item for each task, in order.
 ///
 /// An item has `action`, `appName` and `id`. Where the task has an instance, it also has `lastDirtyTimestamp`, a text in decimal
 /// digits, `overriddenStatus`, and `status`, which is the task's, or the instance's where the task has none; and for a
-/// `Register`, `instanceInfo`, the instance as `instance_value` writes it, without moments of a lease.
-///
-/// `AllocError` where no memory is left.
-pub fn batch_value(alloc: Global, tasks: &[Task]) -> Result<Value, AllocError>
-    ensures tree { IfOk result (λ v. view v ≡ batch_tree tasks.now) }
-    ensures whole { IfOk result (λ v. has_float (view v) ≡ false) }
-{
-    let items = task_values(alloc, tasks)?;
-    alone(alloc, "replicationList", Value::Array(items))
-}
-
-/// The JSON text of a batch of tasks, as `batch_value` gives it, with no space.
+/// `Register`, `instanceInfo`, the instance as it is listed, without moments of a lease.
 ///
 /// `read_batch` of it gives what the tasks ask their receiver for, where there are at most 250, the text nests at most 127 deep,
 /// and the tasks are as the law `batches_come_back` has them.
@@ -104,8 +166,9 @@ pub fn batch_text(alloc: Global, tasks: &[Task]) -> Result<String, AllocError>
     ensures text { IfOk result (λ s. string_bytes s ≡ compact_text (batch_tree tasks.now)) }
     ensures comes_back { IfOk result (λ s. IsBatch tasks.now → depth (batch_tree tasks.now) ≤ max_depth → SaysTasks (string_bytes s) tasks.now) }
 {
-    let batch = batch_value(alloc, tasks)?;
-    batch.to_string(alloc)
+    let mut out = Vec::new(alloc);
+    append_batch(alloc, &mut out, tasks)?;
+    text_of(out)
 }
 
 /// What an item of a batch is answered (`ReplicationInstanceResponse` in Eureka).
@@ -117,46 +180,76 @@ pub struct ItemAnswer {
     pub instance: Option<BoxedInstance>,
 }
 
-/// The JSON of an item's answer. `AllocError` where no memory is left.
-fn answer_value(alloc: Global, answer: &ItemAnswer) -> Result<Value, AllocError>
-    ensures tree { IfOk result (λ v. view v ≡ answer_tree answer.now) }
-    ensures whole { IfOk result (λ v. has_float (view v) ≡ false) }
+/// Appends an answer that tells a code alone. `AllocError` where no memory is left.
+fn append_code(out: &mut Vec<u8>, code: u64) -> Result<(), AllocError>
+    ensures { OnOk result (out.new.items ≡ out.old.items ++ compact_text (entity_tree code None)) }
 {
-    let code = Value::from(answer.code);
+    append_number(out, "{\"statusCode\":", code)?;
+    out.extend_from_slice(b"}")?;
+    Ok(())
+}
+
+/// Appends an answer that tells an instance, too. `AllocError` where no memory is left.
+fn append_conflict(
+    alloc: Global,
+    out: &mut Vec<u8>,
+    code: u64,
+    instance: &Instance,
+) -> Result<(), AllocError>
+    ensures { OnOk result (out.new.items ≡ out.old.items ++ compact_text (entity_tree code (Some instance.now))) }
+{
+    out.extend_from_slice(b"{\"responseEntity\":")?;
+    append_instance(alloc, out, instance, None)?;
+    append_number(out, ",\"statusCode\":", code)?;
+    out.extend_from_slice(b"}")?;
+    Ok(())
+}
+
+/// Appends the JSON of an item's answer. `AllocError` where no memory is left.
+fn append_answer(alloc: Global, out: &mut Vec<u8>, answer: &ItemAnswer) -> Result<(), AllocError>
+    ensures { OnOk result (out.new.items ≡ out.old.items ++ compact_text (answer_tree answer.now)) }
+{
+    let code = u64::from(answer.code);
     match &answer.instance {
-        None => alone(alloc, "statusCode", code),
-        Some(instance) => {
-            let entity = instance_value(alloc, instance, None)?;
-            let mut members = Map::new(alloc);
-            set(alloc, &mut members, "statusCode", code)?;
-            set(alloc, &mut members, "responseEntity", entity)?;
-            Ok(Value::Object(members))
-        }
+        None => append_code(out, code),
+        Some(instance) => append_conflict(alloc, out, code, instance),
     }
 }
 
-/// The items of answers, in order. `AllocError` where no memory is left.
-fn answer_values(alloc: Global, answers: &[ItemAnswer]) -> Result<Vec<Value>, AllocError>
-    ensures trees { IfOk result (λ v. map view v.items ≡ map answer_tree answers.now) }
-    ensures whole { IfOk result (λ v. items_have_float (items_view v.items) ≡ false) }
+/// Appends the items of answers, in order. `AllocError` where no memory is left.
+fn append_answer_list(
+    alloc: Global,
+    out: &mut Vec<u8>,
+    answers: &[ItemAnswer],
+) -> Result<(), AllocError>
+    ensures { OnOk result (out.new.items ≡ out.old.items ++ compact_text (list_tree (map answer_tree answers.now))) }
 {
-    let mut items = Vec::new(alloc);
+    out.push(b'[')?;
+    let mut first = true;
     for answer in answers {
-        let value = answer_value(alloc, answer)?;
-        push(&mut items, value)?;
+        if !first {
+            out.push(b',')?;
+        }
+        append_answer(alloc, out, answer)?;
+        first = false;
     }
-    Ok(items)
+    out.extend_from_slice(b"]")
 }
 
-/// The JSON that answers a batch (`ReplicationListResponse` in Eureka): an object with the one member `responseList`, with an
-/// item for each answer, in order. An item has `statusCode`, a number, and where there is an instance `responseEntity`, the
-/// instance as `instance_value` writes it, without moments of a lease.
+/// Appends the JSON that answers a batch (`ReplicationListResponse` in Eureka): an object with the one member `responseList`, with
+/// an item for each answer, in order. An item has `statusCode`, a number, and where there is an instance `responseEntity`, the
+/// instance as it is listed, without moments of a lease.
 ///
 /// `AllocError` where no memory is left.
-pub fn batch_answer_value(alloc: Global, answers: &[ItemAnswer]) -> Result<Value, AllocError>
-    ensures tree { IfOk result (λ v. view v ≡ answers_tree answers.now) }
-    ensures whole { IfOk result (λ v. has_float (view v) ≡ false) }
+pub fn append_answers(
+    alloc: Global,
+    out: &mut Vec<u8>,
+    answers: &[ItemAnswer],
+) -> Result<(), AllocError>
+    ensures { OnOk result (out.new.items ≡ out.old.items ++ compact_text (answers_tree answers.now)) }
 {
-    let items = answer_values(alloc, answers)?;
-    alone(alloc, "responseList", Value::Array(items))
+    out.extend_from_slice(b"{\"responseList\":")?;
+    append_answer_list(alloc, out, answers)?;
+    out.extend_from_slice(b"}")?;
+    Ok(())
 }

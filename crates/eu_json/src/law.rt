@@ -1,7 +1,7 @@
 //! What is read again of what was written.
 ghost use Rattle.eu_json.specs.BatchLaw.{BatchesComeBack};
 
-/// A law without code: each task of a batch asks its receiver for a command, and each text whose JSON is that of `batch_value` says, at any
+/// A law without code: each task of a batch asks its receiver for a command, and each text whose JSON is that of `batch_text` says, at any
 /// moment, these commands in their order. That is for up to 250 tasks, each with just those of status and instance that its action has (a `Register`
 /// and a `Heartbeat` an instance, a `StatusUpdate` and a `DeleteStatusOverride` both, a `Cancel` none), where each instance
 /// has its task's key and is one that `read_instance` can give, and names are as `App` and `Id` have them: 1 to 255 bytes, the

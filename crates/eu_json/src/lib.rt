@@ -13,8 +13,7 @@ mod statuses;
 mod write;
 
 pub use batch::read_batch;
-pub use batch_write::{ItemAnswer, batch_answer_value, batch_text, batch_value};
+pub use batch_write::{ItemAnswer, append_answers, batch_text};
 pub use law::batches_come_back;
-pub use listings::{application_value, applications_value};
+pub use listings::{append_application, append_applications, append_held};
 pub use read::read_instance;
-pub use write::{held_value, instance_value};

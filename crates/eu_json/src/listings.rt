@@ -1,68 +1,79 @@
-//! Listings to JSON.
-ghost use Rattle.std.specs.Prelude.{◌≡◌, ◌<◌, ◌≤◌, ◌∷◌, ◌++◌, [], false, length, map, take, drop, IfOk, OnOk};
-ghost use Rattle.serde_json.specs.View.{items_view, view};
-ghost use Rattle.serde_json.specs.Written.{has_float, items_have_float};
-ghost use Rattle.eu_json.specs.Tree.{application_tree, applications_tree, item_tree, listed_tree, runs};
+//! Listings to JSON text.
+ghost use Rattle.std.specs.Prelude.{◌≡◌, ◌<◌, ◌≤◌, ◌++◌, ◌∷◌, length, map, take, drop, OnOk};
+ghost use Rattle.serde_json.specs.Written.{compact_text};
+ghost use Rattle.eu_json.specs.Tree.{application_tree, applications_tree, held_tree, item_tree, list_tree, listed_tree, runs};
 
-use crate::members::{alone, set, set_text};
-use crate::write::instance_value;
-use eu_model::Listed;
+use crate::write::append_instance;
+use eu_base::Instance;
+use eu_model::{Listed, StatusCounts, Times};
 use eu_page::hash_code;
-use serde_json::{Map, Value};
+use eu_text::append_quoted;
 use std::alloc::{AllocError, Global};
 
-/// Puts a value behind the others. `AllocError` where no memory is left.
-pub fn push(items: &mut Vec<Value>, value: Value) -> Result<(), AllocError>
-    ensures trees { OnOk result (map view items.new.items ≡ map view items.old.items ++ view value ∷ []) }
-    ensures whole { OnOk result (items_have_float (items_view items.old.items) ≡ false → has_float (view value) ≡ false → items_have_float (items_view items.new.items) ≡ false) }
+/// Appends the JSON of a list of leases, each as it is listed. `AllocError` where no memory is left.
+fn append_leases(alloc: Global, out: &mut Vec<u8>, held: &[Listed]) -> Result<(), AllocError>
+    ensures { OnOk result (out.new.items ≡ out.old.items ++ compact_text (list_tree (map listed_tree held.now))) }
 {
-    items.push(value)?;
+    out.push(b'[')?;
+    let mut first = true;
+    for listed in held {
+        if !first {
+            out.push(b',')?;
+        }
+        append_instance(alloc, out, &listed.instance, Some(listed.times))?;
+        first = false;
+    }
+    out.extend_from_slice(b"]")
+}
+
+/// Appends the item of one application. `AllocError` where no memory is left.
+fn append_item(alloc: Global, out: &mut Vec<u8>, held: &[Listed]) -> Result<(), AllocError>
+    requires { 0 < length held.now }
+    ensures { OnOk result (out.new.items ≡ out.old.items ++ compact_text (item_tree held.now)) }
+{
+    out.extend_from_slice(b"{\"instance\":")?;
+    append_leases(alloc, out, held)?;
+    out.extend_from_slice(b",\"name\":")?;
+    append_quoted(alloc, out, held[0].instance.key.app.as_str())?;
+    out.extend_from_slice(b"}")?;
     Ok(())
 }
 
-/// The leases, each as it is listed. `AllocError` where no memory is left.
-fn listed_values(alloc: Global, held: &[Listed]) -> Result<Vec<Value>, AllocError>
-    ensures trees { IfOk result (λ v. map view v.items ≡ map listed_tree held.now) }
-    ensures whole { IfOk result (λ v. items_have_float (items_view v.items) ≡ false) }
-{
-    let mut items = Vec::new(alloc);
-    for listed in held {
-        let value = instance_value(alloc, &listed.instance, Some(listed.times))?;
-        push(&mut items, value)?;
-    }
-    Ok(items)
-}
-
-/// The item of one application. `AllocError` where no memory is left.
-fn item_value(alloc: Global, held: &[Listed]) -> Result<Value, AllocError>
-    requires { 0 < length held.now }
-    ensures tree { IfOk result (λ v. view v ≡ item_tree held.now) }
-    ensures whole { IfOk result (λ v. has_float (view v) ≡ false) }
-{
-    let items = listed_values(alloc, held)?;
-    let mut members = Map::new(alloc);
-    set(alloc, &mut members, "instance", Value::Array(items))?;
-    set_text(
-        alloc,
-        &mut members,
-        "name",
-        held[0].instance.key.app.as_str(),
-    )?;
-    Ok(Value::Object(members))
-}
-
-/// The JSON of one application, by its leases: a member `application`, with its leases' instances as `instance` and its name
-/// as `name` (`ApplicationResource.getApplication` in Eureka). There is at least one lease, and all are of one application:
+/// Appends the JSON of one application, by its leases: a member `application`, with its leases' instances as `instance` and its
+/// name as `name` (`ApplicationResource.getApplication` in Eureka). There is at least one lease, and all are of one application:
 /// its name is that of the first.
 ///
 /// `AllocError` where no memory is left.
-pub fn application_value(alloc: Global, held: &[Listed]) -> Result<Value, AllocError>
+pub fn append_application(
+    alloc: Global,
+    out: &mut Vec<u8>,
+    held: &[Listed],
+) -> Result<(), AllocError>
     requires { 0 < length held.now }
-    ensures tree { IfOk result (λ v. view v ≡ application_tree held.now) }
-    ensures whole { IfOk result (λ v. has_float (view v) ≡ false) }
+    ensures { OnOk result (out.new.items ≡ out.old.items ++ compact_text (application_tree held.now)) }
 {
-    let item = item_value(alloc, held)?;
-    alone(alloc, "application", item)
+    out.extend_from_slice(b"{\"application\":")?;
+    append_item(alloc, out, held)?;
+    out.extend_from_slice(b"}")?;
+    Ok(())
+}
+
+/// Appends the JSON of one instance, as it is answered: an object with the one member `instance`. With the moments of its lease,
+/// where they are given (`InstanceResource.getInstanceInfo` in Eureka).
+///
+/// `AllocError` where no memory is left.
+pub fn append_held(
+    alloc: Global,
+    out: &mut Vec<u8>,
+    instance: &Instance,
+    times: Option<Times>,
+) -> Result<(), AllocError>
+    ensures { OnOk result (out.new.items ≡ out.old.items ++ compact_text (held_tree instance.now times)) }
+{
+    out.extend_from_slice(b"{\"instance\":")?;
+    append_instance(alloc, out, instance, times)?;
+    out.extend_from_slice(b"}")?;
+    Ok(())
 }
 
 /// How many leases at the front are of one application.
@@ -80,38 +91,44 @@ fn run_len(held: &[Listed]) -> usize
     held.len()
 }
 
-/// The item of each application. `AllocError` where no memory is left.
-fn item_values(alloc: Global, held: &[Listed]) -> Result<Vec<Value>, AllocError>
-    ensures trees { IfOk result (λ v. map view v.items ≡ map item_tree (runs held.now)) }
-    ensures whole { IfOk result (λ v. items_have_float (items_view v.items) ≡ false) }
+/// Appends the item of each application. `AllocError` where no memory is left.
+fn append_items(alloc: Global, out: &mut Vec<u8>, held: &[Listed]) -> Result<(), AllocError>
+    ensures { OnOk result (out.new.items ≡ out.old.items ++ compact_text (list_tree (map item_tree (runs held.now)))) }
 {
-    let mut items = Vec::new(alloc);
+    out.push(b'[')?;
+    let mut first = true;
     let mut rest = held;
     while !rest.is_empty() {
+        if !first {
+            out.push(b',')?;
+        }
         let (run, others) = rest.split_at(run_len(rest));
-        let item = item_value(alloc, run)?;
-        push(&mut items, item)?;
+        append_item(alloc, out, run)?;
+        first = false;
         rest = others;
     }
-    Ok(items)
+    out.extend_from_slice(b"]")
 }
 
-/// The JSON of everything that is held (`ApplicationsResource.getContainers` in Eureka): a member `applications`, whose members
-/// are `application`, with one item for each application, `apps__hashcode`, the hash code of the statuses, and
+/// Appends the JSON of everything that is held (`ApplicationsResource.getContainers` in Eureka): a member `applications`, whose
+/// members are `application`, with one item for each application, `apps__hashcode`, the hash code of the statuses, and
 /// `versions__delta`, which is `1`. An item has an application's leases' instances as `instance`, and its name as `name`.
 ///
 /// An item ends where a lease of another application follows: where the leases are in key order, each application has one.
 ///
 /// `AllocError` where no memory is left.
-pub fn applications_value(alloc: Global, held: &[Listed]) -> Result<Value, AllocError>
-    ensures tree { IfOk result (λ v. view v ≡ applications_tree held.now) }
-    ensures whole { IfOk result (λ v. has_float (view v) ≡ false) }
+pub fn append_applications(
+    alloc: Global,
+    out: &mut Vec<u8>,
+    held: &[Listed],
+) -> Result<(), AllocError>
+    ensures { OnOk result (out.new.items ≡ out.old.items ++ compact_text (applications_tree held.now)) }
 {
-    let items = item_values(alloc, held)?;
-    let mut members = Map::new(alloc);
-    set(alloc, &mut members, "application", Value::Array(items))?;
-    let code = Value::String(hash_code(alloc, held)?);
-    set(alloc, &mut members, "apps__hashcode", code)?;
-    set_text(alloc, &mut members, "versions__delta", "1")?;
-    alone(alloc, "applications", Value::Object(members))
+    out.extend_from_slice(b"{\"applications\":{\"application\":")?;
+    append_items(alloc, out, held)?;
+    out.extend_from_slice(b",\"apps__hashcode\":")?;
+    let code = hash_code(alloc, &StatusCounts::of(held))?;
+    append_quoted(alloc, out, code.as_str())?;
+    out.extend_from_slice(b",\"versions__delta\":\"1\"}}")?;
+    Ok(())
 }

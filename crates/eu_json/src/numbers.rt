@@ -4,7 +4,7 @@ ghost use Rattle.std.specs.Option.{option_map};
 ghost use Rattle.serde_json.specs.View.{view};
 ghost use Rattle.eu_json.specs.Reading.{digits_within, interval_in, secs_in, secs_within, stamp_in};
 
-use eu_base::{Fault, LeaseSecs, Moment, RenewalSecs, Stamp};
+use eu_base::{Fault, LeaseSecs, Moment, RenewalSecs, Stamp, read_digits};
 use serde_json::Value;
 
 /// Up to `most` decimal digits as a number. None for any other text.
@@ -15,14 +15,7 @@ fn digits_within(most: usize, text: &[u8]) -> Option<u64>
     if text.is_empty() || text.len() > most {
         return None;
     }
-    let mut value: u64 = 0;
-    for byte in text {
-        if !byte.is_ascii_digit() {
-            return None;
-        }
-        value = value * 10 + u64::from(*byte - b'0');
-    }
-    Some(value)
+    read_digits(text)
 }
 
 /// The stamp that a member writes as a number or in 1 to 19 digits, else `BadStamp`; the moment where it is absent or null.

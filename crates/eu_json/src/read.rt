@@ -1,19 +1,26 @@
 //! An instance from JSON.
-ghost use Rattle.std.specs.Prelude.{◌≡◌, ◌≢◌, ◌⊎◌, ◌<◌, [], length, Err, IfErr, IfOk, IsOk, MatchResult, Ok, OnOk, Some, None};
+ghost use Rattle.std.specs.Prelude.{◌≡◌, ◌≢◌, ◌⊎◌, ◌<◌, [], length, not, Err, IfErr, IfOk, IsOk, MatchResult, Ok, OnOk, Some, None};
 ghost use Rattle.std.specs.Option.{option_map};
 ghost use Rattle.serde_json.specs.Read.{read};
 ghost use Rattle.serde_json.specs.View.{view};
+ghost use Rattle.serde_json.specs.Written.{has_float};
+ghost use Rattle.eu_text.specs.Fit.{is_fit};
 ghost use Rattle.eu_base.specs.Rest.{IsRest};
 ghost use Rattle.eu_base.specs.Gives.{Gives, result_map};
+ghost use Rattle.eu_json.specs.Parts.{FitsIfWhole};
 ghost use Rattle.eu_json.specs.Reading.{instance_of, lease_member, of_object, rest_of, short};
 
 use crate::checks::{check_address, check_app, check_center, name_of};
 use crate::members::{take, without};
 use crate::numbers::{interval_in, secs_in, stamp_in};
 use crate::statuses::{overridden_at, status_in};
-use eu_base::{App, Fault, Id, Instance, Key, LONGEST_NAME, Moment, Rest, Status, has_fraction};
+use eu_base::{App, Fault, Id, Instance, Key, LONGEST_NAME, Moment, Rest, Status};
+use eu_text::fits;
 use serde_json::Value;
 use std::alloc::{AllocError, Global};
+
+/// How deep JSON may nest that is read.
+const MOST_NESTING: usize = 127;
 
 /// The JSON of a text. `NotJson` where it is none, and `OutOfMemory`, which a text without a byte never is.
 pub fn parse(alloc: Global, text: &str) -> Result<Value, Fault>
@@ -29,6 +36,15 @@ pub fn parse(alloc: Global, text: &str) -> Result<Value, Fault>
         Err(error) if error.is_memory() => Err(Fault::OutOfMemory),
         Err(_) => Err(Fault::NotJson),
     }
+}
+
+/// Whether the numbers of a tree that was read are whole, so that it can be kept. Takes no memory.
+pub fn is_whole(value: &Value) -> bool
+    requires { FitsIfWhole (view value.now) }
+    ensures whole { result ≡ not (has_float (view value.now)) }
+    ensures fit { result ≡ is_fit (view value.now) }
+{
+    fits(value, MOST_NESTING)
 }
 
 /// A member of the lease's information, where that is an object.
@@ -155,14 +171,14 @@ pub fn read_instance(
     ensures memory { result ≡ Err Fault.OutOfMemory → text.now ≢ [] }
 {
     let body = parse(alloc, text)?;
-    let fraction = has_fraction(&body);
+    let whole = is_whole(&body);
     let Some(instance) = take(body, "instance") else {
         return Err(Fault::NotJson);
     };
     if !instance.is_object() {
         return Err(Fault::NotJson);
     }
-    if fraction {
+    if !whole {
         return Err(Fault::NotWhole);
     }
     of_object(alloc, instance, app, moment)

@@ -16,33 +16,11 @@ pub fn alike(left: &str, right: &str) -> bool
     left.eq_ignore_ascii_case(right)
 }
 
-/// The status of that name, whatever the case of its ASCII letters. None for any other text.
-pub fn status_known(text: &str) -> Option<Status>
-    ensures { result ≡ status_of (str_to_ascii_uppercase text.now) }
-{
-    if alike(text, "UP") {
-        return Some(Status::Up);
-    }
-    if alike(text, "DOWN") {
-        return Some(Status::Down);
-    }
-    if alike(text, "STARTING") {
-        return Some(Status::Starting);
-    }
-    if alike(text, "OUT_OF_SERVICE") {
-        return Some(Status::OutOfService);
-    }
-    if alike(text, "UNKNOWN") {
-        return Some(Status::Unknown);
-    }
-    None
-}
-
 /// The status of that name, whatever the case of its ASCII letters. `Unknown` for any other text.
 fn status_named(text: &str) -> Status
     ensures { result ≡ status_named text.now }
 {
-    status_known(text).unwrap_or(Status::Unknown)
+    Status::read_any_case(text).unwrap_or(Status::Unknown)
 }
 
 /// The status that a member names. `default` where it is absent or null, and `Unknown` where it names none.

@@ -6,7 +6,7 @@ use Rattle.eu_model.specs.declared.views.View.TheVariants as seen
 use Rattle.eu_model.specs.declared.commands.Command.TheVariants.{Register, Renew, Cancel, SetStatus, UnsetStatus, Adopt, EndMinute, Update, Reconfigure, Evict, Drain, Landed, Lost}
 use Rattle.eu_model.specs.Machine.{Machine}
 use Rattle.eu_model.specs.Plain.{plain}
-use Rattle.eu_model.specs.View.{listing}
+use Rattle.eu_model.specs.View.{counts, listing, status_counts}
 use Rattle.eu_model.specs.PlainSteps.{plain_join_fault, plain_renew_fault, plain_one, plain_listing}
 use Rattle.eu_model.specs.Law.{StepsAlike, FaultsAlike, ViewsAlike}
 use Rattle.eu_model.proofs.AnswerLemmas.{alike}
@@ -50,8 +50,12 @@ faults_alike s s' c t e = refl
 listings_alike : (app : Option (List ℕ)) (s s' : Machine) → plain s ≡ plain s' → listing app s ≡ listing app s'
 listings_alike app s s' e = listing-kept app s ∙ ap (plain_listing app) e ∙ sym (listing-kept app s')
 
+counts_alike : (s s' : Machine) → plain s ≡ plain s' → counts s ≡ counts s'
+counts_alike s s' e = counts-kept s ∙ ap plain_counts e ∙ sym (counts-kept s')
+
 pub views_alike : ViewsAlike
 views_alike s s' (asked.One k) t e = ap seen.One (one-kept s k t ∙ ap (λ p. plain_one p k t) e ∙ sym (one-kept s' k t))
 views_alike s s' (asked.OfApp app) t e = ap seen.OfApp (listings_alike (Some app) s s' e)
 views_alike s s' asked.All t e = ap seen.All (listings_alike None s s' e)
-views_alike s s' asked.Counts t e = ap seen.Counts (counts-kept s ∙ ap plain_counts e ∙ sym (counts-kept s'))
+views_alike s s' asked.Counts t e = ap seen.Counts (counts_alike s s' e)
+views_alike s s' asked.Page t e = λ i. seen.Page (counts_alike s s' e i) (status_counts (listings_alike None s s' e i))

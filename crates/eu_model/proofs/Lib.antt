@@ -28,3 +28,4 @@ pub mod ServerLemmas
 pub mod ServedLemmas
 pub mod Crossing
 pub mod ChainLemmas
+pub mod StatusCountLemmas

@@ -67,19 +67,19 @@ abbrev pub again : ℕ → Task → Task
 again t task = record task { action = Register; status = None; queued = t }
 
 -- what the answer to a task leaves to wait: a heartbeat that found no lease (404) is followed by a registration, unless one waits
-abbrev pub answered : ℕ → Task → ℕ → List Task → List Task
-answered t task code waiting =
+abbrev pub after_code : ℕ → Task → ℕ → List Task → List Task
+after_code t task code waiting =
     if is_action task.action Heartbeat && (code == 404) && not (waits (again t task) waiting) then put (again t task) waiting else waiting
 
 -- the same of each task with its code, in order
-abbrev pub all_answered : ℕ → List Task → List ℕ → List Task → List Task
-all_answered t [] codes waiting = waiting
-all_answered t (task ∷ tasks) [] waiting = waiting
-all_answered t (task ∷ tasks) (code ∷ codes) waiting = all_answered t tasks codes (answered t task code waiting)
+abbrev pub after_codes : ℕ → List Task → List ℕ → List Task → List Task
+after_codes t [] codes waiting = waiting
+after_codes t (task ∷ tasks) [] waiting = waiting
+after_codes t (task ∷ tasks) (code ∷ codes) waiting = after_codes t tasks codes (after_code t task code waiting)
 
 -- The batch in flight has landed, and was answered by these codes
 abbrev pub landed : ℕ → List ℕ → Queue → Queue
-landed t codes q = record { waiting = all_answered t q.flight codes q.waiting; flight = [] }
+landed t codes q = record { waiting = after_codes t q.flight codes q.waiting; flight = [] }
 
 abbrev pub landed_fault : List ℕ → Queue → Option Fault
 landed_fault codes q =

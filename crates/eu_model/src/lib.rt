@@ -11,6 +11,7 @@ mod desk;
 mod law;
 mod queues;
 mod states;
+mod status_counts;
 mod tallies;
 mod views;
 
@@ -24,5 +25,6 @@ pub use law::{
 };
 pub use queues::{Queue, Queues};
 pub use states::{OverrideRows, State};
+pub use status_counts::StatusCounts;
 pub use tallies::Tally;
 pub use views::{Counts, Listed, Listing, Query, Times, View};

@@ -1,5 +1,6 @@
 //! What is seen of a registry.
 
+use crate::StatusCounts;
 use eu_base::{App, Instance, Items, Key};
 
 /// What may be asked of a registry without changing it.
@@ -13,6 +14,8 @@ pub enum Query {
     All,
     /// How many leases are held, expected and renewed.
     Counts,
+    /// What a status page tells: those numbers, and how many leases there are of each status.
+    Page,
 }
 
 /// What a query is answered.
@@ -26,6 +29,8 @@ pub enum View {
     All(Listing),
     /// The counts.
     Counts(Counts),
+    /// The counts, and how many leases are held of each status.
+    Page(Counts, StatusCounts),
 }
 
 /// The counts of a registry.

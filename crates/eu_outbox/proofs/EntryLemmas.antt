@@ -16,7 +16,7 @@ use Rattle.eu_base.specs.contracts.tasks.TaskNamePartialEq.TheImpl.{eq-value}
 use Rattle.eu_base.specs.contracts.tasks.ActionPartialEq.TheImpl as action
 use Rattle.eu_base.specs.Values.{is_action, same_name, key_eq}
 use Rattle.eu_model.specs.Server.{waits, is_old, live}
-use Rattle.eu_outbox.specs.declared.line.Waiting.{Waiting}
+use Rattle.eu_outbox.specs.declared.waiting.Waiting.{Waiting}
 use Rattle.eu_outbox.specs.Steps.{IsApart, in_line, named, placed, task_of}
 use Rattle.eu_outbox.proofs.NameLemmas.{first_false, first_true, second_true, same_action, same_key, list_any-reverse, map-reverse, filter-reverse, reverse-push}
 use Rattle.eu_outbox.proofs.TaskLemmas.{for_another, for-none, placed-left, placed-right, placed-before, IsApart-cross}

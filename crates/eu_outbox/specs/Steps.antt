@@ -5,7 +5,7 @@ use Rattle.eu_base.specs.declared.tasks.Task.{Task}
 use Rattle.eu_base.specs.declared.tasks.TaskName.{TaskName}
 use Rattle.eu_base.specs.Values.{is_action, same_name, key_eq}
 use Rattle.eu_model.specs.Server.{waits, is_old}
-use Rattle.eu_outbox.specs.declared.line.Waiting.{Waiting}
+use Rattle.eu_outbox.specs.declared.waiting.Waiting.{Waiting}
 
 -- the task that an entry stands for
 abbrev pub task_of : TaskName × Waiting → Task

@@ -1,7 +1,7 @@
 //! What waits for a peer, and what is in flight to it.
 #![tactic(auto)]
 
-mod line;
 mod outbox;
+mod waiting;
 
 pub use outbox::Outbox;

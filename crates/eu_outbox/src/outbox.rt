@@ -1,9 +1,9 @@
 //! The outbox of a peer.
 ghost use Rattle.std.specs.Prelude.{◌≡◌, ◌+◌, ◌<◌, ◌≤◌, [], length, replicate, reverse, take, vec_len, IsOk, IfOk, IfErr, OnOk, OnErr};
 ghost use Rattle.eu_model.specs.Answers.{IsRefusal};
-ghost use Rattle.eu_model.specs.Server.{idle, again, all_answered, answered, live, put, drained, drain_fault, landed, landed_fault, lost, lost_fault};
+ghost use Rattle.eu_model.specs.Server.{idle, again, after_codes, after_code, live, put, drained, drain_fault, landed, landed_fault, lost, lost_fault};
 
-use crate::line::{Line, parts};
+use crate::waiting::{Line, parts};
 use eu_base::{Action, Fault, MOST_SENT, MOST_WAITING, Moment, Task, Tasks};
 use eu_model::Queue;
 use std::alloc::{AllocError, Global};
@@ -211,7 +211,7 @@ fn answer_all(waiting: &mut Line, batch: &mut Vec<Task>, codes: &[u16], moment: 
     requires count { length codes.now ≡ vec_len batch.old }
     requires room { length codes.now ≤ waiting.old.room }
     requires few { length waiting.old.tasks ≤ MOST_WAITING }
-    ensures tasks { waiting.new.tasks ≡ all_answered moment (reverse batch.old.items) codes.now waiting.old.tasks }
+    ensures tasks { waiting.new.tasks ≡ after_codes moment (reverse batch.old.items) codes.now waiting.old.tasks }
     ensures few { length waiting.new.tasks ≤ MOST_WAITING }
     ensures none { batch.new.items ≡ [] }
 {
@@ -227,7 +227,7 @@ fn answer_all(waiting: &mut Line, batch: &mut Vec<Task>, codes: &[u16], moment: 
 fn answer(waiting: &mut Line, task: Task, code: u16, moment: Moment)
     requires room { 0 < waiting.old.room }
     requires few { length waiting.old.tasks ≤ MOST_WAITING }
-    ensures tasks { waiting.new.tasks ≡ answered moment task code waiting.old.tasks }
+    ensures tasks { waiting.new.tasks ≡ after_code moment task code waiting.old.tasks }
     ensures few { length waiting.new.tasks ≤ MOST_WAITING }
     ensures room { waiting.old.room ≤ waiting.new.room + 1 }
 {

@@ -1,2 +1,1 @@
-pub mod Tally
 pub mod Page

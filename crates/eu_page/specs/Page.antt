@@ -2,8 +2,8 @@
 use Rattle.std.specs.Prelude.{◌≡◌, ℕ, Bool, List, ◌++◌, codes, if◌then◌else◌, string_bytes}
 use Rattle.std.specs.Fmt.{decimal}
 use Rattle.eu_model.specs.declared.views.Counts.{Counts}
-use Rattle.eu_model.specs.declared.views.Listed.{Listed}
-use Rattle.eu_model.specs.View.{hash_code}
+use Rattle.eu_model.specs.declared.status_counts.StatusCounts.{StatusCounts}
+use Rattle.eu_model.specs.View.{hash_of}
 use Rattle.eu_page.specs.declared.pages.Page.{Page}
 
 abbrev pub on_or_off : Bool → List ℕ
@@ -31,9 +31,9 @@ state_lines c statuses =
 abbrev pub page_lines : Counts → List ℕ → List ℕ
 page_lines c statuses = count_lines c ++ state_lines c statuses
 
--- what is seen of a registry with these counts that holds these leases
-abbrev pub shown_page : Counts → List Listed → List ℕ
-shown_page c held = page_lines c (hash_code held)
+-- what is seen of a registry with these counts, so many of whose leases have each status
+abbrev pub shown_page : Counts → StatusCounts → List ℕ
+shown_page c statuses = page_lines c (hash_of statuses)
 
 -- the counts that a page tells
 abbrev pub counts_of : Page → Counts
@@ -50,7 +50,7 @@ counts_of p = record {
 abbrev pub page_text : Page → List ℕ
 page_text p = page_lines (counts_of p) (string_bytes p.statuses)
 
--- the page tells these counts, and the hash code of these leases
-pub record IsPageOf (c : Counts) (held : List Listed) (p : Page) : Type 0 where
+-- the page tells these counts, and the hash code of these statuses
+pub record IsPageOf (c : Counts) (statuses : StatusCounts) (p : Page) : Type 0 where
   pub counts : counts_of p ≡ c
-  pub statuses : string_bytes p.statuses ≡ hash_code held
+  pub codes : string_bytes p.statuses ≡ hash_of statuses

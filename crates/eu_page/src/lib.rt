@@ -3,7 +3,6 @@
 
 mod codes;
 mod pages;
-mod tally;
 
 pub use codes::hash_code;
 pub use pages::{Page, page_of, status_page};

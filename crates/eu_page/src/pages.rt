@@ -3,7 +3,7 @@ ghost use Rattle.std.specs.Prelude.{◌≡◌, ◌++◌, IfOk, OnOk, string_byte
 ghost use Rattle.eu_page.specs.Page.{page_text, counts_of, count_lines, state_lines, on_or_off, yes_or_no, IsPageOf};
 
 use crate::codes::hash_code;
-use eu_model::{Counts, Listed};
+use eu_model::{Counts, StatusCounts};
 use std::alloc::{AllocError, Global};
 
 /// What a status page tells of a registry.
@@ -83,11 +83,11 @@ fn yes_or_no(yes: bool) -> &'static str
     if yes { "yes" } else { "no" }
 }
 
-/// The page of a registry with these counts, which holds these leases. `AllocError` where no memory is left.
-pub fn page_of(alloc: Global, counts: &Counts, held: &[Listed]) -> Result<Page, AllocError>
-    ensures { IfOk result (λ page. IsPageOf counts.now held.now page) }
+/// The page of a registry with these counts, so many of whose leases have each status. `AllocError` where no memory is left.
+pub fn page_of(alloc: Global, counts: &Counts, statuses: &StatusCounts) -> Result<Page, AllocError>
+    ensures { IfOk result (λ page. IsPageOf counts.now statuses.now page) }
 {
-    let statuses = hash_code(alloc, held)?;
+    let statuses = hash_code(alloc, statuses)?;
     Ok(Page {
         held: counts.held,
         expected: counts.expected,

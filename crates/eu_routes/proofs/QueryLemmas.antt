@@ -1,10 +1,9 @@
 -- Stamps and statuses
-use Rattle.std.proofs.Common.{◌≡◌, ℕ, ◌<◌, ◌^◌, Bool, true, false, List, [], ◌∷◌, length, map, Option, Some, None, Result, Ok, Err, SomeIff, refl, sym, ◌∙◌, ap, arith, rules}
+use Rattle.std.proofs.Common.{◌≡◌, ℕ, ◌<◌, ◌^◌, Bool, true, false, List, [], ◌∷◌, length, map, Option, Some, None, Result, Ok, Err, SomeIff, refl, sym, ◌∙◌, ap, arith, rules, nat_lt, ◌&&◌, if◌then◌else◌}
 use Rattle.std.proofs.lemmas.Bool.{and_parts, and_from, false_from_ne_true, ltb-true, lt-ltb}
 use Rattle.std.proofs.lemmas.Bool.Decides.{nat_tests}
 use Rattle.std.proofs.lemmas.Slice.Eq.{bytes_eq-Decides}
 use Rattle.std.proofs.lemmas.Str.Ascii.{lowercase-uppercase}
-use Rattle.std.proofs.lemmas.Str.Parse.{IsNumeralModel, numerals_by_value, tells_all_ascii_digits}
 use Rattle.std.specs.Bool.{Decides}
 use Rattle.std.specs.Char.{to_ascii_lowercase, to_ascii_uppercase}
 use Rattle.std.specs.Str.{all_ascii_digits, bytes_eq}
@@ -16,14 +15,26 @@ use Rattle.std.proofs.lemmas.Str.{utf8_lossy-IsUtf8}
 use Rattle.std.specs.Str.Lossy.{utf8_lossy}
 use Rattle.form_urlencoded.specs.Form.{IsPlainText}
 use Rattle.form_urlencoded.proofs.FormLemmas.{decode_plain}
+use Rattle.eu_base.specs.Digits.{digits}
 use Rattle.eu_routes.specs.Query.{text_of, is_number, stamp_of, u32_of, value_at, stamp_given, status_given, stamp_at, status_at}
 
 -- bytes that stand for themselves
 pub plain_stands : (bytes : List ℕ) → IsPlainText bytes → text_of bytes ≡ bytes
 plain_stands bytes plain = ap utf8_lossy (decode_plain bytes plain.0) ∙ utf8_lossy-IsUtf8 bytes plain.1
 
-pub digits : IsNumeralModel (λ ds. all_ascii_digits ds ≡ true) (digits_value 10)
-digits = numerals_by_value _ tells_all_ascii_digits
+-- what the digits of a text tell
+pub digits_some : (text : List ℕ) (v : ℕ) → digits text ≡ Some v → (length text < 20) × (all_ascii_digits text ≡ true) × (digits_value 10 text ≡ v)
+digits_some text v e = by (nat_lt (length text) 20 && all_ascii_digits text) refl e
+  where
+    by : (b : Bool) → (nat_lt (length text) 20 && all_ascii_digits text) ≡ b → (if b then Some (digits_value 10 text) else None) ≡ Some v → (length text < 20) × (all_ascii_digits text ≡ true) × (digits_value 10 text ≡ v)
+    by true is some = let p = and_parts _ _ is in (ltb-true _ _ p.0, p.1, cc)
+    by false is some = cc
+
+pub digits_none : (text : List ℕ) → digits text ≡ None → length text < 20 → all_ascii_digits text ≡ true → ⊥
+digits_none text e short all = by (and_from _ _ (lt-ltb _ _ short) all) e
+  where
+    by : (nat_lt (length text) 20 && all_ascii_digits text) ≡ true → digits text ≡ None → ⊥
+    by is none = cc
 
 -- what is a number, and what isn't
 module _ (most limit : ℕ) (text : List ℕ) where
@@ -57,11 +68,17 @@ no_u32 text other = rw (isnt 11 (2 ^ 32) text other) refl
 pub long_u32 : (text : List ℕ) → 10 < length text → u32_of text ≡ None
 long_u32 text long = no_u32 text (λ filled short all small. omega arith)
 
--- a text that was parsed as a number below 2^32, or wasn't
-pub parsed_u32 : {E : Type 0} (text : List ℕ) (r : Result ℕ E) → OkIff r ((all_ascii_digits text ≡ true) × (0 < length text) × (digits_value 10 text < 2 ^ 32)) (digits_value 10 text) → length text < 11
-    → result_ok r ≡ u32_of text
-parsed_u32 text (Ok n) h short = ap Some h.1 ∙ sym (some_u32 text h.0.1 short h.0.0 h.0.2)
-parsed_u32 text (Err fault) h short = sym (no_u32 text (λ filled less all small. h (all, filled, small)))
+-- the number below 2^32 of some digits
+pub u32_by : {E : Type 0} (text : List ℕ) (v : ℕ) (r : Result ℕ E) → 0 < length text → length text < 11 → digits text ≡ Some v → OkIff r (v < 2 ^ 32) v → result_ok r ≡ u32_of text
+u32_by text v (Err fault) filled short e fits =
+    let d = digits_some text v e in
+    sym (no_u32 text (λ few less all small. fits (omega (arith, d.2, small))))
+u32_by text v (Ok n) filled short e fits =
+    let d = digits_some text v e in
+    ap Some (fits.1 ∙ sym d.2) ∙ sym (some_u32 text filled short d.1 (rw d.2 fits.0))
+
+pub no_u32_by : (text : List ℕ) → digits text ≡ None → u32_of text ≡ None
+no_u32_by text e = no_u32 text (λ filled short all small. digits_none text e (omega arith) all)
 
 -- letters of either case
 upper_lower : (c : ℕ) → to_ascii_uppercase (to_ascii_lowercase c) ≡ to_ascii_uppercase c
@@ -83,21 +100,17 @@ same_letters text name r capitals same =
     ) in
     search (rules, bytes_eq-Decides)
 
--- a text that was parsed as a number below 2^64, or wasn't
-pub unparsed : {E : Type 0} (text : List ℕ) (r : Result ℕ E) → OkIff r ((all_ascii_digits text ≡ true) × (0 < length text) × (digits_value 10 text < 2 ^ 64)) (digits_value 10 text) → result_ok r ≡ None → stamp_of text ≡ None
-unparsed text (Ok n) h e = cc
-unparsed text (Err fault) h e = no_stamp text (λ filled short all small. h (all, filled, omega arith))
+-- the stamp of some digits
+pub stamp_by : (text : List ℕ) (v : ℕ) (o : Option ℕ) → 0 < length text → digits text ≡ Some v → SomeIff o (v < 2 ^ 63) v → o ≡ stamp_of text
+stamp_by text v None filled e fits =
+    let d = digits_some text v e in
+    sym (no_stamp text (λ few less all small. fits (omega (arith, d.2, small))))
+stamp_by text v (Some n) filled e fits =
+    let d = digits_some text v e in
+    ap Some (fits.1 ∙ sym d.2) ∙ sym (some_stamp text filled d.0 d.1 (rw d.2 fits.0))
 
-pub parsed : {E : Type 0} (text : List ℕ) (r : Result ℕ E) (n : ℕ) (o : Option ℕ) → OkIff r ((all_ascii_digits text ≡ true) × (0 < length text) × (digits_value 10 text < 2 ^ 64)) (digits_value 10 text) → result_ok r ≡ Some n → length text < 20
-    → SomeIff o (n < 2 ^ 63) n → o ≡ stamp_of text
-parsed text (Err fault) n o h e short fits = cc
-parsed text (Ok m) n None h e short fits =
-    let same : m ≡ n = cc in
-    sym (no_stamp text (λ filled less all small. fits (omega (arith, same, h.1))))
-parsed text (Ok m) n (Some s) h e short fits =
-    let same : m ≡ n = cc in
-    let value : n ≡ digits_value 10 text = sym same ∙ h.1 in
-    ap Some (fits.1 ∙ value) ∙ sym (some_stamp text h.0.1 short h.0.0 (rw (← value) fits.0))
+pub no_stamp_by : (text : List ℕ) → digits text ≡ None → stamp_of text ≡ None
+no_stamp_by text e = no_stamp text (λ filled short all small. digits_none text e short all)
 
 -- what a value tells, once it is found
 pub stamp_is : (name query : List ℕ) (value : Option (List ℕ)) (said : Result (Option ℕ) Fault) → value ≡ value_at name query → stamp_given value ≡ said → stamp_at name query ≡ said

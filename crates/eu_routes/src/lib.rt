@@ -8,5 +8,5 @@ mod queries;
 mod table;
 
 pub use asks::Route;
-pub use queries::{read_stamp, read_status};
+pub use queries::read_stamp;
 pub use table::Routes;

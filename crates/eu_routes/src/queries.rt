@@ -7,13 +7,10 @@ ghost use Rattle.form_urlencoded.specs.Form.{IsPlainText};
 ghost use Rattle.eu_base.specs.Gives.{Gives};
 ghost use Rattle.eu_routes.specs.Query as spec;
 
-use eu_base::{Config, Fault, Stamp, Status};
+use eu_base::{Config, Fault, Stamp, Status, read_digits};
 use form_urlencoded::{decode, raw_pairs};
 use std::alloc::{AllocError, Global};
 use std::borrow::CowStr;
-
-/// The most digits of a stamp.
-const MOST_DIGITS: usize = 19;
 
 /// The most digits of a setting.
 const MOST_U32_DIGITS: usize = 10;
@@ -35,41 +32,10 @@ const EVICT_MS: &str = "evictMs";
 pub fn read_stamp(text: &str) -> Option<Stamp>
     ensures { result ≡ spec.stamp_of text.now }
 {
-    if text.len() > MOST_DIGITS || text.starts_with('+') {
+    if text.is_empty() {
         return None;
     }
-    Stamp::new(text.parse::<u64>().ok()?)
-}
-
-/// Whether a text is this one, which is in capitals, in letters of either case.
-fn is_name(text: &str, name: &str) -> bool
-    requires { str_to_ascii_uppercase name.now ≡ name.now }
-    ensures { result ≡ bytes_eq (str_to_ascii_uppercase text.now) name.now }
-{
-    text.eq_ignore_ascii_case(name)
-}
-
-/// The status of that name, in letters of either case. None for any other text.
-#[tactic(auto, unfolding(crate::specs::Query::status_in))]
-pub fn read_status(text: &str) -> Option<Status>
-    ensures { result ≡ spec.status_in text.now }
-{
-    if is_name(text, "UP") {
-        return Some(Status::Up);
-    }
-    if is_name(text, "DOWN") {
-        return Some(Status::Down);
-    }
-    if is_name(text, "STARTING") {
-        return Some(Status::Starting);
-    }
-    if is_name(text, "OUT_OF_SERVICE") {
-        return Some(Status::OutOfService);
-    }
-    if is_name(text, "UNKNOWN") {
-        return Some(Status::Unknown);
-    }
-    None
+    Stamp::new(read_digits(text.as_bytes())?)
 }
 
 /// Whether bytes stand for themselves: ASCII without an escape (`application/x-www-form-urlencoded`, URL Standard, section 5.1).
@@ -164,13 +130,14 @@ pub fn stamp_given(value: Option<CowStr<'_, Global>>) -> Result<Option<Stamp>, F
 }
 
 /// The status that a value tells. None where there is no value; `BadValue` for any text that is no status, an empty one too.
+#[tactic(auto, unfolding(crate::specs::Query::status_in))]
 pub fn status_given(value: Option<CowStr<'_, Global>>) -> Result<Option<Status>, Fault>
     ensures { Gives result (spec.status_given (option_map cow_str_bytes value.entry)) }
 {
     let Some(value) = value else {
         return Ok(None);
     };
-    match read_status(value.as_str()) {
+    match Status::read_any_case(value.as_str()) {
         Some(status) => Ok(Some(status)),
         None => Err(Fault::BadValue),
     }
@@ -181,10 +148,10 @@ pub fn status_given(value: Option<CowStr<'_, Global>>) -> Result<Option<Status>,
 fn read_u32(text: &str) -> Option<u32>
     ensures { result ≡ spec.u32_of text.now }
 {
-    if text.len() > MOST_U32_DIGITS || text.starts_with('+') {
+    if text.is_empty() || text.len() > MOST_U32_DIGITS {
         return None;
     }
-    text.parse::<u32>().ok()
+    u32::try_from(read_digits(text.as_bytes())?).ok()
 }
 
 /// Whether a text is `on` or `off`. None for any other text.

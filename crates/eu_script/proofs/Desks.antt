@@ -22,7 +22,7 @@ use Rattle.eu_model.specs.Machine.{Machine}
 use Rattle.eu_model.specs.Plain.{Plain, plain}
 use Rattle.eu_model.specs.Server as model
 use Rattle.eu_model.specs.Server.{Server, ServerStep, plain_server, server_fault}
-use Rattle.eu_model.specs.View.{counts, listing}
+use Rattle.eu_model.specs.View.{counts, listing, status_counts}
 use Rattle.eu_model.proofs.RunLemmas.{run_push}
 use Rattle.eu_page.specs.Page.{shown_page}
 use Rattle.eu_script.specs.declared.desk.ScriptDesk.{ScriptDesk}
@@ -146,7 +146,7 @@ module _ {C : Type 0} (asks : C → ℕ → ℕ × C) (x : C) where
   sees a see text out value shows is r h = (r, (is ∙ ap text (shows r.server.machine (registry_is a r h)), refl), h)
 
   -- the same of the status page
-  pub pages : (a : Account) (t : ℕ) (r : Result (Unit {0}) LineError) (out : List ℕ) → OnOk r (Shows a.state.registry (λ s. shown_page (counts s) (listing None s)) out)
+  pub pages : (a : Account) (t : ℕ) (r : Result (Unit {0}) LineError) (out : List ℕ) → OnOk r (Shows a.state.registry (λ s. shown_page (counts s) (status_counts (listing None s))) out)
       → OnOk r (OpenedAnswers asks (Page t) (place a x) out (place a x))
   pages a t (Err e) out shows = tt
   pages a t (Ok u) out shows = λ r h. (r, (shows r.server.machine (registry_is a r h), refl), h)

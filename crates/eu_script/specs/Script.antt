@@ -15,7 +15,7 @@ use Rattle.eu_model.specs.declared.commands.Reply.TheVariants.{Evicted}
 use Rattle.eu_model.specs.Machine.{Machine}
 use Rattle.eu_model.specs.Server as model
 use Rattle.eu_model.specs.Server.{Server, ServerStep, server_fault, Run}
-use Rattle.eu_model.specs.View.{one, counts, listing}
+use Rattle.eu_model.specs.View.{one, counts, listing, status_counts}
 use Rattle.eu_page.specs.Page.{shown_page}
 use Rattle.eu_core.specs.Stepped.{drawn_victims, drawn_state}
 use Rattle.eu_words.specs.Lines.{line_of}
@@ -81,7 +81,7 @@ module _ {C : Type 0} (asks : C → ℕ → ℕ × C) where
   SaysOpened (Apply t c) before out after = Does before c t out after
   SaysOpened (Look t k) before out after = Sees before (λ s. look_text (one s k t)) out after
   SaysOpened (Counts t) before out after = Sees before (λ s. counts_text (counts s)) out after
-  SaysOpened (Page t) before out after = Sees before (λ s. shown_page (counts s) (listing None s)) out after
+  SaysOpened (Page t) before out after = Sees before (λ s. shown_page (counts s) (status_counts (listing None s))) out after
   -- the registry is opened only once
   SaysOpened (Open opening) before out after = ⊥
 

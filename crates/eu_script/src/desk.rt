@@ -3,7 +3,7 @@ ghost use Rattle.std.specs.Prelude.{◌≡◌, ◌≢◌, ◌++◌, [], None, On
 ghost use Rattle.eu_lines.specs.Script.{Wrote, place};
 ghost use Rattle.eu_script.specs.Texts.{answer_text, settled_text};
 ghost use Rattle.eu_model.specs.Answers.{Shows};
-ghost use Rattle.eu_model.specs.View.{counts, listing};
+ghost use Rattle.eu_model.specs.View.{counts, listing, status_counts};
 ghost use Rattle.eu_page.specs.Page.{shown_page};
 ghost use Rattle.eu_script.specs.Script.{opens};
 ghost use Rattle.eu_script.specs.ScriptDesk.{Audits, DeskAnswers, DeskRefuses, ClosedAnswers, OpenedAnswers, AccountDoes, Writes, text_of};
@@ -167,11 +167,11 @@ fn answer_opened<C: Chooser>(
 
 /// Prints the status page of a registry. `OutOfMemory`.
 fn answer_page(alloc: Global, registry: &Registry, out: &mut String) -> Result<(), LineError>
-    ensures text { OnOk result (Shows registry.now (λ s. string_bytes out.old ++ shown_page (counts s) (listing None s)) (string_bytes out.new)) }
+    ensures text { OnOk result (Shows registry.now (λ s. string_bytes out.old ++ shown_page (counts s) (status_counts (listing None s))) (string_bytes out.new)) }
     ensures err { IfErr result (λ e. e ≡ LineError.OutOfMemory) }
 {
-    let held = registry.list(alloc, None)?;
-    Ok(print_page(alloc, out, &registry.counts(), held.as_slice())?)
+    let (counts, statuses) = (registry.counts(), registry.status_counts());
+    Ok(print_page(alloc, out, &counts, &statuses)?)
 }
 
 /// Applies a command at a moment, and prints its answer. `OutOfMemory`.

@@ -7,7 +7,7 @@ ghost use Rattle.eu_page.specs.Page.{shown_page};
 ghost use Rattle.eu_base.specs.Values.{action_name};
 
 use eu_base::{Fault, Instance, Key, Task};
-use eu_model::{Counts, Listed, Reply, Times};
+use eu_model::{Counts, Reply, StatusCounts, Times};
 use eu_page::{page_of, status_page};
 use std::alloc::{AllocError, Global};
 
@@ -137,16 +137,16 @@ pub fn print_counts(out: &mut String, counts: &Counts) -> Result<(), AllocError>
     )
 }
 
-/// Prints the status page of a registry with these counts, which holds these leases.
+/// Prints the status page of a registry with these counts, so many of whose leases have each status.
 pub fn print_page(
     alloc: Global,
     out: &mut String,
     counts: &Counts,
-    held: &[Listed],
+    statuses: &StatusCounts,
 ) -> Result<(), AllocError>
-    ensures { OnOk result (string_bytes out.new ≡ string_bytes out.old ++ shown_page counts.now held.now) }
+    ensures { OnOk result (string_bytes out.new ≡ string_bytes out.old ++ shown_page counts.now statuses.now) }
 {
-    let page = page_of(alloc, counts, held)?;
+    let page = page_of(alloc, counts, statuses)?;
     let text = status_page(alloc, &page)?;
     out.push_str(text.as_str())
 }

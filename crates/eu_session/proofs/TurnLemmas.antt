@@ -12,14 +12,14 @@ use Rattle.eu_session.specs.Session.{ComesOf}
 use Rattle.eu_session.specs.Steps.{AnswersTo}
 
 module _ {D C : Type 0} (asked : D → Ask → ℕ → Result Answer Fault → D → Type 0) (tells : C → ℕ → C → Type 0) where
-  pub answered : (request : Request) (close : Bool) (desk desk' : D) (clock clock' : C) (before after : Option (List ℕ)) (failed : Bool) (moment : ℕ) (outcome : Outcome) (text items : List ℕ)
-      → tells clock moment clock' → ComesOf asked desk request moment outcome desk' → text ≡ items → items ≡ response outcome close → Appends before after text
+  pub answered : (request : Request) (close : Bool) (desk desk' : D) (clock clock' : C) (before after : Option (List ℕ)) (failed : Bool) (moment : ℕ) (outcome : Outcome) (text : List ℕ)
+      → tells clock moment clock' → ComesOf asked desk request moment outcome desk' → text ≡ response outcome close → Appends before after text
       → AnswersTo asked tells request close desk clock before desk' clock' after failed (Ok tt)
-  answered request close desk desk' clock clock' before after failed moment outcome text items told comes copied is written =
-      (record { moment = moment; told = told; outcome = outcome; comes = comes }, subst (λ (bytes : List ℕ). Appends before after bytes) is (subst (λ (bytes : List ℕ). Appends before after bytes) copied written))
+  answered request close desk desk' clock clock' before after failed moment outcome text told comes is written =
+      (record { moment = moment; told = told; outcome = outcome; comes = comes }, subst (λ (bytes : List ℕ). Appends before after bytes) is written)
 
-  pub unwritten : (request : Request) (close : Bool) (desk desk' : D) (clock clock' : C) (before after : Option (List ℕ)) (failed : Bool) (moment : ℕ) (outcome : Outcome) (text items : List ℕ)
-      → tells clock moment clock' → ComesOf asked desk request moment outcome desk' → text ≡ items → items ≡ response outcome close → failed ≡ true → (len : ℕ) × Appends before after (take len text)
+  pub unwritten : (request : Request) (close : Bool) (desk desk' : D) (clock clock' : C) (before after : Option (List ℕ)) (failed : Bool) (moment : ℕ) (outcome : Outcome) (text : List ℕ)
+      → tells clock moment clock' → ComesOf asked desk request moment outcome desk' → text ≡ response outcome close → failed ≡ true → (len : ℕ) × Appends before after (take len text)
       → AnswersTo asked tells request close desk clock before desk' clock' after failed (Err Write)
-  unwritten request close desk desk' clock clock' before after failed moment outcome text items told comes copied is fails written =
-      (fails, record { moment = moment; told = told; outcome = outcome; comes = comes }, written.0, subst (λ (bytes : List ℕ). Appends before after (take written.0 bytes)) is (subst (λ (bytes : List ℕ). Appends before after (take written.0 bytes)) copied written.1))
+  unwritten request close desk desk' clock clock' before after failed moment outcome text told comes is fails written =
+      (fails, record { moment = moment; told = told; outcome = outcome; comes = comes }, written.0, subst (λ (bytes : List ℕ). Appends before after (take written.0 bytes)) is written.1)

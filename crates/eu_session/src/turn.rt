@@ -83,8 +83,8 @@ pub fn answer_request<D: Desk, C: Clock, W: Sink>(
 {
     let moment = clock.now();
     let outcome = outcome_of(alloc, routes, desk, request, moment)?;
-    let text = answer(alloc, &outcome, close)?;
-    Ok(put(writer, &text)?)
+    let response = answer(alloc, &outcome, close)?;
+    Ok(put(writer, response.as_slice())?)
 }
 
 /// Answers bytes that begin with no request by this fault, where the fault is theirs.
@@ -100,6 +100,6 @@ pub fn refuse<W: Sink>(alloc: Global, writer: &mut W, fault: Fault) -> Result<()
         Fault::Read => return Err(SessionFault::Read),
         _ => {}
     }
-    let text = answer(alloc, &Outcome::Refused(fault), true)?;
-    Ok(put(writer, &text)?)
+    let response = answer(alloc, &Outcome::Refused(fault), true)?;
+    Ok(put(writer, response.as_slice())?)
 }

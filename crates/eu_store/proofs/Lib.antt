@@ -4,4 +4,5 @@ pub mod SortedLemmas
 pub mod TableLemmas
 pub mod MapLemmas
 pub mod RowLemmas
+pub mod CountLemmas
 pub mod Crossing

@@ -1,5 +1,5 @@
 -- The leases as their users see them: a finite map, and how many more can be put without taking memory
-use Rattle.std.specs.Prelude.{ℕ, Bool, ◌+◌, ◌==◌, if◌then◌else◌, Option, List, map, filter, refl}
+use Rattle.std.specs.Prelude.{ℕ, Bool, ◌+◌, ◌==◌, if◌then◌else◌, Option, None, List, map, filter, refl}
 use Rattle.std.specs.FinMap.{FinMap, get, insert, entries}
 use Rattle.std.specs.Option.{option_map_or}
 use Rattle.std.specs.Coded.{Coded, code_by, coded×, coded_ℕ}
@@ -11,7 +11,8 @@ use Rattle.eu_model.specs.Machine.{duration}
 use Rattle.eu_model.specs.Change.{stamped}
 use Rattle.eu_model.specs.PlainSteps.{plain_expired}
 use Rattle.eu_model.specs.PlainCode.{coded_leases}
-use Rattle.eu_model.specs.View.{is_of}
+use Rattle.eu_model.specs.declared.status_counts.StatusCounts.{StatusCounts}
+use Rattle.eu_model.specs.View.{is_of, status_counts}
 use Rattle.eu_lease.specs.Term.{Term, listed_with}
 use Rattle.eu_store.specs.declared.held.Amendment.{Amendment}
 use Rattle.eu_store.specs.declared.held.Amendment.TheVariants.{Renewed, InStatuses, Rejoined, Replaced}
@@ -78,3 +79,7 @@ rows_of app m = filter (λ e. is_of app e.0) (entries m)
 -- the same without the keys
 abbrev pub listing_of : Option (List ℕ) → FinMap key_cmp Listed → List Listed
 listing_of app m = map (λ e. e.1) (rows_of app m)
+
+-- how many have each status
+abbrev pub counts_of : FinMap key_cmp Listed → StatusCounts
+counts_of m = status_counts (listing_of None m)

@@ -1,17 +1,17 @@
 //! The leases that are held, by their keys.
-ghost use Rattle.std.specs.Prelude.{◌≡◌, ◌↔◌, ◌<◌, ◌≤◌, ◌+◌, ◌*◌, ◌⊎◌, length, map, None, slice_get, is_some, IfSome, IfOk, IfErr, OnOk};
+ghost use Rattle.std.specs.Prelude.{◌≡◌, ◌↔◌, ◌<◌, ◌≤◌, ◌+◌, ◌-◌, ◌*◌, ◌^◌, ◌⊎◌, length, map, None, slice_get, is_some, IfSome, IfOk, IfErr, OnOk};
 ghost use Rattle.std.specs.Option.{option_copied};
 ghost use Rattle.std.specs.FinMap as map;
 ghost use Rattle.indexmap.specs.IndexMap.{values, index_map_len, get_by, index_of_by, IsUnique};
 ghost use Rattle.eu_base.specs.Values.{key_eq};
 ghost use Rattle.eu_store.specs.Stored.{amended, changed, expired_keys, listing_of, rows_of};
-ghost use Rattle.eu_model.specs.View.{is_of};
+ghost use Rattle.eu_model.specs.View.{is_of, status_counts, with_one_more, with_one_fewer, in_status};
 ghost use Rattle.std.specs.Map.Iter.{deref_pair};
 
 use crate::{Amendment, HeldLease};
-use eu_base::{App, Fault, Key, MOST_LEASES, Moment};
+use eu_base::{App, Fault, Key, MOST_LEASES, Moment, Status};
 use eu_deadlines::Deadlines;
-use eu_model::Listed;
+use eu_model::{Listed, StatusCounts};
 use indexmap::IndexMap;
 use std::alloc::{AllocError, Global};
 use std::marker::Model;
@@ -41,18 +41,19 @@ fn place_of(table: &IndexMap<Key, HeldLease>, key: &Key, hint: Place) -> Option<
 /// taking memory.
 ///
 /// Beside them stands an index of their deadlines, in the order of the table, so that of those which have expired n are found
-/// by a look at no more than n + 1 others.
+/// by a look at no more than n + 1 others. And how many have each status is counted at each step.
 #[derive(Debug, Drop)]
 pub struct Leases {
     table: IndexMap<Key, HeldLease>,
     index: Deadlines,
+    counts: StatusCounts,
 }
 
 impl Model for Leases {
     ghost use Rattle.std.specs.Prelude.{◌≡◌, length, ◌≤◌, ◌-◌, min};
     ghost use Rattle.std.specs.FinMap as map;
     ghost use Rattle.indexmap.specs.IndexMap.{spare};
-    ghost use Rattle.eu_store.specs.Stored.{Stored, coded_stored, deadlines};
+    ghost use Rattle.eu_store.specs.Stored.{Stored, coded_stored, counts_of, deadlines};
     ghost use Rattle.eu_base.specs.Limits.{most_leases};
 
     ghost Value = { Stored };
@@ -61,7 +62,7 @@ impl Model for Leases {
 
     ghost view = { λ a. record { held = map.from_entries a.table.entries; room = min (min (spare a.table) a.index.room) (most_leases - length a.table.entries) } };
 
-    ghost invariant = { λ a. (length a.table.entries ≤ most_leases) × (a.index.list ≡ deadlines a.table.entries) };
+    ghost invariant = { λ a. (length a.table.entries ≤ most_leases) × (a.index.list ≡ deadlines a.table.entries) × (a.counts ≡ counts_of (map.from_entries a.table.entries)) };
 }
 
 impl Leases {
@@ -72,6 +73,7 @@ impl Leases {
         Leases {
             table: IndexMap::new(alloc),
             index: Deadlines::new(alloc),
+            counts: StatusCounts::of(&[]),
         }
     }
 
@@ -100,6 +102,13 @@ impl Leases {
         self.table.len()
     }
 
+    /// How many leases are held of each status, expired or not. Takes no memory, and looks at no lease.
+    pub fn status_counts(&self) -> StatusCounts
+        ensures { result ≡ status_counts (listing_of None self.now.held) }
+    {
+        self.counts
+    }
+
     /// Makes room for one lease more. `Full` exactly where 65,536 are held; else `OutOfMemory`. Neither changes what is held, or
     /// takes room away.
     pub fn reserve(&mut self) -> Result<(), Fault>
@@ -124,6 +133,7 @@ impl Leases {
         ensures held { self.new.held ≡ map.insert self.old.held key held }
         ensures room { self.old.room ≤ self.new.room + 1 }
     {
+        self.counts.add(held.instance().status);
         self.index.push(held.deadline());
         self.table.insert(key, held).unwrap();
     }
@@ -137,6 +147,7 @@ impl Leases {
         let place = place_of(&self.table, key, hint)?;
         let (_key, held) = self.table.swap_remove_index(place).unwrap();
         self.index.swap_remove(place);
+        self.counts.remove(held.instance().status);
         Some(held)
     }
 
@@ -151,7 +162,9 @@ impl Leases {
             return false;
         };
         let held = &mut self.table[place];
+        let before = held.instance().status;
         held.amend(amendment);
+        recount(&mut self.counts, before, held.instance().status);
         self.index.set(place, held.deadline());
         true
     }
@@ -220,6 +233,19 @@ impl Leases {
         }
         rows.sort_by_key(|row| row.0)?;
         Ok(rows)
+    }
+}
+
+/// Counts one lease of a status less, and one of another more. Nothing changes where both are the same.
+#[inline(always)]
+fn recount(counts: &mut StatusCounts, before: Status, after: Status)
+    requires before { 0 < in_status counts.old before }
+    requires after { in_status counts.old after < 2 ^ 64 - 1 }
+    ensures { counts.new ≡ with_one_more (with_one_fewer counts.old before) after }
+{
+    if before != after {
+        counts.remove(before);
+        counts.add(after);
     }
 }
 

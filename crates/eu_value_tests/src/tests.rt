@@ -6,3 +6,4 @@ mod memory;
 mod model;
 mod outbox;
 mod page;
+mod texts;

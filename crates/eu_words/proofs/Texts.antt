@@ -12,7 +12,8 @@ use Rattle.std.proofs.lemmas.Int.Digits.{digits_value_push}
 use Rattle.eu_base.specs.declared.faults.Fault.{Fault}
 use Rattle.eu_base.specs.declared.faults.Fault.TheVariants as faults
 use Rattle.eu_base.specs.Fault.{fault_number}
-use Rattle.eu_words.specs.Words.{◌>>=◌, words_of, end_at, is_name, digits, number}
+use Rattle.eu_base.specs.Digits.{digits}
+use Rattle.eu_words.specs.Words.{◌>>=◌, words_of, end_at, is_name, number}
 
 -- the first word ends before the first space
 pub cut_here : (text : List ℕ) (i : ℕ) → i < length text → ((k : ℕ) → k < i → get_or text k 0 ≡ 32 → ⊥) → get_or text i 0 ≡ 32
@@ -47,30 +48,6 @@ pub words_some : (text : List ℕ) → end_at (words_of text) ≡ None
 words_some [] = refl
 words_some (x ∷ xs) = split_some (x == 32) x (words_of xs)
 
-and_parts : (a b : Bool) → (a && b) ≡ true → (a ≡ true) × (b ≡ true)
-and_parts true b e = (refl, e)
-and_parts false b e = cc
-
-and_false : (a b : Bool) → b ≡ false → (a && b) ≡ false
-and_false true b e = e
-and_false false b e = refl
-
-pub digits_more : (w : List ℕ) (i : ℕ) → i < length w → all_ascii_digits (take i w) ≡ true → is_ascii_digit (get_or w i 0) ≡ true → all_ascii_digits (take (suc i) w) ≡ true
-digits_more [] i lt a d = absurd (omega arith)
-digits_more (x ∷ xs) zero lt a d = rw d refl
-digits_more (x ∷ xs) (suc i) lt a d =
-    let p = and_parts (is_ascii_digit x) (all_ascii_digits (take i xs)) a in
-    rw (p.0, digits_more xs i (omega arith) p.1 d) refl
-
-pub not_digits : (w : List ℕ) (i : ℕ) → i < length w → is_ascii_digit (get_or w i 0) ≡ false → all_ascii_digits w ≡ false
-not_digits [] i lt d = absurd (omega arith)
-not_digits (x ∷ xs) zero lt d = rw d refl
-not_digits (x ∷ xs) (suc i) lt d = and_false (is_ascii_digit x) (all_ascii_digits xs) (not_digits xs i (omega arith) d)
-
--- a word that isn't all digits is no number
-pub no_digits : (w : List ℕ) → all_ascii_digits w ≡ false → digits w ≡ None
-no_digits w h = rw (and_false (nat_lt (length w) 20) (all_ascii_digits w) h) refl
-
 all_digits_push : (w : List ℕ) (x : ℕ) → all_ascii_digits (w ++ x ∷ []) ≡ (all_ascii_digits w && is_ascii_digit x)
 all_digits_push [] x = elim (is_ascii_digit x) as (λ b. (b && true) ≡ b) [ true ↦ refl | false ↦ refl ]
 all_digits_push (y ∷ w) x = elim (is_ascii_digit y) as (λ b. (b && all_ascii_digits (w ++ x ∷ [])) ≡ ((b && all_ascii_digits w) && is_ascii_digit x)) [ true ↦ all_digits_push w x | false ↦ refl ]
@@ -90,24 +67,9 @@ number_push w x =
     rw (length-append w (x ∷ []), add-one, short_push (length w), all_digits_push w x, digits_value_push 10 w x)
     (number_by (nat_lt (length w) 20) (all_ascii_digits w) (is_ascii_digit x) (digits_value 10 w) (digit_value x))
 
--- the value with one digit more
-pub one_more : (v d i : ℕ) → v < 10 ^ i → d < 10 → v * 10 + d < 10 ^ suc i
-one_more v d i small digit = rw pow-suc (omega arith)
-
--- fewer than twenty digits fit
-pub fits_more : (v d i : ℕ) → v < 10 ^ i → i < 19 → d < 10 → v * 10 + d < 2 ^ 64
-fits_more v d i small few digit =
-    let most : 10 ^ i ≤ 10 ^ 18 = pow-le-pow_right {n = 10} (omega arith) {i = i} {j = 18} (omega (arith, few)) in
-    omega (arith, small, most, digit)
-
--- a digit's value
-pub digit_is : (c : ℕ) → is_ascii_digit c ≡ true → (digit_value c ≡ c - 48) × (c - 48 < 10)
-digit_is c h =
-    let p = and_parts (nat_le 48 c) (nat_le c 57) h in
-    let low = leb-true 48 c p.0 in
-    let high = leb-true c 57 p.1 in
-    let v : digit_value c + 48 ≡ c = digit_value_digit c (low, high) in
-    (omega arith, omega arith)
+and_false : (a b : Bool) → b ≡ false → (a && b) ≡ false
+and_false true b e = e
+and_false false b e = refl
 
 -- a word that isn't UTF-8 is no name
 pub no_name : (w : List ℕ) → (IsUtf8 w → ⊥) → is_name w ≡ false

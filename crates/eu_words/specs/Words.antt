@@ -50,10 +50,6 @@ IsReading (Err e) said = Fails e said
 abbrev pub number : List ℕ → Option ℕ
 number w = if nat_lt 0 (length w) && nat_lt (length w) 21 && all_ascii_digits w then Some (digits_value 10 w) else None
 
--- up to 19 decimal digits
-abbrev pub digits : List ℕ → Option ℕ
-digits w = if nat_lt (length w) 20 && all_ascii_digits w then Some (digits_value 10 w) else None
-
 -- 1 to 255 bytes of UTF-8
 abbrev pub is_name : List ℕ → Bool
 is_name w = nat_lt 0 (length w) && nat_lt (length w) 256 && is_utf8 w

@@ -1,12 +1,12 @@
 //! The words of a line.
 ghost use Rattle.std.specs.Prelude.{◌≡◌, ◌≢◌, ◌∷◌, ◌≤◌, List, ℕ, IfErr, IfOk, IfSome, IsSome, None, Some, Err, true, IsAscii, IsUtf8};
 ghost use Rattle.std.specs.Str.{bytes_eq};
-ghost use Rattle.eu_words.specs.Words.{words_of, words_left, number, digits, Takes, IsReading, word_at, absent_at, number_at, moment_at, app_at, id_at, key_at, status_at, maybe_status_at, secs_at, stamp_at, last_dirty_at, source_at, peers_at, u32_at, peer_at, switch_at, settings_at, code_at, codes_of, end_at};
+ghost use Rattle.eu_words.specs.Words.{words_of, words_left, number, Takes, IsReading, word_at, absent_at, number_at, moment_at, app_at, id_at, key_at, status_at, maybe_status_at, secs_at, stamp_at, last_dirty_at, source_at, peers_at, u32_at, peer_at, switch_at, settings_at, code_at, codes_of, end_at};
 
 use crate::openings::PeerCount;
 use eu_base::{
     App, Codes, Config, Fault, Id, Key, LAST_MOMENT, LONGEST_LEASE, LeaseSecs, MOST_PEERS, Moment,
-    Stamp, Status,
+    Stamp, Status, read_digits,
 };
 use eu_lines::LineError;
 use std::alloc::Global;
@@ -324,28 +324,11 @@ fn number(word: &[u8]) -> Option<u128>
     ensures { result ≡ number word.now }
 {
     let (last, front) = word.split_last()?;
-    let value = digits(front)?;
+    let value = read_digits(front)?;
     if !last.is_ascii_digit() {
         return None;
     }
     Some(u128::from(value) * 10 + u128::from(*last - b'0'))
-}
-
-/// Up to 19 decimal digits as a number, 0 for none: that many fit. None for any other word.
-fn digits(word: &[u8]) -> Option<u64>
-    ensures { result ≡ digits word.now }
-{
-    if word.len() > 19 {
-        return None;
-    }
-    let mut value = 0;
-    for byte in word {
-        if !byte.is_ascii_digit() {
-            return None;
-        }
-        value = value * 10 + u64::from(*byte - b'0');
-    }
-    Some(value)
 }
 
 /// A word as text; none where it isn't UTF-8. Most words are short and ASCII: for these, a look at each byte is the quickest test.

@@ -156,6 +156,17 @@ fn counts(alloc: Global, book: &Book) -> Result<(u64, u64), Fault> {
     Ok(counts)
 }
 
+/// How many are held, of how many are up, and of how many are out of service, as a status page tells.
+fn on_a_page(alloc: Global, book: &Book) -> Result<(u64, u64, u64), Fault> {
+    let view = book.read(alloc, &Query::Page, at(0))?;
+    let told = match &view {
+        View::Page(counts, statuses) => (counts.held, statuses.up, statuses.out_of_service),
+        _ => (0, 0, 0),
+    };
+    drop(view);
+    Ok(told)
+}
+
 fn is_entry(entry: &Entry, pass: u64, number: u64, ms: u64, reply: &str) -> bool {
     entry.pass == pass
         && entry.number == number
@@ -307,6 +318,21 @@ fn holds(alloc: Global, first: &str, second: &str, held: u64) -> Result<bool, Fa
 #[test]
 fn what_is_held_is_read(rt: HostRuntime) {
     assert!(rt; holds(rt.alloc(), "i1", "i3", 2) == Ok(true));
+}
+
+/// What a page tells of the book that was played, and once i1 is out of service.
+fn pages(alloc: Global) -> Result<[(u64, u64, u64); 2], Fault> {
+    let mut book = played(alloc)?;
+    let before = on_a_page(alloc, &book);
+    first(alloc, &mut book, Step::Set);
+    let after = on_a_page(alloc, &book);
+    drop(book);
+    Ok([before?, after?])
+}
+
+#[test]
+fn a_page_counts_leases_by_status(rt: HostRuntime) {
+    assert!(rt; pages(rt.alloc()) == Ok([(2, 2, 0), (2, 1, 1)]));
 }
 
 /// Whether two leases are held, no row, and a minute with one renewal has ended before an eviction at 90,000.

@@ -169,7 +169,7 @@ fn number(view: &View) -> usize {
         View::One(Some(_)) => 1,
         View::OfApp(all) => all.as_slice().len(),
         View::All(all) => all.as_slice().len(),
-        View::Counts(_) => 100,
+        View::Counts(_) | View::Page(_, _) => 100,
     }
 }
 

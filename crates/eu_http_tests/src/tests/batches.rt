@@ -1,13 +1,11 @@
 //! Batches that are read and written, by bodies as peers send them.
 ghost use Rattle.std.specs.Prelude.{◌≤◌};
 
-use crate::tests::instances::says;
+use crate::tests::instances::is_instance;
 use crate::tests::responses::instance;
 use eu_base::{Action, App, BoxedInstance, Fault, Id, Instance, Key, Stamp, Status, Task};
 use eu_fixtures::{joined, moment};
-use eu_json::{
-    ItemAnswer, batch_answer_value, batch_text, batch_value, instance_value, read_batch,
-};
+use eu_json::{ItemAnswer, append_answers, batch_text, read_batch};
 use eu_model::Command;
 use std::alloc::{AllocError, Global};
 use std::slice;
@@ -129,7 +127,7 @@ fn is_registration(alloc: Global, commands: &[Command], text: &str) -> Result<bo
                 instance,
                 replicated: true,
             },
-        ] => says(alloc, instance_value(alloc, instance, None)?, text),
+        ] => is_instance(alloc, instance, text),
         _ => Ok(false),
     }
 }
@@ -354,8 +352,8 @@ fn a_batch_has_250_items_at_most(rt: HostRuntime) {
 
 /// Whether that is what is written of no task.
 fn is_empty_batch(alloc: Global, text: &str) -> Result<bool, AllocError> {
-    let value = batch_value(alloc, &[])?;
-    says(alloc, value, text)
+    let written = batch_text(alloc, &[])?;
+    Ok(written.as_str() == text)
 }
 
 #[test]
@@ -481,9 +479,9 @@ pub fn is_answer(alloc: Global, code: u16, is_held: bool, text: &str) -> Result<
         None => None,
     };
     let answer = ItemAnswer { code, instance };
-    let value = batch_answer_value(alloc, slice::from_ref(&answer));
-    drop(answer);
-    Ok(says(alloc, value?, text)?)
+    let mut out = Vec::new(alloc);
+    append_answers(alloc, &mut out, slice::from_ref(&answer))?;
+    Ok(out.as_slice() == text.as_bytes())
 }
 
 #[test]

@@ -1,16 +1,16 @@
 //! Instances that are read and written, by bodies as clients send them.
 use eu_base::{App, Fault, Instance, Moment, Status};
 use eu_fixtures::{LISTED, REGISTRATION, joined, push_each};
-use eu_json::{application_value, applications_value, held_value, instance_value, read_instance};
+use eu_json::{append_application, append_applications, append_held, read_instance};
 use eu_model::{Listed, Times};
-use serde_json::Value;
 use std::alloc::{AllocError, Global};
 
-/// Whether that is the text of a value, which is dropped.
-pub fn says(alloc: Global, value: Value, text: &str) -> Result<bool, AllocError> {
-    let said = value.to_string(alloc);
-    drop(value);
-    Ok(said?.as_str() == text)
+/// Whether that is what is written of an instance, without the moments of a lease.
+pub fn is_instance(alloc: Global, instance: &Instance, text: &str) -> Result<bool, AllocError> {
+    let whole = joined(alloc, &[r#"{"instance":"#, text, "}"])?;
+    let mut out = Vec::new(alloc);
+    append_held(alloc, &mut out, instance, None)?;
+    Ok(out.as_slice() == whole.as_bytes())
 }
 
 /// The text of an instance for that application at a moment.
@@ -60,11 +60,11 @@ fn a_registration_is_read(rt: HostRuntime) {
 }
 
 /// The JSON of the instance of a text for that application, with the moments of its lease.
-fn held_of(alloc: Global, text: &str, app: &str, times: Option<Times>) -> Result<Value, Fault> {
+fn held_of(alloc: Global, text: &str, app: &str, times: Option<Times>) -> Result<Vec<u8>, Fault> {
     let instance = read_for(alloc, text, app, 1000)?;
-    let value = held_value(alloc, &instance, times);
-    drop(instance);
-    Ok(value?)
+    let mut out = Vec::new(alloc);
+    append_held(alloc, &mut out, &instance, times)?;
+    Ok(out)
 }
 
 /// Whether that is what is written of `REGISTRATION`, registered at 1000.
@@ -74,8 +74,8 @@ fn is_listed(alloc: Global, text: &str) -> Result<bool, Fault> {
         updated: 1000,
         up: 1000,
     };
-    let value = held_of(alloc, REGISTRATION, "A", Some(times))?;
-    Ok(says(alloc, value, text)?)
+    let written = held_of(alloc, REGISTRATION, "A", Some(times))?;
+    Ok(written.as_slice() == text.as_bytes())
 }
 
 #[test]
@@ -549,44 +549,20 @@ const CLIENT: &str =
 const WRITTEN: &str =
     r#"{"instance":{"actionType":null,"app":"ONE","countryId":1,"dataCenterInfo":{"@class":"com.netflix.appinfo.InstanceInfo$DefaultDataCenterInfo","name":"MyOwn"},"homePageUrl":"http://h:8080/","hostName":"h","instanceId":"h:One:8080","ipAddr":"10.1.2.3","isCoordinatingDiscoveryServer":"false","lastDirtyTimestamp":"1700000000001","lastUpdatedTimestamp":"1700000000000","leaseInfo":{"durationInSecs":40,"renewalIntervalInSecs":10},"metadata":{"management.port":"8080","zone":"b"},"overriddenStatus":"OUT_OF_SERVICE","port":{"$":8080,"@enabled":"true"},"securePort":{"$":443,"@enabled":"false"},"status":"STARTING","statusPageUrl":null,"vipAddress":"one"}}"#;
 
-/// Whether that is what is written of the instance of `CLIENT`.
+/// Whether `WRITTEN` is what is written of the instance of that text.
 fn is_written(alloc: Global, text: &str) -> Result<bool, Fault> {
-    let value = held_of(alloc, CLIENT, "one", None)?;
-    Ok(says(alloc, value, text)?)
+    let written = held_of(alloc, text, "one", None)?;
+    Ok(written.as_slice() == WRITTEN.as_bytes())
 }
 
 #[test]
 fn what_a_client_gave_comes_back(rt: HostRuntime) {
-    assert!(rt; is_written(rt.alloc(), WRITTEN) == Ok(true));
-}
-
-/// The JSON of the instance of a text, for application One.
-fn inner_of(alloc: Global, text: &str) -> Result<Value, Fault> {
-    let instance = read_for(alloc, text, "one", 1000)?;
-    let value = instance_value(alloc, &instance, None);
-    drop(instance);
-    Ok(value?)
-}
-
-/// Whether that is the value's member `instance`.
-fn is_inner(value: &Value, inner: &Value) -> bool {
-    value.get("instance") == Some(inner)
-}
-
-/// Whether that is the instance of what is written of `CLIENT`.
-fn is_clients(alloc: Global, inner: &Value) -> Result<bool, Fault> {
-    let value = held_of(alloc, CLIENT, "one", None)?;
-    let is_inner = is_inner(&value, inner);
-    drop(value);
-    Ok(is_inner)
+    assert!(rt; is_written(rt.alloc(), CLIENT) == Ok(true));
 }
 
 /// Whether what is written is read again.
 pub fn comes_again(alloc: Global) -> Result<bool, Fault> {
-    let inner = inner_of(alloc, WRITTEN)?;
-    let is_clients = is_clients(alloc, &inner);
-    drop(inner);
-    is_clients
+    is_written(alloc, WRITTEN)
 }
 
 #[test]
@@ -632,9 +608,9 @@ fn listing(alloc: Global, leases: &[(&str, &str, &str)]) -> Result<Vec<Listed>, 
 /// Whether that is what is written of all these leases.
 pub fn is_all(alloc: Global, leases: &[(&str, &str, &str)], text: &str) -> Result<bool, Fault> {
     let held = listing(alloc, leases)?;
-    let value = applications_value(alloc, &held);
-    drop(held);
-    Ok(says(alloc, value?, text)?)
+    let mut out = Vec::new(alloc);
+    append_applications(alloc, &mut out, &held)?;
+    Ok(out.as_slice() == text.as_bytes())
 }
 
 /// Whether these parts make what is written of all these leases.
@@ -644,19 +620,20 @@ fn are_all(alloc: Global, leases: &[(&str, &str, &str)], parts: &[&str]) -> Resu
 }
 
 /// What is written of leases of one application, of which there is one at least.
-fn app_value(alloc: Global, held: &[Listed]) -> Result<Value, Fault> {
+fn of_app(alloc: Global, held: &[Listed]) -> Result<Vec<u8>, Fault> {
     if held.is_empty() {
         return Err(Fault::MissingApp);
     }
-    Ok(application_value(alloc, held)?)
+    let mut out = Vec::new(alloc);
+    append_application(alloc, &mut out, held)?;
+    Ok(out)
 }
 
 /// Whether that is what is written of these leases' application.
 pub fn is_of_app(alloc: Global, leases: &[(&str, &str, &str)], text: &str) -> Result<bool, Fault> {
     let held = listing(alloc, leases)?;
-    let value = app_value(alloc, &held);
-    drop(held);
-    Ok(says(alloc, value?, text)?)
+    let written = of_app(alloc, &held)?;
+    Ok(written.as_slice() == text.as_bytes())
 }
 
 /// Whether these parts make what is written of these leases' application.

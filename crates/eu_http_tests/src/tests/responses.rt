@@ -4,7 +4,9 @@ use eu_fixtures::{MISSING, REGISTRATION, moment, push_each};
 use eu_framing::{EMPTY_ROOM, Request, read_request};
 use eu_http::{Asked, Outcome, Wanted, answer, asks};
 use eu_json::read_instance;
-use eu_model::{Answer, Ask, Command, Counts, Listed, Listing, Query, Reply, Times, View};
+use eu_model::{
+    Answer, Ask, Command, Counts, Listed, Listing, Query, Reply, StatusCounts, Times, View,
+};
 use eu_routes::Routes;
 use std::alloc::{AllocError, Global};
 
@@ -180,6 +182,7 @@ fn tell_query(out: &mut String, query: &Query) -> Result<(), AllocError> {
         }
         Query::All => out.push_str("all"),
         Query::Counts => out.push_str("counts"),
+        Query::Page => out.push_str("page"),
     }
 }
 
@@ -324,7 +327,7 @@ const LINES: [(&str, &str); 11] = [
     ("GET /eureka/apps/a", "of A;"),
     ("GET /eureka/apps/A/i1", "one A i1;"),
     ("GET /eureka/apps/delta", "forbidden"),
-    ("GET /eureka/status", "counts;all;"),
+    ("GET /eureka/status", "page;"),
     (
         "PUT /eureka/config?preservation=off&percent=85&interval=15&evictMs=60000",
         "config false 85 15 60000 c;",
@@ -461,7 +464,7 @@ fn views_that_were_not_asked_for_are_missing(rt: HostRuntime) {
     assert!(rt; is_answered(alloc, "DELETE /eureka/apps/A/i1", nothing(alloc), MISSING));
 }
 
-/// The counts of a registry, and all that it holds.
+/// The page of a registry that holds one lease.
 fn views(alloc: Global) -> Result<Outcome, Fault> {
     let counts = Counts {
         held: 1,
@@ -471,10 +474,15 @@ fn views(alloc: Global) -> Result<Outcome, Fault> {
         permitted: false,
         preservation: true,
     };
-    let all = listing(alloc, true)?;
+    let statuses = StatusCounts {
+        up: 1,
+        down: 0,
+        starting: 0,
+        out_of_service: 0,
+        unknown: 0,
+    };
     let mut answers = Vec::new(alloc);
-    answers.push(Ok(Answer::Saw(View::Counts(counts))))?;
-    answers.push(Ok(Answer::Saw(View::All(all))))?;
+    answers.push(Ok(Answer::Saw(View::Page(counts, statuses))))?;
     came(alloc, "GET /eureka/status", answers)
 }
 

@@ -2,7 +2,7 @@
 use eu_base::{App, Config, Fault, Key, Stamp, Status};
 use eu_fixtures::joined;
 use eu_model::Command;
-use eu_routes::{Route, Routes, read_stamp, read_status};
+use eu_routes::{Route, Routes, read_stamp};
 use std::alloc::{AllocError, Global};
 
 /// Writes a verb and a name.
@@ -595,6 +595,6 @@ const STATUSES: [(&str, Option<Status>); 9] = [
 #[test]
 fn statuses_are_read(rt: HostRuntime) {
     for (text, wanted) in &STATUSES {
-        assert!(rt; read_status(text) == *wanted, "at {text}");
+        assert!(rt; Status::read_any_case(text) == *wanted, "at {text}");
     }
 }

@@ -545,7 +545,8 @@ fn calls_come_in_their_order(rt: HostRuntime) {
     let alloc = rt.alloc();
     let calls = RefCell::new(String::new(alloc));
     let first = b"PUT /eureka/apps/A/i1 HTTP/1.1\r\nHost: x\r\nContent-Length: 4\r\n\r\nbo";
-    let second = b"dyGET /eureka/status HTTP/1.1\r\nHost: x\r\n\r\n";
+    let second =
+        b"dyPOST /eureka/peerreplication/batch/ HTTP/1.1\r\nHost: x\r\nContent-Length: 109\r\n\r\n{\"replicationList\":[{\"action\":\"Cancel\",\"appName\":\"A\",\"id\":\"i1\"},{\"action\":\"Cancel\",\"appName\":\"A\",\"id\":\"i2\"}]}";
     assert!(rt; route_noting(alloc, &calls, (first, second)) == Ok(2));
     assert_eq!(rt;
         calls.into_inner().as_str(),

@@ -1,7 +1,7 @@
 //! Hash codes and status pages, with what they say worked out by hand.
 use eu_base::{Fault, Instance, Status};
 use eu_fixtures::instance;
-use eu_model::{Counts, Listed, Times};
+use eu_model::{Counts, Listed, StatusCounts, Times};
 use eu_page::{hash_code, page_of, status_page};
 use std::alloc::Global;
 
@@ -29,12 +29,18 @@ fn listed(alloc: Global, statuses: &[Status]) -> Result<Vec<Listed>, Fault> {
     Ok(held)
 }
 
+/// How many of leases with these statuses have each.
+fn counted(alloc: Global, statuses: &[Status]) -> Result<StatusCounts, Fault> {
+    let held = listed(alloc, statuses)?;
+    let counts = StatusCounts::of(held.as_slice());
+    drop(held);
+    Ok(counts)
+}
+
 /// Whether leases with these statuses have that hash code.
 fn has_code(alloc: Global, statuses: &[Status], code: &str) -> Result<bool, Fault> {
-    let held = listed(alloc, statuses)?;
-    let told = hash_code(alloc, held.as_slice());
-    drop(held);
-    Ok(told?.as_str() == code)
+    let told = hash_code(alloc, &counted(alloc, statuses)?)?;
+    Ok(told.as_str() == code)
 }
 
 #[test]
@@ -62,10 +68,7 @@ fn a_status_that_nobody_has_is_left_out(rt: HostRuntime) {
 
 /// Whether the page of leases with these statuses is that text.
 fn is_page(alloc: Global, counts: &Counts, statuses: &[Status], text: &str) -> Result<bool, Fault> {
-    let held = listed(alloc, statuses)?;
-    let page = page_of(alloc, counts, held.as_slice());
-    drop(held);
-    let page = page?;
+    let page = page_of(alloc, counts, &counted(alloc, statuses)?)?;
     let told = status_page(alloc, &page);
     drop(page);
     Ok(told?.as_str() == text)
@@ -99,4 +102,21 @@ fn the_page_of_nothing_ends_with_a_space(rt: HostRuntime) {
     let text =
         "held 0\nexpected 18446744073709551615\nthreshold 0\nlast 7\npreservation off\npermitted yes\nstatuses \n";
     assert!(rt; is_page(rt.alloc(), &counts, &[], text) == Ok(true));
+}
+
+#[test]
+fn leases_are_counted_by_their_status(rt: HostRuntime) {
+    let mut counts = StatusCounts {
+        up: 3,
+        down: 0,
+        starting: 0,
+        out_of_service: 1,
+        unknown: 0,
+    };
+    let statuses = [Status::Up, Status::OutOfService, Status::Up, Status::Up];
+    assert!(rt; counted(rt.alloc(), statuses.as_slice()) == Ok(counts));
+    counts.remove(Status::OutOfService);
+    counts.add(Status::Down);
+    let statuses = [Status::Up, Status::Down, Status::Up, Status::Up];
+    assert!(rt; counted(rt.alloc(), statuses.as_slice()) == Ok(counts));
 }

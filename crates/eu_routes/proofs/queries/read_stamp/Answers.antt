@@ -1,19 +1,16 @@
-use Rattle.std.proofs.Common.{arith, sym, ◌∙◌}
-use Rattle.std.proofs.lemmas.Str.Parse.{parse_plain}
-use Rattle.std.proofs.lemmas.Str.Pattern.{starts_char}
-use Rattle.eu_routes.proofs.QueryLemmas.{digits, unparsed, parsed}
+use Rattle.std.proofs.Common.{◌≡◌, ◌<◌, length, Some, None, arith, ap, sym, ◌∙◌}
+use Rattle.std.proofs.lemmas.Bool.Decides.{nat_tests}
+use Rattle.eu_base.specs.Digits.{digits}
+use Rattle.eu_routes.proofs.QueryLemmas.{stamp_by, no_stamp_by}
 use Rattle.eu_routes.proofs.queries.read_stamp.Goals as goal
 
-pub returns-in_err-ok : goal.returns-in_err-ok
-returns-in_err-ok c =
-    let text = c.args.text.now in
-    let plus = starts_char 43 text c.starts_with.result c.starts_with.ensures.cases (omega arith) (omega arith) in
-    let h = parse_plain digits 64 text c.parse.result c.parse.ensures.value.0 (λ e. let yes = plus.1 e in cc) in
-    rw c.from_residual.ensures (sym (unparsed text c.parse.result h (sym c.ok.ensures.value ∙ c.in_err-ok.was)))
+pub returns-in_err-read_digits : goal.returns-in_err-read_digits
+returns-in_err-read_digits c =
+    let none : digits c.args.text.now ≡ None = sym (ap digits c.as_bytes.ensures.value) ∙ sym c.read_digits.ensures ∙ c.in_err-read_digits.was in
+    c.from_residual.ensures ∙ sym (no_stamp_by c.args.text.now none)
 
 pub returns : goal.returns
 returns c =
-    let text = c.args.text.now in
-    let plus = starts_char 43 text c.starts_with.result c.starts_with.ensures.cases (omega arith) (omega arith) in
-    let h = parse_plain digits 64 text c.parse.result c.parse.ensures.value.0 (λ e. let yes = plus.1 e in cc) in
-    parsed text c.parse.result c.in_ok-ok.field-0 c.new.result h (sym c.ok.ensures.value ∙ c.in_ok-ok.was) (omega arith) c.new.ensures
+    let filled : 0 < length c.args.text.now = grind (arith, nat_tests, c.is_empty.ensures, c.if-is_empty.false) in
+    let some : digits c.args.text.now ≡ Some c.in_ok-read_digits.field-0 = sym (ap digits c.as_bytes.ensures.value) ∙ sym c.read_digits.ensures ∙ c.in_ok-read_digits.was in
+    stamp_by c.args.text.now c.in_ok-read_digits.field-0 c.new.result filled some c.new.ensures

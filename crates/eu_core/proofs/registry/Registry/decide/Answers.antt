@@ -9,8 +9,8 @@ returns-in-SetStatus-clause-decides c =
     let i = c.in-SetStatus in
     let keys : Some i.key ≡ Some c.args.key.now = sym (ap key_of i.is) ∙ c.requires.key in
     let key : i.key ≡ c.args.key.now = cc in
-    subst (λ x. Decides c.args.self.now x c.args.moment c.args.key.now c.status.result)
-    (ap (λ k. SetStatus k i.status i.last_dirty i.replicated) (sym key) ∙ sym i.is) (c.status.ensures i.replicated)
+    subst (λ x. Decides c.args.self.now x c.args.moment c.args.key.now c.status_setting.result)
+    (ap (λ k. SetStatus k i.status i.last_dirty i.replicated) (sym key) ∙ sym i.is) (c.status_setting.ensures i.replicated)
 
 pub returns-in-Cancel-clause-decides : goal.returns-in-Cancel-clause-decides
 returns-in-Cancel-clause-decides c =
@@ -25,5 +25,5 @@ returns-in-UnsetStatus-clause-decides c =
     let i = c.in-UnsetStatus in
     let keys : Some i.key ≡ Some c.args.key.now = sym (ap key_of i.is) ∙ c.requires.key in
     let key : i.key ≡ c.args.key.now = cc in
-    subst (λ x. Decides c.args.self.now x c.args.moment c.args.key.now c.no_status.result)
-    (ap (λ k. UnsetStatus k i.status i.last_dirty i.replicated) (sym key) ∙ sym i.is) (c.no_status.ensures.decides i.replicated)
+    subst (λ x. Decides c.args.self.now x c.args.moment c.args.key.now c.status_unsetting.result)
+    (ap (λ k. UnsetStatus k i.status i.last_dirty i.replicated) (sym key) ∙ sym i.is) (c.status_unsetting.ensures.decides i.replicated)

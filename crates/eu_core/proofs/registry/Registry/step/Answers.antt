@@ -12,7 +12,7 @@ use Rattle.eu_core.proofs.registry.Registry.step.Goals as goal
 
 pub returns-in_default-clause-ok : goal.returns-in_default-clause-ok
 returns-in_default-clause-ok g c =
-    at_one c.step_by_timer.result (λ s m. Steps g.C.Chooser.asks c.args.self.now c.args.chooser.now c.args.command.now c.args.moment c.args.logs m s c.step_by_timer.new.self c.step_by_timer.new.chooser) c.args.held c.step_by_timer.ensures.ok
+    at_one c.step_on_no_lease.result (λ s m. Steps g.C.Chooser.asks c.args.self.now c.args.chooser.now c.args.command.now c.args.moment c.args.logs m s c.step_on_no_lease.new.self c.step_on_no_lease.new.chooser) c.args.held c.step_on_no_lease.ensures.ok
 
 pub returns-clause-ok : goal.returns-clause-ok
 returns-clause-ok g c =

@@ -1,8 +1,11 @@
-use Rattle.std.proofs.Common.{◌-◌, ◌≤◌, refl, is_some, length, min, set, sym, ap, ◌∙◌, arith}
+use Rattle.std.proofs.Common.{◌-◌, ◌≤◌, ◌<◌, subst, refl, is_some, length, min, set, sym, ap, ◌∙◌, arith}
 use Rattle.indexmap.specs.IndexMap.{spare, set_value_at}
-use Rattle.eu_store.specs.Stored.{amended}
+use Rattle.std.specs.FinMap as map
+use Rattle.eu_model.specs.View.{in_status, with_one_more, with_one_fewer}
+use Rattle.eu_store.specs.Stored.{amended, counts_of}
+use Rattle.eu_store.proofs.CountLemmas.{counts_changed, counts_most, counted_there}
 use Rattle.eu_store.proofs.MapLemmas.{none_from_is_some}
-use Rattle.eu_store.proofs.TableLemmas.{by_key, get_in, changed_in, unchanged_in}
+use Rattle.eu_store.proofs.TableLemmas.{by_key, get_at, get_in, inserted, changed_in, unchanged_in}
 use Rattle.eu_store.proofs.IndexLemmas.{deadlines-set, length-set_value_at, written_at}
 use Rattle.eu_store.proofs.leases.Leases.amend.Goals as goal
 
@@ -15,11 +18,30 @@ returns-in_default-clause-held c =
     let view = ap (λ s. s.held) c.self.view_is in
     sym view ∙ unchanged_in by_key (amended c.args.amendment) es es c.args.self.now.held c.args.key.now view (sym (none_from_is_some _ (sym c.in_default.ensures.found))) refl
 
+pub recount-requires-clause-before : goal.recount-requires-clause-before
+recount-requires-clause-before c =
+    let es = c.self.inside.table.entries in
+    let there = get_at by_key es c.args.key.now ∙ sym c.in-Some.ensures.value ∙ c.index_mut-held.ensures.value in
+    subst (λ n. 0 < n) (λ i. in_status (sym c.self.invariant.2 i) (sym c.instance.ensures i).status) (counted_there (map.from_entries es) c.args.key.now c.index_mut-held.result.now there)
+
+pub recount-requires-clause-after : goal.recount-requires-clause-after
+recount-requires-clause-after c =
+    omega (arith, c.self.invariant.0, ap (λ n. in_status n c.instance-2.result.now.status) c.self.invariant.2, counts_most c.self.inside.table.entries c.instance-2.result.now.status)
+
 pub invariant_of-self : goal.invariant_of-self
 invariant_of-self c =
     let es = c.self.inside.table.entries in
     let short : length (set_value_at es c.in-Some.place c.amend.new.self) ≤ 65536 = omega (arith, c.self.invariant.0, length-set_value_at es c.in-Some.place c.amend.new.self) in
-    (short, c.set.ensures.list ∙ (λ i. set (c.self.invariant.1 i) c.in-Some.place (c.deadline.ensures i)) ∙ sym (deadlines-set es c.in-Some.place c.amend.new.self))
+    let k = c.args.key.now in
+    let value = c.index_mut-held.ensures.value in
+    let there = get_at by_key es k ∙ sym c.in-Some.ensures.value ∙ value in
+    let now = inserted by_key es (set_value_at es c.in-Some.place c.amend.new.self) k c.amend.new.self
+    (written_at c.self.inside.table k c.in-Some.place c.index_mut-held.result.now c.amend.new.self c.in-Some.ensures.unique (sym c.in-Some.ensures.index) value) in (
+      short,
+      c.set.ensures.list ∙ (λ i. set (c.self.invariant.1 i) c.in-Some.place (c.deadline.ensures i)) ∙ sym (deadlines-set es c.in-Some.place c.amend.new.self),
+      c.recount.ensures ∙ (λ i. with_one_more (with_one_fewer (c.self.invariant.2 i) (c.instance.ensures i).status) (c.instance-2.ensures i).status)
+          ∙ counts_changed (map.from_entries es) k c.index_mut-held.result.now c.amend.new.self there ∙ sym (ap counts_of now),
+    )
 
 pub returns-clause-found : goal.returns-clause-found
 returns-clause-found c = c.in-Some.ensures.found ∙ sym (ap is_some (get_in by_key c.self.inside.table.entries c.args.self.now.held c.args.key.now _ (ap (λ s. s.held) c.self.view_is) refl))

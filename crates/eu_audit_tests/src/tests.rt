@@ -1,5 +1,6 @@
-//! The tests, by what they are of, and the forms in which they tell states and entries.
+//! The tests, by what they are of, and the lines in which they tell servers, entries and cases.
 mod books;
+mod cases;
 mod closed;
 mod drawn;
 mod evictions;

@@ -1,353 +1,204 @@
-//! States and entries, told in a few words. The application is A where an id alone names a lease, and each client is at the host h.
+//! Servers and entries, told in lines of text.
+//!
+//! A command is a line of a script, and its moment is in milliseconds; its instances have their id as their host. An entry is a command
+//! and its reply, with ` = ` between them. A reply is one of these:
+//!
+//! - `fresh` or `again`, of a registration; `done`, `missing`, `stale`, `settled`; `last N`, `expected N`;
+//! - `conflict INSTANCE`, with the words that a script has for an instance: `APP ID SECS STATUS OVR DIRTY`;
+//! - `evicted NAME..`: a name is `APP/ID`, or an id of the application A;
+//! - `batch`, or `batch TASK, TASK..`. A task is `ACTION T STATUS APP ID`, where it was queued at T and `-` is no status, with
+//!   ` of INSTANCE` behind it where it has one.
+//!
+//! A server has these lines. What isn't told is as of a server that was never told anything, and has no peers:
+//!
+//! - `config on P I M` or `config off P I M`, `expected N`, `last N`, `since N`, `previous T`;
+//! - `lease R U P INSTANCE`, registered at R, last updated at U, and UP since P; `row ID STATUS`, an override;
+//! - `peer`, and behind it `waits TASK` and `flies TASK`, for what waits for that peer, and what is in flight to it.
+//!
+//! The id of a lease or a task may have words in braces, as `i{2,4,5}`: then there is one for each of them. So may a command, which is
+//! then told once with each. Numbers may be told as `i{0..10}`.
 use eu_audit::audit;
 use eu_base::{
-    Action, App, BoxedInstance, Codes, Config, Fault, Id, Instance, Key, Keys, LeaseSecs, Moment,
-    RenewalSecs, Rest, Stamp, Status, Task, Tasks,
+    Action, BoxedInstance, Config, Fault, Id, Instance, Keys, Moment, Rest, Status, Task, Tasks,
 };
-use eu_fixtures::moment;
+use eu_fixtures::{key_of, moment, settings};
+use eu_lines::LineError;
 use eu_model::{Command, Entry, Listed, Listing, OverrideRows, Queue, Queues, Reply, State, Times};
+use eu_words::{Line, read_line};
 use std::alloc::Global;
 
-/// An instance.
-#[derive(Clone, Copy)]
-pub struct Client {
-    /// `APP/ID`, or an id.
-    pub id: &'static str,
-    /// Its status, and the overridden one.
-    pub statuses: (Status, Status),
-    /// Its stamp.
-    pub last_dirty: u64,
-    /// Its duration in seconds.
-    pub secs: u32,
+/// A number.
+fn number(text: &str) -> Result<u64, Fault> {
+    match text.parse::<u64>() {
+        Ok(number) => Ok(number),
+        Err(_) => Err(Fault::BadValue),
+    }
 }
 
-/// A lease, with its moments in milliseconds.
-#[derive(Clone, Copy)]
-pub struct Lease {
-    pub client: Client,
-    pub registered: u64,
-    pub updated: u64,
-    pub up: u64,
+/// The first word of a text, and what is behind it.
+fn cut(text: &str) -> (&str, &str) {
+    match text.split_once(' ') {
+        Some((word, rest)) => (word, rest),
+        None => (text, ""),
+    }
 }
 
-/// A task for the lease of an id.
-#[derive(Clone, Copy)]
-pub struct Told {
-    pub action: Action,
-    pub id: &'static str,
-    pub status: Option<Status>,
-    pub client: Option<Client>,
-    pub queued: u64,
+/// The number that a text begins with, and what is behind it.
+fn leading(text: &str) -> Result<(u64, &str), Fault> {
+    let (word, rest) = cut(text);
+    Ok((number(word)?, rest))
 }
 
-/// What a server is told.
-#[derive(Clone, Copy)]
-pub enum Step {
-    /// A client registers.
-    Register(Client),
-    /// A peer sends the registration of a client.
-    Replicate(Client),
-    /// A renewal of an id, with a stamp or none, and whether a peer sends it.
-    Renew(&'static str, Option<u64>, bool),
-    /// A renewal of an id, with a stamp and the overridden status that its sender knows, and whether a peer sends it.
-    Bring(&'static str, u64, Status, bool),
-    /// A client of that id leaves.
-    Cancel(&'static str),
-    /// An operator sets the status of an id.
-    Set(&'static str, Status),
-    /// An operator takes that back, and gives no other.
-    Unset(&'static str),
-    /// An operator takes that back, and gives this status.
-    Restore(&'static str, Status),
-    /// A peer tells of an instance.
-    Adopt(Client),
-    EndMinute,
-    Update,
-    /// Whether self-preservation is on, the percentage, the seconds between renewals, the milliseconds between evictions.
-    Reconfigure(bool, u32, u32, u32),
-    Evict,
-    /// What waits for a peer goes in flight.
-    Drain(u32),
-    /// The batch in flight to the peer has landed, with these codes.
-    Land(u32, &'static [u16]),
-    /// The batch in flight to the peer was lost.
-    Lose(u32),
-}
-
-/// What a server answers.
-#[derive(Clone, Copy)]
-pub enum Answer {
-    Fresh,
-    Again,
-    Done,
-    NotFound,
-    Stale,
-    Conflict(Client),
-    Last(u64),
-    Expected(u64),
-    Evicted(&'static [&'static str]),
-    Batch(&'static [Told]),
-    Settled,
-}
-
-/// A command at a moment in milliseconds, and what it is answered.
-pub type Line = (u64, Step, Answer);
-
-/// What a server is.
-#[derive(Clone, Copy)]
-pub struct Form {
-    /// Whether self-preservation is on, the percentage, the seconds between renewals, the milliseconds between evictions.
-    pub config: (bool, u32, u32, u32),
-    pub expected: u64,
-    pub leases: &'static [Lease],
-    pub overrides: &'static [(&'static str, Status)],
-    pub last: u64,
-    pub since: u64,
-    pub previous: Option<u64>,
-    /// What waits for each peer, and what is in flight to it.
-    pub queues: &'static [(&'static [Told], &'static [Told])],
-}
-
-/// A server that was never told anything, and has no peers.
-pub const NEW: Form = Form {
-    config: (true, 85, 30, 60_000),
-    expected: 0,
-    leases: &[],
-    overrides: &[],
-    last: 0,
-    since: 0,
-    previous: None,
-    queues: &[],
-};
-
-/// A client that is UP, with the stamp 5, for 90 seconds.
-pub const CLIENT: Client = Client {
-    id: "i1",
-    statuses: (Status::Up, Status::Unknown),
-    last_dirty: 5,
-    secs: 90,
-};
-
-/// Another such client.
-pub const I2: Client = Client { id: "i2", ..CLIENT };
-
-/// A client renews its lease.
-pub const RENEW_I1: Step = Step::Renew("i1", None, false);
-
-/// The other client renews its lease.
-pub const RENEW_I2: Step = Step::Renew("i2", None, false);
-
-/// The lease of the client that registered at 1,000 ms.
-pub const LEASE: Lease = Lease {
-    client: CLIENT,
-    registered: 1_000,
-    updated: 1_000,
-    up: 1_000,
-};
-
-/// What a peer is told of that registration.
-pub const REGISTRATION: Told = Told {
-    action: Action::Register,
-    id: "i1",
-    status: None,
-    client: Some(CLIENT),
-    queued: 1_000,
-};
-
-/// The ids of ten clients.
-pub const IDS: [&str; 10] = ["i0", "i1", "i2", "i3", "i4", "i5", "i6", "i7", "i8", "i9"];
-
-/// The key of that name: `APP/ID`, or an id, whose application is A then.
-pub fn key(alloc: Global, name: &str) -> Result<Key, Fault> {
-    let (app, id) = match name.split_once('/') {
-        Some((app, id)) => (app, id),
-        None => ("A", name),
+/// A text once with each of the words that it has in braces.
+pub fn each(alloc: Global, text: &str) -> Result<Vec<String>, Fault> {
+    let mut texts = Vec::new(alloc);
+    let Some((front, rest)) = text.split_once('{') else {
+        texts.push(String::from_str(alloc, text)?)?;
+        return Ok(texts);
     };
-    let app = App::read(alloc, app)?;
-    let id = Id::read(alloc, id)?;
-    Ok(Key { app, id })
+    let (words, back) = rest.split_once('}').ok_or(Fault::BadValue)?;
+    if let Some((from, to)) = words.split_once("..") {
+        for word in number(from)?..number(to)? {
+            texts.push(format!(in alloc; "{front}{word}{back}")?)?;
+        }
+        return Ok(texts);
+    }
+    for word in words.split(',') {
+        texts.push(format!(in alloc; "{front}{word}{back}")?)?;
+    }
+    Ok(texts)
 }
 
-pub fn instance(alloc: Global, client: Client) -> Result<Instance, Fault> {
-    let last_dirty = Stamp::new(client.last_dirty).ok_or(Fault::BadValue)?;
-    let secs = LeaseSecs::new(client.secs).ok_or(Fault::BadValue)?;
-    let key = key(alloc, client.id)?;
-    let rest = Rest::of_host(alloc, "h")?;
-    Ok(Instance {
-        key,
-        status: client.statuses.0,
-        overridden: client.statuses.1,
-        last_dirty,
-        secs,
-        interval: RenewalSecs::DEFAULT,
-        rest,
-    })
+/// What a line of a script says.
+fn said(alloc: Global, line: &str) -> Result<Line, Fault> {
+    match read_line(alloc, line.as_bytes()) {
+        Ok(line) => Ok(line),
+        Err(LineError::OutOfMemory) => Err(Fault::OutOfMemory),
+        Err(LineError::Bad) => Err(Fault::BadValue),
+    }
 }
 
-fn instance_or_none(alloc: Global, client: Option<Client>) -> Result<Option<Instance>, Fault> {
-    match client {
-        Some(client) => Ok(Some(instance(alloc, client)?)),
+/// A command, and its moment.
+pub fn command(alloc: Global, line: &str) -> Result<(Moment, Command), Fault> {
+    match said(alloc, line)? {
+        Line::Apply { moment, command } => Ok((moment, command)),
+        _ => Err(Fault::BadValue),
+    }
+}
+
+/// The settings of these words.
+fn config(alloc: Global, words: &str) -> Result<Config, Fault> {
+    let line = format!(in alloc; "config 0 {words}")?;
+    let (_, command) = command(alloc, line.as_str())?;
+    match command {
+        Command::Reconfigure { config } => Ok(config),
+        _ => Err(Fault::BadValue),
+    }
+}
+
+/// The instance of these words.
+fn instance(alloc: Global, words: &str) -> Result<BoxedInstance, Fault> {
+    let line = format!(in alloc; "adopt 0 {words}")?;
+    let (_, command) = command(alloc, line.as_str())?;
+    match command {
+        Command::Adopt { instance } => Ok(instance),
+        _ => Err(Fault::BadValue),
+    }
+}
+
+fn instance_or_none(alloc: Global, words: Option<&str>) -> Result<Option<Instance>, Fault> {
+    match words {
+        Some(words) => Ok(Some(instance(alloc, words)?.copy(alloc)?)),
         None => Ok(None),
     }
 }
 
-pub fn listed(alloc: Global, lease: Lease) -> Result<Listed, Fault> {
-    let instance = instance(alloc, lease.client)?;
-    Ok(Listed {
-        instance,
-        times: Times {
-            registered: lease.registered,
-            updated: lease.updated,
-            up: lease.up,
-        },
-    })
+fn status(word: &str) -> Result<Status, Fault> {
+    Status::read(word.as_bytes()).ok_or(Fault::BadValue)
 }
 
-pub fn task(alloc: Global, told: Told) -> Result<Task, Fault> {
-    let queued = moment(told.queued)?;
-    let key = key(alloc, told.id)?;
-    let instance = instance_or_none(alloc, told.client)?;
-    Ok(Task {
-        action: told.action,
-        key,
-        status: told.status,
-        instance,
-        queued,
-    })
+fn status_or_none(word: &str) -> Result<Option<Status>, Fault> {
+    if word == "-" {
+        return Ok(None);
+    }
+    Ok(Some(status(word)?))
 }
 
-pub fn tasks(alloc: Global, told: &[Told]) -> Result<Tasks, Fault> {
-    let mut tasks = Vec::with_capacity(alloc, told.len())?;
-    for one in told {
-        tasks.push(task(alloc, *one)?)?;
+/// The tasks of a text, one for each id.
+fn push_tasks(alloc: Global, tasks: &mut Vec<Task>, text: &str) -> Result<(), Fault> {
+    let (task, words) = match text.split_once(" of ") {
+        Some((task, words)) => (task, Some(words)),
+        None => (text, None),
+    };
+    let (action, rest) = cut(task);
+    let action = Action::read(action).ok_or(Fault::BadValue)?;
+    let (queued, rest) = leading(rest)?;
+    let queued = moment(queued)?;
+    let (word, rest) = cut(rest);
+    let status = status_or_none(word)?;
+    let (app, ids) = cut(rest);
+    for id in each(alloc, ids)? {
+        let key = key_of(alloc, app, id.as_str())?;
+        let instance = instance_or_none(alloc, words)?;
+        tasks.push(Task {
+            action,
+            key,
+            status,
+            instance,
+            queued,
+        })?;
+    }
+    Ok(())
+}
+
+fn batch(alloc: Global, text: &str) -> Result<Tasks, Fault> {
+    let mut tasks = Vec::new(alloc);
+    for text in text.split(", ") {
+        push_tasks(alloc, &mut tasks, text)?;
     }
     Ok(Tasks::new(tasks))
 }
 
-fn keys(alloc: Global, ids: &[&str]) -> Result<Keys, Fault> {
-    let mut keys = Vec::with_capacity(alloc, ids.len())?;
-    for id in ids {
-        keys.push(key(alloc, id)?)?;
+fn keys(alloc: Global, names: &str) -> Result<Keys, Fault> {
+    let mut keys = Vec::new(alloc);
+    for name in names.split(' ') {
+        let (app, id) = name.split_once('/').unwrap_or(("A", name));
+        keys.push(key_of(alloc, app, id)?)?;
     }
     Ok(Keys::new(keys))
 }
 
-fn codes(alloc: Global, codes: &[u16]) -> Result<Codes, Fault> {
-    Ok(Codes::new(Vec::from_slice(alloc, codes)?))
-}
-
-fn renewal(
-    alloc: Global,
-    id: &str,
-    last_dirty: Option<u64>,
-    overridden: Option<Status>,
-    replicated: bool,
-) -> Result<Command, Fault> {
-    let key = key(alloc, id)?;
-    Ok(Command::Renew {
-        key,
-        last_dirty: last_dirty.and_then(Stamp::new),
-        overridden,
-        replicated,
-    })
-}
-
-/// A client registers.
-fn registration(alloc: Global, client: Client, replicated: bool) -> Result<Command, Fault> {
-    let instance = instance(alloc, client)?;
-    let instance = BoxedInstance::new(alloc, instance)?;
-    Ok(Command::Register {
-        instance,
-        replicated,
-    })
-}
-
-fn adoption(alloc: Global, client: Client) -> Result<Command, Fault> {
-    let instance = instance(alloc, client)?;
-    let instance = BoxedInstance::new(alloc, instance)?;
-    Ok(Command::Adopt { instance })
-}
-
-fn cancel(alloc: Global, id: &str) -> Result<Command, Fault> {
-    let key = key(alloc, id)?;
-    Ok(Command::Cancel {
-        key,
-        replicated: false,
-    })
-}
-
-fn setting(alloc: Global, id: &str, status: Status) -> Result<Command, Fault> {
-    let key = key(alloc, id)?;
-    Ok(Command::SetStatus {
-        key,
-        status,
-        last_dirty: None,
-        replicated: false,
-    })
-}
-
-fn unsetting(alloc: Global, id: &str, status: Option<Status>) -> Result<Command, Fault> {
-    let key = key(alloc, id)?;
-    Ok(Command::UnsetStatus {
-        key,
-        status,
-        last_dirty: None,
-        replicated: false,
-    })
-}
-
-pub fn command(alloc: Global, step: Step) -> Result<Command, Fault> {
-    match step {
-        Step::Register(client) => registration(alloc, client, false),
-        Step::Replicate(client) => registration(alloc, client, true),
-        Step::Renew(id, last_dirty, replicated) => renewal(alloc, id, last_dirty, None, replicated),
-        Step::Bring(id, last_dirty, overridden, replicated) => {
-            renewal(alloc, id, Some(last_dirty), Some(overridden), replicated)
-        }
-        Step::Cancel(id) => cancel(alloc, id),
-        Step::Set(id, status) => setting(alloc, id, status),
-        Step::Unset(id) => unsetting(alloc, id, None),
-        Step::Restore(id, status) => unsetting(alloc, id, Some(status)),
-        Step::Adopt(client) => adoption(alloc, client),
-        Step::EndMinute => Ok(Command::EndMinute),
-        Step::Update => Ok(Command::Update),
-        Step::Reconfigure(preservation, percent, interval, evict_ms) => Ok(Command::Reconfigure {
-            config: Config::new(preservation, percent, interval, evict_ms)?,
-        }),
-        Step::Evict => Ok(Command::Evict),
-        Step::Drain(peer) => Ok(Command::Drain { peer }),
-        Step::Land(peer, answers) => Ok(Command::Landed {
-            peer,
-            codes: codes(alloc, answers)?,
-        }),
-        Step::Lose(peer) => Ok(Command::Lost { peer }),
+/// A reply that has something behind its first word.
+fn telling_reply(alloc: Global, text: &str) -> Result<Reply, Fault> {
+    let (word, rest) = cut(text);
+    match word {
+        "last" => Ok(Reply::Last(number(rest)?)),
+        "expected" => Ok(Reply::Expected(number(rest)?)),
+        "conflict" => Ok(Reply::Conflict(instance(alloc, rest)?)),
+        "evicted" => Ok(Reply::Evicted(keys(alloc, rest)?)),
+        "batch" => Ok(Reply::Batch(batch(alloc, rest)?)),
+        _ => Err(Fault::BadValue),
     }
 }
 
-fn reply(alloc: Global, answer: Answer) -> Result<Reply, Fault> {
-    match answer {
-        Answer::Fresh => Ok(Reply::Registered { fresh: true }),
-        Answer::Again => Ok(Reply::Registered { fresh: false }),
-        Answer::Done => Ok(Reply::Done),
-        Answer::NotFound => Ok(Reply::NotFound),
-        Answer::Stale => Ok(Reply::Stale),
-        Answer::Conflict(client) => {
-            let held = instance(alloc, client)?;
-            Ok(Reply::Conflict(BoxedInstance::new(alloc, held)?))
-        }
-        Answer::Last(renewals) => Ok(Reply::Last(renewals)),
-        Answer::Expected(clients) => Ok(Reply::Expected(clients)),
-        Answer::Evicted(ids) => Ok(Reply::Evicted(keys(alloc, ids)?)),
-        Answer::Batch(told) => Ok(Reply::Batch(tasks(alloc, told)?)),
-        Answer::Settled => Ok(Reply::Settled),
+fn reply(alloc: Global, text: &str) -> Result<Reply, Fault> {
+    match text {
+        "fresh" => Ok(Reply::Registered { fresh: true }),
+        "again" => Ok(Reply::Registered { fresh: false }),
+        "done" => Ok(Reply::Done),
+        "missing" => Ok(Reply::NotFound),
+        "stale" => Ok(Reply::Stale),
+        "settled" => Ok(Reply::Settled),
+        "evicted" => Ok(Reply::Evicted(Keys::new(Vec::new(alloc)))),
+        "batch" => Ok(Reply::Batch(Tasks::new(Vec::new(alloc)))),
+        _ => telling_reply(alloc, text),
     }
 }
 
-/// The entry of that line, numbered 0, of pass 0.
-pub fn entry(alloc: Global, line: Line) -> Result<Entry, Fault> {
-    let moment = moment(line.0)?;
-    let command = command(alloc, line.1)?;
-    let reply = reply(alloc, line.2)?;
+/// The entry of a command and its reply, numbered 0, of pass 0.
+pub fn entry(alloc: Global, line: &str, answer: &str) -> Result<Entry, Fault> {
+    let (moment, command) = command(alloc, line)?;
+    let reply = reply(alloc, answer)?;
     Ok(Entry {
         pass: 0,
         number: 0,
@@ -357,69 +208,151 @@ pub fn entry(alloc: Global, line: Line) -> Result<Entry, Fault> {
     })
 }
 
-pub fn entries(alloc: Global, lines: &[Line]) -> Result<Vec<Entry>, Fault> {
-    let mut entries = Vec::with_capacity(alloc, lines.len())?;
-    for line in lines {
-        entries.push(entry(alloc, *line)?)?;
+/// The entries of a line.
+fn push_entries(alloc: Global, entries: &mut Vec<Entry>, line: &str) -> Result<(), Fault> {
+    let (line, answer) = line.split_once(" = ").ok_or(Fault::BadValue)?;
+    for line in each(alloc, line)? {
+        entries.push(entry(alloc, line.as_str(), answer)?)?;
+    }
+    Ok(())
+}
+
+/// The entries of these lines, of which empty ones are none.
+pub fn entries(alloc: Global, lines: &str) -> Result<Vec<Entry>, Fault> {
+    let mut entries = Vec::new(alloc);
+    for line in lines.lines() {
+        let line = line.trim();
+        if !line.is_empty() {
+            push_entries(alloc, &mut entries, line)?;
+        }
     }
     Ok(entries)
 }
 
-pub fn listing(alloc: Global, leases: &[Lease]) -> Result<Listing, Fault> {
-    let mut all = Vec::with_capacity(alloc, leases.len())?;
-    for lease in leases {
-        all.push(listed(alloc, *lease)?)?;
-    }
-    Ok(Listing::new(all))
-}
-
-fn overrides(alloc: Global, told: &[(&str, Status)]) -> Result<OverrideRows, Fault> {
-    let mut overrides = Vec::with_capacity(alloc, told.len())?;
-    for (id, status) in told {
-        let id = Id::read(alloc, id)?;
-        overrides.push((id, *status))?;
-    }
-    Ok(OverrideRows::new(overrides))
-}
-
-fn queue(alloc: Global, waiting: &[Told], flight: &[Told]) -> Result<Queue, Fault> {
-    let waiting = tasks(alloc, waiting)?;
-    let flight = tasks(alloc, flight)?;
-    Ok(Queue { waiting, flight })
-}
-
-fn queues(alloc: Global, told: &[(&'static [Told], &'static [Told])]) -> Result<Queues, Fault> {
-    let mut queues = Vec::with_capacity(alloc, told.len())?;
-    for (waiting, flight) in told {
-        queues.push(queue(alloc, waiting, flight)?)?;
-    }
-    Ok(Queues::new(queues))
-}
-
-fn moment_or_none(ms: Option<u64>) -> Result<Option<Moment>, Fault> {
-    match ms {
-        Some(ms) => Ok(Some(moment(ms)?)),
-        None => Ok(None),
-    }
-}
-
-pub fn state(alloc: Global, form: Form) -> Result<State, Fault> {
-    let (preservation, percent, interval, evict_ms) = form.config;
-    let config = Config::new(preservation, percent, interval, evict_ms)?;
-    let previous = moment_or_none(form.previous)?;
-    let leases = listing(alloc, form.leases)?;
-    let overrides = overrides(alloc, form.overrides)?;
-    let queues = queues(alloc, form.queues)?;
-    Ok(State {
-        config,
-        expected: form.expected,
-        leases,
-        overrides,
-        last: form.last,
-        since: form.since,
-        previous,
-        queues,
+/// An instance like another, but for its id and its host, which is the id.
+fn with_id(alloc: Global, like: &Instance, id: &str) -> Result<Instance, Fault> {
+    let key = key_of(alloc, like.key.app.as_str(), id)?;
+    let rest = Rest::of_host(alloc, id)?;
+    Ok(Instance {
+        key,
+        status: like.status,
+        overridden: like.overridden,
+        last_dirty: like.last_dirty,
+        secs: like.secs,
+        interval: like.interval,
+        rest,
     })
+}
+
+/// The leases of a text, one for each id.
+fn push_leases(alloc: Global, leases: &mut Vec<Listed>, text: &str) -> Result<(), Fault> {
+    let (registered, rest) = leading(text)?;
+    let (updated, rest) = leading(rest)?;
+    let (up, words) = leading(rest)?;
+    let times = Times {
+        registered,
+        updated,
+        up,
+    };
+    let like = instance(alloc, words)?;
+    for id in each(alloc, like.key.id.as_str())? {
+        let instance = with_id(alloc, &like, id.as_str())?;
+        leases.push(Listed { instance, times })?;
+    }
+    Ok(())
+}
+
+fn row(alloc: Global, text: &str) -> Result<(Id, Status), Fault> {
+    let (id, word) = cut(text);
+    let status = status(word)?;
+    Ok((Id::read(alloc, id)?, status))
+}
+
+/// What waits for a peer, and what is in flight to it, as it is read.
+type Told = (Vec<Task>, Vec<Task>);
+
+/// A server as it is read.
+#[derive(Drop)]
+struct Draft {
+    config: Config,
+    expected: u64,
+    leases: Vec<Listed>,
+    rows: Vec<(Id, Status)>,
+    last: u64,
+    since: u64,
+    previous: Option<Moment>,
+    queues: Vec<Told>,
+}
+
+impl Draft {
+    /// A server that was never told anything, and has no peers.
+    fn new(alloc: Global) -> Result<Draft, Fault> {
+        Ok(Draft {
+            config: settings()?,
+            expected: 0,
+            leases: Vec::new(alloc),
+            rows: Vec::new(alloc),
+            last: 0,
+            since: 0,
+            previous: None,
+            queues: Vec::new(alloc),
+        })
+    }
+
+    /// What is told the last peer.
+    fn queue(&mut self) -> Result<&mut Told, Fault> {
+        self.queues.last_mut().ok_or(Fault::BadValue)
+    }
+
+    /// Takes a line.
+    fn take(&mut self, alloc: Global, line: &str) -> Result<(), Fault> {
+        let (word, rest) = cut(line);
+        match word {
+            "" => {}
+            "config" => self.config = config(alloc, rest)?,
+            "expected" => self.expected = number(rest)?,
+            "last" => self.last = number(rest)?,
+            "since" => self.since = number(rest)?,
+            "previous" => self.previous = Some(moment(number(rest)?)?),
+            "lease" => push_leases(alloc, &mut self.leases, rest)?,
+            "row" => self.rows.push(row(alloc, rest)?)?,
+            "peer" => self.queues.push((Vec::new(alloc), Vec::new(alloc)))?,
+            "waits" => push_tasks(alloc, &mut self.queue()?.0, rest)?,
+            "flies" => push_tasks(alloc, &mut self.queue()?.1, rest)?,
+            _ => return Err(Fault::BadValue),
+        }
+        Ok(())
+    }
+
+    /// The server.
+    fn finish(self, alloc: Global) -> Result<State, Fault> {
+        let mut queues = Vec::new(alloc);
+        for (waiting, flight) in self.queues {
+            queues.push(Queue {
+                waiting: Tasks::new(waiting),
+                flight: Tasks::new(flight),
+            })?;
+        }
+        Ok(State {
+            config: self.config,
+            expected: self.expected,
+            leases: Listing::new(self.leases),
+            overrides: OverrideRows::new(self.rows),
+            last: self.last,
+            since: self.since,
+            previous: self.previous,
+            queues: Queues::new(queues),
+        })
+    }
+}
+
+/// The server of these lines, of which empty ones tell nothing.
+pub fn state(alloc: Global, lines: &str) -> Result<State, Fault> {
+    let mut draft = Draft::new(alloc)?;
+    for line in lines.lines() {
+        draft.take(alloc, line.trim())?;
+    }
+    draft.finish(alloc)
 }
 
 /// The auditor's verdict on these entries between these servers.
@@ -431,32 +364,18 @@ pub fn verdict(alloc: Global, base: State, entries: Vec<Entry>, end: State) -> R
     Ok(verdict?)
 }
 
-/// The auditor's verdict on these lines between these servers.
-pub fn judged(alloc: Global, base: Form, lines: &[Line], end: Form) -> Result<bool, Fault> {
+/// The verdict on no entries from the server of these lines to itself.
+pub fn stands(alloc: Global, lines: &str) -> Result<bool, Fault> {
+    let state = state(alloc, lines)?;
+    let verdict = audit(alloc, &state, &[], &state);
+    drop(state);
+    Ok(verdict?)
+}
+
+/// The verdict on what these lines tell.
+pub fn judged(alloc: Global, base: &str, lines: &str, end: &str) -> Result<bool, Fault> {
     let base = state(alloc, base)?;
     let entries = entries(alloc, lines)?;
     let end = state(alloc, end)?;
     verdict(alloc, base, entries, end)
-}
-
-/// A base, some lines, an end, and whether the lines lead there.
-pub type Case = (Form, &'static [Line], Form, bool);
-
-/// The place of the first case, from 0, that isn't judged so.
-pub fn first_wrong(alloc: Global, cases: &[Case]) -> Result<Option<usize>, Fault> {
-    let mut place = 0usize;
-    for (base, lines, end, wanted) in cases {
-        if judged(alloc, *base, lines, *end)? != *wanted {
-            return Ok(Some(place));
-        }
-        place = place.saturating_add(1);
-    }
-    Ok(None)
-}
-
-/// The auditor's verdict on no entries from a server to itself.
-pub fn stands(alloc: Global, state: State) -> Result<bool, Fault> {
-    let verdict = audit(alloc, &state, &[], &state);
-    drop(state);
-    Ok(verdict?)
 }

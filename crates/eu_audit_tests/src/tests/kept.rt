@@ -1,57 +1,37 @@
 //! A book that is asked by two passes in turn, at 0 to 6 ms. Pass 0 registers two clients and renews one three times; pass 1 renews the
 //! other twice. Nobody is expected when it is opened, so nobody is at the end.
-use crate::tests::forms::{
-    Answer, CLIENT, Form, I2, Lease, NEW, RENEW_I1, RENEW_I2, Step, command, entry, listing,
-    stands, state, verdict,
-};
+use crate::tests::books::tell;
+use crate::tests::cases::judge;
+use crate::tests::forms::{entries, state, verdict};
+use eu_audit::audit;
 use eu_base::Fault;
 use eu_book::{Book, Journal};
 use eu_clock::FirstChooser;
-use eu_fixtures::{moment, settings};
+use eu_fixtures::settings;
 use eu_model::State;
 use std::alloc::Global;
 
-/// What each pass tells, one step a millisecond.
-const STEPS: [(u64, Step); 7] = [
-    (0, Step::Register(CLIENT)),
-    (0, Step::Register(I2)),
-    (0, RENEW_I1),
-    (0, RENEW_I1),
-    (0, RENEW_I1),
-    (1, RENEW_I2),
-    (1, RENEW_I2),
+/// What each pass tells.
+const STEPS: [(u64, &str); 7] = [
+    (0, "register 0 A i1 90 UP UNKNOWN 5 c"),
+    (0, "register 1 A i2 90 UP UNKNOWN 5 c"),
+    (0, "renew 2 A i1 - - c"),
+    (0, "renew 3 A i1 - - c"),
+    (0, "renew 4 A i1 - - c"),
+    (1, "renew 5 A i2 - - c"),
+    (1, "renew 6 A i2 - - c"),
 ];
 
-/// What is held of the client that renewed last at 4 ms. It has been UP since 0, which is how a time is written that isn't set.
-const LEASE: Lease = Lease {
-    client: CLIENT,
-    registered: 0,
-    updated: 90_004,
-    up: 0,
-};
-
-/// What is held of the other one, who renewed last at 6 ms.
-const OTHER: Lease = Lease {
-    client: I2,
-    registered: 1,
-    updated: 90_006,
-    up: 1,
-};
-
-/// The server at the end, without peers.
-const END: Form = Form {
-    leases: &[LEASE, OTHER],
-    since: 5,
-    ..NEW
-};
+/// The server at the end, without peers. i1 renewed last at 4 ms, and i2 at 6 ms. i1 has been UP since 0, which is how a time is written
+/// that isn't set.
+const END: &str = "\
+lease 0 90004 0 A i1 90 UP UNKNOWN 5
+lease 1 90006 1 A i2 90 UP UNKNOWN 5
+since 5";
 
 fn tell_steps(alloc: Global, book: &mut Book) -> Result<(), Fault> {
-    let mut ms = 0u64;
-    for (pass, step) in STEPS {
-        let command = command(alloc, step)?;
-        let receipt = book.apply(alloc, pass, command, moment(ms)?, &mut FirstChooser)?;
-        drop(receipt);
-        ms = ms.saturating_add(1);
+    for (pass, line) in STEPS {
+        tell(alloc, book, pass, line, &mut FirstChooser)?;
     }
     Ok(())
 }
@@ -94,79 +74,87 @@ fn a_book_of_two_passes_is_a_run(rt: HostRuntime) {
     assert!(rt; whole(rt.alloc(), true) == Ok((true, false)));
 }
 
-/// The verdict where one entry is left out, by its place from 0.
-fn without(alloc: Global, has_peer: bool, place: usize) -> Result<bool, Fault> {
-    let (mut journal, end) = kept(alloc, has_peer)?;
+/// The verdict where the entry of that place is left out, if it is one, where this one follows, if it is one, and where so many more
+/// are expected at the end.
+fn changed(
+    alloc: Global,
+    has_peer: bool,
+    place: usize,
+    line: &str,
+    expected: u64,
+) -> Result<bool, Fault> {
+    let (mut journal, mut end) = kept(alloc, has_peer)?;
     if place < journal.entries.len() {
         drop(journal.entries.remove(place));
     }
+    for entry in entries(alloc, line)? {
+        journal.entries.push(entry)?;
+    }
+    end.expected = end.expected.saturating_add(expected);
     audited(alloc, journal, end)
 }
 
 #[test]
-fn a_book_of_two_passes_that_lacks_an_entry_is_no_run(rt: HostRuntime) {
+fn a_book_of_two_passes_that_is_changed_is_no_run(rt: HostRuntime) {
     for place in 0..STEPS.len() {
         assert!(rt;
-            without(rt.alloc(), false, place) == Ok(false),
+            changed(rt.alloc(), false, place, "", 0) == Ok(false),
             "at {place}"
         );
-        assert!(rt; without(rt.alloc(), true, place) == Ok(false), "at {place}");
+        assert!(rt;
+            changed(rt.alloc(), true, place, "", 0) == Ok(false),
+            "at {place}"
+        );
     }
-}
-
-/// The verdict where one client is expected at the end.
-fn expects_one(alloc: Global) -> Result<bool, Fault> {
-    let (journal, mut end) = kept(alloc, false)?;
-    end.expected = 1;
-    audited(alloc, journal, end)
-}
-
-#[test]
-fn one_more_expected_is_no_run(rt: HostRuntime) {
-    assert!(rt; expects_one(rt.alloc()) == Ok(false));
-}
-
-/// The verdict where this entry follows.
-fn goes_on(alloc: Global, has_peer: bool, step: Step, answer: Answer) -> Result<bool, Fault> {
-    let (mut journal, end) = kept(alloc, has_peer)?;
-    journal.entries.push(entry(alloc, (6, step, answer))?)?;
-    audited(alloc, journal, end)
+    assert!(rt; changed(rt.alloc(), false, STEPS.len(), "", 1) == Ok(false));
 }
 
 /// What needs a batch in flight to a peer is refused where none is, and so is what names a peer that isn't there.
 #[test]
 fn an_entry_that_is_refused_is_no_run(rt: HostRuntime) {
-    let alloc = rt.alloc();
-    for has_peer in [false, true] {
-        let land = Step::Land(0, &[]);
-        assert!(rt; goes_on(alloc, has_peer, land, Answer::Settled) == Ok(false));
-        let lose = Step::Lose(0);
-        assert!(rt; goes_on(alloc, has_peer, lose, Answer::Settled) == Ok(false));
-        let drain = Step::Drain(1);
-        assert!(rt; goes_on(alloc, has_peer, drain, Answer::Batch(&[])) == Ok(false));
+    let end = STEPS.len();
+    for line in [
+        "landed 6 0 = settled",
+        "lost 6 0 = settled",
+        "drain 6 1 = batch",
+    ] {
+        assert!(rt;
+            changed(rt.alloc(), false, end, line, 0) == Ok(false),
+            "{line}"
+        );
+        assert!(rt;
+            changed(rt.alloc(), true, end, line, 0) == Ok(false),
+            "{line}"
+        );
     }
 }
 
-/// The verdict on no entries from a book's end to itself.
+/// The auditor's verdict on no entries from the end of a book to itself.
 fn stays(alloc: Global, has_peer: bool) -> Result<bool, Fault> {
     let (journal, end) = kept(alloc, has_peer)?;
     drop(journal);
-    stands(alloc, end)
+    let verdict = audit(alloc, &end, &[], &end);
+    drop(end);
+    Ok(verdict?)
 }
 
-/// The same where these leases are told.
-fn stays_with(alloc: Global, leases: &[Lease]) -> Result<bool, Fault> {
-    let (journal, mut end) = kept(alloc, false)?;
-    drop(journal);
-    end.leases = listing(alloc, leases)?;
-    stands(alloc, end)
-}
+/// That end, and the same with its leases the other way round.
+const ENDS: &str = "
+    from
+        lease 0 90004 0 A i1 90 UP UNKNOWN 5
+        lease 1 90006 1 A i2 90 UP UNKNOWN 5
+        since 5
+    plain
+    from
+        lease 1 90006 1 A i2 90 UP UNKNOWN 5
+        lease 0 90004 0 A i1 90 UP UNKNOWN 5
+        since 5
+    not plain
+";
 
 #[test]
 fn an_end_of_two_passes_stays(rt: HostRuntime) {
-    let alloc = rt.alloc();
-    assert!(rt; stays(alloc, false) == Ok(true));
-    assert!(rt; stays(alloc, true) == Ok(true));
-    assert!(rt; stays_with(alloc, &[LEASE, OTHER]) == Ok(true));
-    assert!(rt; stays_with(alloc, &[OTHER, LEASE]) == Ok(false));
+    assert!(rt; stays(rt.alloc(), false) == Ok(true));
+    assert!(rt; stays(rt.alloc(), true) == Ok(true));
+    assert!(rt; judge(rt.alloc(), ENDS) == Ok(2));
 }

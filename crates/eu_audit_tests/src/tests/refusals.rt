@@ -1,226 +1,150 @@
 //! Entries whose command is refused at their moment, each beside one that isn't.
-use crate::tests::forms::{
-    Answer, CLIENT, Case, Form, I2, LEASE, Lease, NEW, Step, Told, first_wrong,
-};
-use eu_base::Action;
+use crate::tests::cases::judge;
 
-/// i1 is held, 2^40 clients are expected, and 2^62 renewals were counted: no more can be.
-const BRIM: Form = Form {
-    expected: 1 << 40,
-    leases: &[LEASE],
-    since: 1 << 62,
-    ..NEW
-};
+/// No more than 1099511627776 clients can be expected, which is 2^40, and no more than 4611686018427387904 renewals counted, which is 2^62.
+/// A task that was queued at 1000 is worth sending up to 31000.
+const REFUSALS: &str = "
+    # A client more, where none more can be expected; and one that is held comes again.
+    from
+        expected 1099511627776
+        lease 1000 1000 1000 A i1 90 UP UNKNOWN 5
+        since 4611686018427387904
+    by
+        register 2000 A i2 90 UP UNKNOWN 5 c = fresh
+    to
+        expected 1099511627776
+        lease 1000 1000 1000 A i1 90 UP UNKNOWN 5
+        lease 2000 2000 2000 A i2 90 UP UNKNOWN 5
+        since 4611686018427387904
+    no
+    by
+        register 2000 A i1 90 UP UNKNOWN 5 c = again
+    to
+        expected 1099511627776
+        lease 2000 2000 1000 A i1 90 UP UNKNOWN 5
+        since 4611686018427387904
+    yes
 
-/// A client more, where none more can be expected; and one that is held comes again.
-const COMES: [Case; 2] = [
-    (
-        BRIM,
-        &[(2_000, Step::Register(I2), Answer::Fresh)],
-        Form {
-            leases: &[
-                LEASE,
-                Lease {
-                    client: I2,
-                    registered: 2_000,
-                    updated: 2_000,
-                    up: 2_000,
-                },
-            ],
-            ..BRIM
-        },
-        false,
-    ),
-    (
-        BRIM,
-        &[(2_000, Step::Register(CLIENT), Answer::Again)],
-        Form {
-            leases: &[Lease {
-                registered: 2_000,
-                updated: 2_000,
-                ..LEASE
-            }],
-            ..BRIM
-        },
-        true,
-    ),
-];
+    # A renewal, where none more can be counted; one that isn't counted, since it finds nothing; and one after the minute has ended.
+    from
+        expected 1099511627776
+        lease 1000 1000 1000 A i1 90 UP UNKNOWN 5
+        since 4611686018427387904
+    by
+        renew 2000 A i1 - - c = done
+    to
+        expected 1099511627776
+        lease 1000 92000 1000 A i1 90 UP UNKNOWN 5
+        since 4611686018427387904
+    no
+    by
+        renew 2000 A i2 - - c = missing
+    to
+        expected 1099511627776
+        lease 1000 1000 1000 A i1 90 UP UNKNOWN 5
+        since 4611686018427387904
+    yes
+    from
+        expected 1099511627776
+        lease 1000 1000 1000 A i1 90 UP UNKNOWN 5
+    by
+        renew 2000 A i1 - - c = done
+    to
+        expected 1099511627776
+        lease 1000 92000 1000 A i1 90 UP UNKNOWN 5
+        since 1
+    yes
 
-/// A renewal, where none more can be counted; one that isn't counted, since it finds nothing; and one after the minute has ended.
-const RENEWS: [Case; 3] = [
-    (
-        BRIM,
-        &[(2_000, Step::Renew("i1", None, false), Answer::Done)],
-        Form {
-            leases: &[Lease {
-                updated: 92_000,
-                ..LEASE
-            }],
-            ..BRIM
-        },
-        false,
-    ),
-    (
-        BRIM,
-        &[(2_000, Step::Renew("i2", None, false), Answer::NotFound)],
-        BRIM,
-        true,
-    ),
-    (
-        Form { since: 0, ..BRIM },
-        &[(2_000, Step::Renew("i1", None, false), Answer::Done)],
-        Form {
-            leases: &[Lease {
-                updated: 92_000,
-                ..LEASE
-            }],
-            since: 1,
-            ..BRIM
-        },
-        true,
-    ),
-];
+    # What waits is drained, unless it is too old, or a batch is in flight, or there is no such peer.
+    from
+        peer
+        waits Cancel 1000 - A i1
+    by
+        drain 31000 0 = batch Cancel 1000 - A i1
+    to
+        peer
+        flies Cancel 1000 - A i1
+    yes
+    by
+        drain 31001 0 = batch Cancel 1000 - A i1
+    no
+    by
+        drain 31001 0 = batch
+    to
+        peer
+    no
+    from
+        peer
+    by
+        drain 2000 0 = batch
+    no
+    from
+        peer
+        flies Cancel 1000 - A i1
+    by
+        drain 2000 0 = batch Cancel 1000 - A i1
+    to
+        peer
+        flies Cancel 1000 - A i1
+    no
+    from
+        peer
+        waits Cancel 1000 - A i1
+    by
+        drain 2000 1 = batch Cancel 1000 - A i1
+    no
 
-/// A task that was queued at 1,000: it is worth sending up to 31,000.
-const TASK: Told = Told {
-    action: Action::Cancel,
-    id: "i1",
-    status: None,
-    client: None,
-    queued: 1_000,
-};
+    # A batch has landed, unless none is in flight, or it was answered by another number of codes.
+    from
+        peer
+        flies Cancel 1000 - A i1
+    by
+        landed 2000 0 200 = settled
+    to
+        peer
+    yes
+    by
+        landed 2000 0 200 200 = settled
+    no
+    by
+        landed 2000 0 = settled
+    no
+    from
+        peer
+        waits Cancel 1000 - A i1
+    to
+        peer
+        waits Cancel 1000 - A i1
+    no
 
-/// It waits.
-const WAITS: Form = Form {
-    queues: &[(&[TASK], &[])],
-    ..NEW
-};
-
-/// It is in flight.
-const FLIES: Form = Form {
-    queues: &[(&[], &[TASK])],
-    ..NEW
-};
-
-/// There is a peer, and nothing for it.
-const IDLE: Form = Form {
-    queues: &[(&[], &[])],
-    ..NEW
-};
-
-/// What waits is drained, unless it is too old, or a batch is in flight, or there is no such peer.
-const DRAINS: [Case; 6] = [
-    (
-        WAITS,
-        &[(31_000, Step::Drain(0), Answer::Batch(&[TASK]))],
-        FLIES,
-        true,
-    ),
-    (
-        WAITS,
-        &[(31_001, Step::Drain(0), Answer::Batch(&[TASK]))],
-        FLIES,
-        false,
-    ),
-    (
-        WAITS,
-        &[(31_001, Step::Drain(0), Answer::Batch(&[]))],
-        IDLE,
-        false,
-    ),
-    (
-        IDLE,
-        &[(2_000, Step::Drain(0), Answer::Batch(&[]))],
-        IDLE,
-        false,
-    ),
-    (
-        FLIES,
-        &[(2_000, Step::Drain(0), Answer::Batch(&[TASK]))],
-        FLIES,
-        false,
-    ),
-    (
-        WAITS,
-        &[(2_000, Step::Drain(1), Answer::Batch(&[TASK]))],
-        FLIES,
-        false,
-    ),
-];
-
-/// A batch has landed, unless none is in flight, or it was answered by another number of codes.
-const LANDS: [Case; 4] = [
-    (
-        FLIES,
-        &[(2_000, Step::Land(0, &[200]), Answer::Settled)],
-        IDLE,
-        true,
-    ),
-    (
-        FLIES,
-        &[(2_000, Step::Land(0, &[200, 200]), Answer::Settled)],
-        IDLE,
-        false,
-    ),
-    (
-        FLIES,
-        &[(2_000, Step::Land(0, &[]), Answer::Settled)],
-        IDLE,
-        false,
-    ),
-    (
-        WAITS,
-        &[(2_000, Step::Land(0, &[]), Answer::Settled)],
-        WAITS,
-        false,
-    ),
-];
-
-/// A batch is lost, unless none is in flight; what is too old doesn't wait again.
-const LOSES: [Case; 4] = [
-    (
-        FLIES,
-        &[(31_000, Step::Lose(0), Answer::Settled)],
-        WAITS,
-        true,
-    ),
-    (
-        FLIES,
-        &[(31_001, Step::Lose(0), Answer::Settled)],
-        WAITS,
-        false,
-    ),
-    (
-        FLIES,
-        &[(31_001, Step::Lose(0), Answer::Settled)],
-        IDLE,
-        true,
-    ),
-    (
-        WAITS,
-        &[(2_000, Step::Lose(0), Answer::Settled)],
-        WAITS,
-        false,
-    ),
-];
+    # A batch is lost, unless none is in flight; what is too old doesn't wait again.
+    from
+        peer
+        flies Cancel 1000 - A i1
+    by
+        lost 31000 0 = settled
+    to
+        peer
+        waits Cancel 1000 - A i1
+    yes
+    by
+        lost 31001 0 = settled
+    no
+    to
+        peer
+    yes
+    from
+        peer
+        waits Cancel 1000 - A i1
+    by
+        lost 2000 0 = settled
+    to
+        peer
+        waits Cancel 1000 - A i1
+    no
+";
 
 #[test]
-fn what_cannot_be_counted_is_no_run(rt: HostRuntime) {
-    assert!(rt; first_wrong(rt.alloc(), COMES.as_slice()) == Ok(None));
-    assert!(rt; first_wrong(rt.alloc(), RENEWS.as_slice()) == Ok(None));
-}
-
-#[test]
-fn a_drain_that_is_refused_is_no_run(rt: HostRuntime) {
-    assert!(rt; first_wrong(rt.alloc(), DRAINS.as_slice()) == Ok(None));
-}
-
-#[test]
-fn a_landing_that_is_refused_is_no_run(rt: HostRuntime) {
-    assert!(rt; first_wrong(rt.alloc(), LANDS.as_slice()) == Ok(None));
-}
-
-#[test]
-fn a_loss_that_is_refused_is_no_run(rt: HostRuntime) {
-    assert!(rt; first_wrong(rt.alloc(), LOSES.as_slice()) == Ok(None));
+fn what_is_refused_is_no_run(rt: HostRuntime) {
+    assert!(rt; judge(rt.alloc(), REFUSALS) == Ok(19));
 }

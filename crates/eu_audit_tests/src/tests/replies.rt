@@ -1,155 +1,54 @@
 //! A journal of a server with one peer, with each kind of command and of reply.
-use crate::tests::forms::{
-    Answer, CLIENT, Client, Form, I2, Lease, Line, NEW, REGISTRATION, Step, Told, judged,
-};
-use eu_base::{Action, Fault, Status};
+use crate::tests::forms::judged;
+use eu_base::Fault;
 use std::alloc::Global;
 
-/// i1 after an operator has taken it out of service.
-const OUT: Client = Client {
-    statuses: (Status::OutOfService, Status::OutOfService),
-    ..CLIENT
-};
-
-/// i1 after the operator has taken that back and given no other status.
-const UNSET: Client = Client {
-    statuses: (Status::Unknown, Status::Unknown),
-    ..CLIENT
-};
-
-/// A peer tells of i3, which is UP and to be out of service.
-const I3: Client = Client {
-    id: "i3",
-    statuses: (Status::Up, Status::OutOfService),
-    last_dirty: 7,
-    secs: 90,
-};
-
-/// i3 as it is held.
-const ADOPTED: Client = Client {
-    statuses: (Status::OutOfService, Status::OutOfService),
-    ..I3
-};
-
-const HEARTBEAT: Told = Told {
-    action: Action::Heartbeat,
-    queued: 2_000,
-    ..REGISTRATION
-};
-
-/// The registration that follows the heartbeat that found no lease.
-const AGAIN: Told = Told {
-    queued: 4_000,
-    ..REGISTRATION
-};
-
-/// The heartbeat of the client whose stamp is newer.
-const NEWER: Told = Told {
-    queued: 4_600,
-    ..HEARTBEAT
-};
-
-const SECOND: Told = Told {
-    action: Action::Register,
-    id: "i2",
-    status: None,
-    client: Some(I2),
-    queued: 5_000,
-};
-
-const SET: Told = Told {
-    action: Action::StatusUpdate,
-    id: "i1",
-    status: Some(Status::OutOfService),
-    client: Some(OUT),
-    queued: 6_500,
-};
-
-const LEFT: Told = Told {
-    action: Action::Cancel,
-    id: "i2",
-    status: None,
-    client: None,
-    queued: 9_500,
-};
-
-const TAKEN_BACK: Told = Told {
-    action: Action::DeleteStatusOverride,
-    id: "i1",
-    status: Some(Status::Unknown),
-    client: Some(UNSET),
-    queued: 9_600,
-};
-
 /// A server with one peer, for whom nothing waits.
-pub const BASE: Form = Form {
-    queues: &[(&[], &[])],
-    ..NEW
-};
+pub const BASE: &str = "peer";
 
 /// What a client, an operator, a peer and the timers tell it, one after the other.
-pub const LINES: [Line; 19] = [
-    (1_000, Step::Register(CLIENT), Answer::Fresh),
-    (2_000, Step::Renew("i1", None, false), Answer::Done),
-    (2_500, Step::Renew("i2", None, false), Answer::NotFound),
-    (
-        3_000,
-        Step::Drain(0),
-        Answer::Batch(&[REGISTRATION, HEARTBEAT]),
-    ),
-    (4_000, Step::Land(0, &[200, 404]), Answer::Settled),
-    (
-        4_500,
-        Step::Renew("i1", Some(4), true),
-        Answer::Conflict(CLIENT),
-    ),
-    (4_600, Step::Renew("i1", Some(6), false), Answer::Stale),
-    (5_000, Step::Register(I2), Answer::Fresh),
-    (
-        6_000,
-        Step::Drain(0),
-        Answer::Batch(&[AGAIN, NEWER, SECOND]),
-    ),
-    (6_500, Step::Set("i1", Status::OutOfService), Answer::Done),
-    (7_000, Step::Lose(0), Answer::Settled),
-    (7_500, Step::EndMinute, Answer::Last(3)),
-    (8_000, Step::Update, Answer::Expected(2)),
-    (9_000, Step::Evict, Answer::Evicted(&[])),
-    (9_500, Step::Cancel("i2"), Answer::Done),
-    (9_600, Step::Unset("i1"), Answer::Done),
-    (9_700, Step::Renew("i1", None, false), Answer::NotFound),
-    (9_800, Step::Adopt(I3), Answer::Fresh),
-    (9_900, Step::Reconfigure(false, 50, 15, 7), Answer::Done),
-];
+pub const LINES: &str = "\
+register 1000 A i1 90 UP UNKNOWN 5 c = fresh
+renew 2000 A i1 - - c = done
+renew 2500 A i2 - - c = missing
+drain 3000 0 = batch Register 1000 - A i1 of A i1 90 UP UNKNOWN 5, Heartbeat 2000 - A i1 of A i1 90 UP UNKNOWN 5
+landed 4000 0 200 404 = settled
+renew 4500 A i1 4 - r = conflict A i1 90 UP UNKNOWN 5
+renew 4600 A i1 6 - c = stale
+register 5000 A i2 90 UP UNKNOWN 5 c = fresh
+drain 6000 0 = batch Register 4000 - A i1 of A i1 90 UP UNKNOWN 5, Heartbeat 4600 - A i1 of A i1 90 UP UNKNOWN 5, Register 5000 - A i2 of A i2 90 UP UNKNOWN 5
+set 6500 A i1 OUT_OF_SERVICE - c = done
+lost 7000 0 = settled
+roll 7500 = last 3
+update 8000 = expected 2
+evict 9000 = evicted
+cancel 9500 A i2 c = done
+unset 9600 A i1 - - c = done
+renew 9700 A i1 - - c = missing
+adopt 9800 A i3 90 UP OUT_OF_SERVICE 7 = fresh
+config 9900 off 50 15 7 = done";
 
-/// What it is then. i1 was last renewed when its status was taken back, at 9,600; two clients were expected, one left, and one came.
-pub const END: Form = Form {
-    config: (false, 50, 15, 7),
-    expected: 2,
-    leases: &[
-        Lease {
-            client: UNSET,
-            registered: 1_000,
-            updated: 99_600,
-            up: 1_000,
-        },
-        Lease {
-            client: ADOPTED,
-            registered: 9_800,
-            updated: 9_800,
-            up: 0,
-        },
-    ],
-    overrides: &[("i3", Status::OutOfService)],
-    last: 3,
-    since: 0,
-    previous: Some(9_000),
-    queues: &[(&[AGAIN, NEWER, SECOND, SET, LEFT, TAKEN_BACK], &[])],
-};
+/// What it is then. i1 was last renewed when its status was taken back, at 9600; two clients were expected, one left, and one came. The
+/// heartbeat that found no lease at the peer was followed by a registration, at 4000.
+pub const END: &str = "\
+config off 50 15 7
+expected 2
+lease 1000 99600 1000 A i1 90 UNKNOWN UNKNOWN 5
+lease 9800 9800 0 A i3 90 OUT_OF_SERVICE OUT_OF_SERVICE 7
+row i3 OUT_OF_SERVICE
+last 3
+previous 9000
+peer
+waits Register 4000 - A i1 of A i1 90 UP UNKNOWN 5
+waits Heartbeat 4600 - A i1 of A i1 90 UP UNKNOWN 5
+waits Register 5000 - A i2 of A i2 90 UP UNKNOWN 5
+waits StatusUpdate 6500 OUT_OF_SERVICE A i1 of A i1 90 OUT_OF_SERVICE OUT_OF_SERVICE 5
+waits Cancel 9500 - A i2
+waits DeleteStatusOverride 9600 UNKNOWN A i1 of A i1 90 UNKNOWN UNKNOWN 5";
 
 /// The auditor's verdict on this journal.
 pub fn verdict(alloc: Global) -> Result<bool, Fault> {
-    judged(alloc, BASE, LINES.as_slice(), END)
+    judged(alloc, BASE, LINES, END)
 }
 
 #[test]
@@ -157,134 +56,104 @@ fn a_journal_with_each_reply_is_a_run(rt: HostRuntime) {
     assert!(rt; verdict(rt.alloc()) == Ok(true));
 }
 
-/// i1 with another stamp than it has.
-const CHANGED: Client = Client {
-    last_dirty: 4,
-    ..CLIENT
-};
+/// For each line another reply: of its kind, or of another where its kind has but one.
+const WRONG: &str = "\
+again
+missing
+done
+batch Register 1000 - A i1 of A i1 90 UP UNKNOWN 5
+done
+conflict A i1 90 UP UNKNOWN 4
+done
+again
+batch Register 4000 - A i1 of A i1 90 UP UNKNOWN 5, Register 5000 - A i2 of A i2 90 UP UNKNOWN 5, Heartbeat 4600 - A i1 of A i1 90 UP UNKNOWN 5
+missing
+batch Register 4000 - A i1 of A i1 90 UP UNKNOWN 5, Heartbeat 4600 - A i1 of A i1 90 UP UNKNOWN 5, Register 5000 - A i2 of A i2 90 UP UNKNOWN 5
+last 2
+expected 3
+evicted i1
+missing
+stale
+done
+again
+settled";
 
-/// For each line another answer: of its kind, or of another where its kind has but one.
-const WRONG: [Answer; 19] = [
-    Answer::Again,
-    Answer::NotFound,
-    Answer::Done,
-    Answer::Batch(&[REGISTRATION]),
-    Answer::Done,
-    Answer::Conflict(CHANGED),
-    Answer::Done,
-    Answer::Again,
-    Answer::Batch(&[AGAIN, SECOND, NEWER]),
-    Answer::NotFound,
-    Answer::Batch(&[AGAIN, NEWER, SECOND]),
-    Answer::Last(2),
-    Answer::Expected(3),
-    Answer::Evicted(&["i1"]),
-    Answer::NotFound,
-    Answer::Stale,
-    Answer::Done,
-    Answer::Again,
-    Answer::Settled,
-];
+/// A text in which this part, which it has, is another.
+fn changed(alloc: Global, text: &str, part: &str, other: &str) -> Result<String, Fault> {
+    let (front, back) = text.split_once(part).ok_or(Fault::BadValue)?;
+    Ok(format!(in alloc; "{front}{other}{back}")?)
+}
 
-/// The lines with that answer to one of them, by its place from 0.
-fn answered(place: usize, answer: Answer) -> [Line; 19] {
-    let mut lines = LINES;
-    if let Some(line) = lines.get_mut(place) {
-        line.2 = answer;
-    }
-    lines
+/// The verdict where a line of the journal is another, or none.
+fn judged_other(alloc: Global, line: &str, other: &str) -> Result<bool, Fault> {
+    let lines = changed(alloc, LINES, line, other)?;
+    judged(alloc, BASE, lines.as_str(), END)
+}
+
+/// The verdict where a line has another reply.
+fn judged_reply(alloc: Global, line: &str, reply: &str) -> Result<bool, Fault> {
+    let (command, _) = line.split_once(" = ").ok_or(Fault::BadValue)?;
+    let other = format!(in alloc; "{command} = {reply}")?;
+    judged_other(alloc, line, other.as_str())
 }
 
 #[test]
 fn another_reply_is_no_run(rt: HostRuntime) {
-    for place in 0..WRONG.len() {
-        let lines = answered(place, WRONG[place]);
-        let verdict = judged(rt.alloc(), BASE, lines.as_slice(), END);
-        assert!(rt; verdict == Ok(false), "at {place}");
+    let mut count = 0usize;
+    for (line, reply) in LINES.lines().zip(WRONG.lines()) {
+        assert!(rt;
+            judged_reply(rt.alloc(), line, reply) == Ok(false),
+            "{line}"
+        );
+        count = count.saturating_add(1);
     }
-}
-
-/// The same without one of them.
-fn without(alloc: Global, place: usize) -> Result<Vec<Line>, Fault> {
-    let mut lines = Vec::from_slice(alloc, LINES.as_slice())?;
-    if place < lines.len() {
-        lines.remove(place);
-    }
-    Ok(lines)
-}
-
-fn judged_without(alloc: Global, place: usize) -> Result<bool, Fault> {
-    let lines = without(alloc, place)?;
-    judged(alloc, BASE, lines.as_slice(), END)
+    assert!(rt; count == 19);
 }
 
 /// The two renewals that found nothing changed nothing, so without one of them it is a run too.
 #[test]
 fn an_entry_that_changes_something_is_needed(rt: HostRuntime) {
-    for place in 0..LINES.len() {
-        let wanted = place == 2 || place == 16;
-        assert!(rt;
-            judged_without(rt.alloc(), place) == Ok(wanted),
-            "at {place}"
-        );
+    let mut count = 0usize;
+    for line in LINES.lines() {
+        let wanted = line.starts_with("renew") && line.ends_with(" = missing");
+        assert!(rt; judged_other(rt.alloc(), line, "") == Ok(wanted), "{line}");
+        count = count.saturating_add(1);
     }
+    assert!(rt; count == 19);
 }
 
-/// A task that waits has another status.
-const UP_SET: Told = Told {
-    status: Some(Status::Up),
-    ..SET
-};
-
-/// A task that waits is of another moment.
-const LATER: Told = Told {
-    queued: 9_501,
-    ..LEFT
-};
-
-/// Ends in which what waits for the peer, or the previous eviction, is another.
-const ENDS: [Form; 9] = [
-    Form {
-        queues: &[(&[AGAIN, NEWER, SECOND, UP_SET, LEFT, TAKEN_BACK], &[])],
-        ..END
-    },
-    Form {
-        queues: &[(&[AGAIN, NEWER, SECOND, SET, LATER, TAKEN_BACK], &[])],
-        ..END
-    },
-    Form {
-        queues: &[(&[NEWER, AGAIN, SECOND, SET, LEFT, TAKEN_BACK], &[])],
-        ..END
-    },
-    Form {
-        queues: &[(&[AGAIN, NEWER, SECOND, SET, LEFT], &[])],
-        ..END
-    },
-    Form {
-        queues: &[(&[NEWER, SECOND, SET, LEFT, TAKEN_BACK], &[AGAIN])],
-        ..END
-    },
-    Form {
-        queues: &[
-            (&[AGAIN, NEWER, SECOND, SET, LEFT, TAKEN_BACK], &[]),
-            (&[], &[]),
-        ],
-        ..END
-    },
-    Form { queues: &[], ..END },
-    Form {
-        previous: Some(9_001),
-        ..END
-    },
-    Form {
-        previous: None,
-        ..END
-    },
+/// What is another in an end to which the journal doesn't lead: what waits for the peer, or the previous eviction.
+const CHANGES: [(&str, &str); 8] = [
+    ("6500 OUT_OF_SERVICE", "6500 UP"),
+    ("9500", "9501"),
+    (
+        "Register 4000 - A i1 of A i1 90 UP UNKNOWN 5\nwaits Heartbeat 4600",
+        "Heartbeat 4600 - A i1 of A i1 90 UP UNKNOWN 5\nwaits Register 4000",
+    ),
+    (
+        "waits DeleteStatusOverride 9600 UNKNOWN A i1 of A i1 90 UNKNOWN UNKNOWN 5",
+        "",
+    ),
+    (
+        "9600 UNKNOWN A i1 of A i1 90 UNKNOWN UNKNOWN 5",
+        "9600 UNKNOWN A i1 of A i1 90 UNKNOWN UNKNOWN 5\npeer",
+    ),
+    ("waits Register 4000", "flies Register 4000"),
+    ("previous 9000", "previous 9001"),
+    ("previous 9000", ""),
 ];
+
+/// The verdict where a part of the end is another.
+fn judged_end(alloc: Global, part: &str, other: &str) -> Result<bool, Fault> {
+    let end = changed(alloc, END, part, other)?;
+    judged(alloc, BASE, LINES, end.as_str())
+}
 
 #[test]
 fn another_end_is_no_run(rt: HostRuntime) {
-    for end in ENDS {
-        assert!(rt; judged(rt.alloc(), BASE, LINES.as_slice(), end) == Ok(false));
+    for (part, other) in CHANGES {
+        assert!(rt; judged_end(rt.alloc(), part, other) == Ok(false), "{other}");
     }
+    let (without_peer, _) = END.split_once("peer").unwrap_or((END, ""));
+    assert!(rt; judged(rt.alloc(), BASE, LINES, without_peer) == Ok(false));
 }

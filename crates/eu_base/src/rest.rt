@@ -8,14 +8,11 @@ ghost use Rattle.eu_text.specs.Fit.{is_fit};
 ghost use Rattle.eu_base.specs.Rest.{IsRest, rest_of_host};
 
 use crate::hosts::host_of;
-use eu_text::{Entry, ObjectText, fits, members_of};
+use eu_text::{Member, ObjectText, is_fit, members_of};
 use serde_json::{Map, Value, json};
 use std::alloc::{AllocError, Global};
 use std::marker::Model;
 use std::sync::Arc;
-
-/// How deep JSON may nest that is read.
-const MOST_NESTING: usize = 127;
 
 /// How the members are kept.
 #[derive(Debug, Drop)]
@@ -56,21 +53,27 @@ impl Rest {
         ensures some { IfOk result (λ o. IfSome o (λ r. r ≡ tree_of value)) }
         ensures found { IfOk result (λ o. IsSome o ↔ IsRest (tree_of value)) }
     {
-        if !fits(&value, MOST_NESTING) {
+        if !value.is_object() || !is_fit(&value) {
             return Ok(None);
         }
-        let Some(members) = members_of(value) else {
-            return Ok(None);
-        };
+        Ok(Some(Rest::of_fit(alloc, value)?))
+    }
+
+    /// The members of a value that is known to be such an object, so that it isn't looked through. `AllocError` where no memory is left.
+    pub fn of_fit(alloc: Global, value: Value) -> Result<Rest, AllocError>
+        requires { IsRest (tree_of value) }
+        ensures { IfOk result (λ r. r ≡ tree_of value) }
+    {
+        let members = members_of(value).unwrap();
         if let Some(host) = host_of(&members) {
-            return Ok(Some(Rest::of_host(alloc, host)?));
+            return Rest::of_host(alloc, host);
         }
         let entries = entries_of(alloc, members)?;
         let text = ObjectText::new(alloc, entries.as_slice())?;
         let text = Arc::new(alloc, text)?;
-        Ok(Some(Rest {
+        Ok(Rest {
             members: Members::Shared(text),
-        }))
+        })
     }
 
     /// What a client at that host gives at least: its host name, an address and a data center of its own. `AllocError` where no
@@ -96,7 +99,7 @@ impl Rest {
     }
 
     /// The text of the members, where that is kept. Takes no memory.
-    pub fn kept(&self) -> Option<&ObjectText>
+    pub fn shared_text(&self) -> Option<&ObjectText>
         ensures { IfSome result (λ text. text.now ≡ self.now) }
     {
         match &self.members {
@@ -138,7 +141,7 @@ impl Rest {
 }
 
 /// The members as a list, in their order.
-fn entries_of(alloc: Global, members: Map<String, Value>) -> Result<Vec<Entry>, AllocError>
+fn entries_of(alloc: Global, members: Map<String, Value>) -> Result<Vec<Member>, AllocError>
     ensures { IfOk result (λ v. v.items ≡ members.entries) }
 {
     let mut entries = Vec::with_capacity(alloc, members.len())?;

@@ -3,11 +3,10 @@ use Rattle.std.proofs.Common.{◌≡◌, ◌≢◌, ◌⊎◌, inl, inr, ℕ, ze
 use Rattle.std.specs.Prelude.{Ok, Err, ◌==◌, Bool, if◌then◌else◌, is_some, not, option_to_list, replicate, slice_get, slice_index_or, slice_set}
 use Rattle.std.proofs.Math.Seq.{map-set_same}
 use Rattle.std.specs.Option.{option_map}
-use Rattle.std.proofs.lemmas.Bool.{ne_eqb}
 use Rattle.std.proofs.lemmas.List.{append-nil, length-replicate, map-append, map-id, map-set}
 use Rattle.std.proofs.lemmas.Option.{slice_get-map, slice_get-get_or, slice_get_past, get_or_from_slice_get}
 use Rattle.eu_base.specs.declared.faults.Fault.{Fault}
-use Rattle.eu_base.specs.declared.faults.Fault.TheVariants.{Busy, CountDiffers, EmptyBatch, Exhausted, NoFlight, NoPeer, OutOfMemory}
+use Rattle.eu_base.specs.declared.faults.Fault.TheVariants.{Busy, CountDiffers, EmptyBatch, NoFlight, NoPeer, OutOfMemory}
 use Rattle.eu_base.specs.declared.instances.Instance.{Instance}
 use Rattle.eu_core.specs.Stepped.{copies_of}
 use Rattle.eu_model.specs.declared.commands.Command.{Command}
@@ -21,7 +20,7 @@ use Rattle.eu_model.specs.Server.{drained, drain_fault, live, landed, landed_fau
 use Rattle.eu_model.proofs.ServedLemmas.{server, registry_answers, drain_answers, landed_answers, lost_answers, drain_refuses, landed_refuses, lost_refuses, drain_of_nobody, landed_at_nobody, lost_to_nobody}
 use Rattle.eu_outbox.specs.Boxed.{Boxed}
 use Rattle.eu_base.specs.Limits.{most_steps}
-use Rattle.eu_book.specs.Account.{known_fault, queues_fault}
+use Rattle.eu_book.specs.Account.{queues_fault}
 use Rattle.eu_book.specs.Peers.{queues_of, server_with, told_key, IsRefused, QueuesAnswer}
 
 -- ---- copies
@@ -227,9 +226,6 @@ queues_want_no_memory qs c t is = cc
 pub early_refusal : (steps : ℕ) (p : Plain) (boxes : List Boxed) (c : Command) (t : ℕ) (f : Fault) → steps ≢ most_steps → queues_fault (queues_of boxes) c t ≡ Some f
     → IsRefused steps (server_with p boxes) c t f
 early_refusal steps p boxes c t f fewer is = inr (fewer, inr (queue_refuses p boxes c t f is))
-
-pub nothing_known : (steps : ℕ) (qs : List Queue) (c : Command) (t : ℕ) → steps ≢ most_steps → queues_fault qs c t ≡ None → known_fault steps qs c t ≡ None
-nothing_known steps qs c t fewer is = ap (λ b. if b then Some Exhausted else queues_fault qs c t) (ne_eqb steps most_steps fewer) ∙ is
 
 pub never_wants : (qs : List Queue) (c : Command) (t : ℕ) (f : Fault) {X : Type 0} → queues_fault qs c t ≡ Some f → f ≡ OutOfMemory → X
 never_wants qs c t f is e = absurd (queues_want_no_memory qs c t (is ∙ ap Some e))

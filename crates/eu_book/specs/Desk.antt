@@ -1,8 +1,8 @@
 -- What a book does that is asked
-use Rattle.std.specs.Prelude.{◌≡◌, ℕ, Result, Ok, Err}
+use Rattle.std.specs.Prelude.{◌≡◌, ℕ, Result, Ok, Err, None}
 use Rattle.eu_base.specs.declared.faults.Fault.{Fault}
 use Rattle.eu_base.specs.declared.faults.Fault.TheVariants.{OutOfMemory}
-use Rattle.eu_book.specs.Account.{Account, Applies, Refuses, entry}
+use Rattle.eu_book.specs.Account.{Account, Applies, Refuses, entry, known_fault}
 use Rattle.eu_clock.specs.declared.choosers.FirstChooser.{FirstChooser}
 use Rattle.eu_model.specs.declared.asks.Answer.{Answer}
 use Rattle.eu_model.specs.declared.asks.Answer.TheVariants.{Did, Saw}
@@ -15,11 +15,11 @@ use Rattle.eu_model.specs.View.{view}
 abbrev pub first_asks : FirstChooser → ℕ → ℕ × FirstChooser
 first_asks chooser bound = (0, chooser)
 
--- a command is one entry more, of the pass 0, or it is refused; a query is answered by what is seen of the registry
+-- a command is one entry more, of the pass 0, or it is refused, where want of memory hides no fault that needs none to be known; a query is answered by what is seen of the registry
 abbrev pub BookAsks : Account → Ask → ℕ → Result Answer Fault → Account → Type 0
 BookAsks a (Do c) t (Ok (Did reply)) b = (number : ℕ) × (x : FirstChooser) × (x' : FirstChooser) × Applies first_asks a x (entry 0 number c t reply) b x'
 BookAsks a (Do c) t (Ok (Saw v)) b = ⊥
-BookAsks a (Do c) t (Err f) b = Refuses a c t f × (b ≡ a)
+BookAsks a (Do c) t (Err f) b = Refuses a c t f × (b ≡ a) × (f ≡ OutOfMemory → known_fault a.totals.steps a.state.queues c t ≡ None)
 BookAsks a (See q) t (Ok (Did reply)) b = ⊥
 BookAsks a (See q) t (Ok (Saw v)) b = Shows a.state.registry (λ s. view s q t) v × (b ≡ a)
 BookAsks a (See q) t (Err f) b = (f ≡ OutOfMemory) × (b ≡ a)

@@ -56,5 +56,3 @@ MayRefuse p c t f = (f ≡ OutOfMemory) ⊎ ServerAnswers p c t (Err f) p
 -- the same, where so many steps were made: by `Exhausted` where they are as many as are counted at most, and only there
 abbrev pub IsRefused : ℕ → PlainServer → Command → ℕ → Fault → Type 0
 IsRefused steps p c t f = ((steps ≡ most_steps) × (f ≡ Exhausted)) ⊎ ((steps ≢ most_steps) × MayRefuse p c t f)
-
--- ---- what is known before any memory is wanted

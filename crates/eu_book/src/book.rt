@@ -1,5 +1,5 @@
 //! The book.
-ghost use Rattle.std.specs.Prelude.{◌≡◌, ◌≤◌, length, Some, IfOk, IfErr, OnErr, OnOk};
+ghost use Rattle.std.specs.Prelude.{◌≡◌, ◌≤◌, length, None, Some, unwrap_or, IfOk, IfErr, OnErr, OnOk};
 ghost use Rattle.eu_model.specs.Answers.{Shows};
 ghost use Rattle.eu_model.specs.State.{server_of_state};
 ghost use Rattle.eu_model.specs.View.{view};
@@ -13,7 +13,7 @@ use crate::checkpoint::{begin, plain_state};
 use crate::entering::{answer, note};
 use crate::journal::{Journal, Logged};
 use crate::peers::Peers;
-use eu_base::{Config, Fault, MOST_PEERS, Moment};
+use eu_base::{Config, Fault, MOST_ENTRIES, MOST_PEERS, MOST_STEPS, Moment};
 use eu_clock::Chooser;
 use eu_core::Registry;
 use eu_model::{Command, Listed, Listing, OverrideRows, Query, Reply, State, Tally, View};
@@ -88,6 +88,7 @@ impl Book {
         ensures { IfOk result (λ book. book ≡ opened config expected peers) }
     {
         let peers = Peers::open(alloc, peers)?;
+        let entries = Vec::with_capacity(alloc, MOST_ENTRIES)?;
         let base = State {
             config,
             expected: u64::from(expected),
@@ -102,7 +103,7 @@ impl Book {
             journal: Journal {
                 base,
                 first: 0,
-                entries: Vec::new(alloc),
+                entries,
             },
             totals: Tally::nothing(),
             registry: Registry::open(alloc, config, expected),
@@ -213,6 +214,22 @@ impl Book {
                 drop(command);
                 Err(fault)
             }
+        }
+    }
+
+    /// What a command is refused by where no memory is left: by the fault that needs none to be known (`Exhausted`, `NoPeer`, or what
+    /// the queue of its peer refuses it by), else by `OutOfMemory`. Takes no memory.
+    pub fn refusal_without_memory(&self, command: &Command, moment: Moment) -> Fault
+        ensures value { result ≡ unwrap_or (known_fault self.now.totals.steps self.now.state.queues command.now moment) Fault.OutOfMemory }
+        ensures refused { Refuses self.now command.now moment result }
+        ensures memory { result ≡ Fault.OutOfMemory → known_fault self.now.totals.steps self.now.state.queues command.now moment ≡ None }
+    {
+        if self.totals.steps == MOST_STEPS {
+            return Fault::Exhausted;
+        }
+        match self.peers.refusal(command, moment) {
+            Some(fault) => fault,
+            None => Fault::OutOfMemory,
         }
     }
 

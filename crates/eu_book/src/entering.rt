@@ -26,7 +26,7 @@ use std::alloc::Global;
 #[derive(Drop)]
 pub(crate) struct Accepted {
     pub(crate) answered: Answered<Reply>,
-    pub(crate) renewal: Option<Box<Journal>>,
+    pub(crate) next: Option<Box<Journal>>,
 }
 
 /// Answers a command, once there is room for its entry. `Exhausted` where the steps are as many as a book counts; this, and the
@@ -43,8 +43,8 @@ pub(crate) fn answer<C: Chooser>(
     logs: bool,
 ) -> Result<Accepted, Fault>
     ensures entries { entries.new.items ≡ entries.old.items }
-    ensures base { IfOk result (λ a. option_map (λ (j : _). j.value.base) a.renewal ≡ anew entries.old.items (server_with registry.old peers.old)) }
-    ensures room { IfOk result (λ a. MatchOption a.renewal (vec_len entries.new < vec_capacity entries.new) (λ j. BeginsAt steps j.value)) }
+    ensures base { IfOk result (λ a. option_map (λ (j : _). j.value.base) a.next ≡ anew entries.old.items (server_with registry.old peers.old)) }
+    ensures room { IfOk result (λ a. MatchOption a.next (vec_len entries.new < vec_capacity entries.new) (λ j. BeginsAt steps j.value)) }
     ensures counts { OnOk result (steps ≢ most_steps) }
     ensures same { IfOk result (λ a. a.answered ≡ answered logs a.answered.reply) }
     ensures answers { IfOk result (λ a. ServerAnswers (server_with registry.old peers.old) command.now moment (Ok a.answered.reply) (server_with registry.new peers.new)) }
@@ -60,9 +60,9 @@ pub(crate) fn answer<C: Chooser>(
     if let Some(fault) = peers.refusal(command, moment) {
         return Err(fault);
     }
-    let renewal = make_room(alloc, entries, registry, peers, steps)?;
+    let next = make_room(alloc, entries, registry, peers, steps)?;
     let answered = serve(alloc, registry, peers, command, moment, chooser, logs)?;
-    Ok(Accepted { answered, renewal })
+    Ok(Accepted { answered, next })
 }
 
 /// Enters a command with its reply in the journal, which begins anew before, where that was made ready; adds what it did, and gives who
@@ -75,23 +75,23 @@ pub(crate) fn note(
     moment: Moment,
     accepted: Accepted,
 ) -> Entered
-    requires room { MatchOption accepted.renewal (vec_len journal.old.entries < vec_capacity journal.old.entries) (λ j. BeginsAt totals.old.steps j.value) }
+    requires room { MatchOption accepted.next (vec_len journal.old.entries < vec_capacity journal.old.entries) (λ j. BeginsAt totals.old.steps j.value) }
     requires steps { totals.old.steps + 1 < 2 ^ 64 }
     requires counted { totals.old.counted + counted_by command accepted.answered.reply < 2 ^ 64 }
     requires added { totals.old.added + added_by command accepted.answered.reply < 2 ^ 64 }
     requires removed { totals.old.removed + removed_by command accepted.answered.reply < 2 ^ 64 }
-    ensures base { journal.new.base ≡ base_by (option_map (λ (j : _). j.value.base) accepted.renewal) journal.old.base }
-    ensures first { journal.new.first ≡ first_by (option_map (λ (j : _). j.value.base) accepted.renewal) totals.old.steps journal.old.first }
-    ensures entries { journal.new.entries.items ≡ entries_by (option_map (λ (j : _). j.value.base) accepted.renewal) journal.old.entries.items ++ entry pass totals.old.steps command moment accepted.answered.reply ∷ [] }
+    ensures base { journal.new.base ≡ base_by (option_map (λ (j : _). j.value.base) accepted.next) journal.old.base }
+    ensures first { journal.new.first ≡ first_by (option_map (λ (j : _). j.value.base) accepted.next) totals.old.steps journal.old.first }
+    ensures entries { journal.new.entries.items ≡ entries_by (option_map (λ (j : _). j.value.base) accepted.next) journal.old.entries.items ++ entry pass totals.old.steps command moment accepted.answered.reply ∷ [] }
     ensures totals { totals.new ≡ plus totals.old (delta command accepted.answered.reply) }
     ensures number { result.receipt.number ≡ totals.old.steps }
     ensures told { result.receipt.reply ≡ accepted.answered.answer }
     ensures logged { result.logged ≡ accepted.answered.logged }
-    ensures retired { option_map (λ (j : _). j.value) result.retired ≡ option_map (λ _. journal.old) accepted.renewal }
+    ensures retired { option_map (λ (j : _). j.value) result.retired ≡ option_map (λ _. journal.old) accepted.next }
 {
-    let Accepted { answered, renewal } = accepted;
+    let Accepted { answered, next } = accepted;
     let number = totals.steps;
-    let retired = begin_anew(journal, renewal);
+    let retired = begin_anew(journal, next);
     add(totals, Tally::of(&command, &answered.reply));
     journal.entries.push_reserved(Entry {
         pass,

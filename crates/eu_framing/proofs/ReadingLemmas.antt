@@ -1,6 +1,6 @@
 -- Laws of the bytes that are still to come.
 use Rattle.std.proofs.Common.{Result, Ok, Err, IfErr, OnOk, ◌≡◌, ℕ, ◌≤◌, ◌<◌, inl, inr, Bool, List, [], ◌++◌, length, drop, Option, Some, None, refl, sym, ap, ◌∙◌, subst, append_assoc, append-nil, length-append, arith}
-use Rattle.std.specs.Io.KnownBytes.{Keeps, Consumes, IsAtEnd}
+use Rattle.std.specs.Io.KnownBytes.{Keeps, IsAtEnd}
 use Rattle.eu_base.specs.declared.faults.Fault.{Fault}
 use Rattle.eu_framing.specs.Message.{pending, OfBytes, Between}
 use Rattle.eu_framing.specs.Reading.{Grows, Halts, Fails, IsCutBy, Comes, Blames}
@@ -26,15 +26,6 @@ grows_more {l = l} {m = m} {n = n} {f = f} {g = g} {h = h} {a = a} {b = b} {c = 
   grown = y.grown ∙ ap (λ (t : List ℕ). t ++ y.more) x.grown ∙ append_assoc a x.more y.more;
 }
 
--- what was read goes behind the buffer
-keeps_read : (buffer piece : List ℕ) (old new : Option (List ℕ)) → Consumes old new piece → Keeps (pending buffer old) (pending (buffer ++ piece) new)
-keeps_read buffer piece None new x = tt
-keeps_read buffer piece (Some xs) None x = absurd x
-keeps_read buffer piece (Some xs) (Some ys) x = append_assoc buffer piece ys ∙ ap (λ (t : List ℕ). buffer ++ t) (sym x)
-
-pub grows_read : (old new : Option (List ℕ)) (failed failed' : Bool) (buffer piece : List ℕ) → Consumes old new piece → failed' ≡ failed → Grows old failed buffer new failed' (buffer ++ piece)
-grows_read old new failed failed' buffer piece x e = record { kept = keeps_read buffer piece old new x; sound = e; more = piece; grown = refl }
-
 -- what holds whatever comes
 pub comes_now : (left : Option (List ℕ)) (buffer : List ℕ) (P : List ℕ → Type 0) → ((coming : List ℕ) → P (buffer ++ coming)) → Comes left buffer P
 comes_now None buffer P x = ([], tt, x [])
@@ -50,12 +41,6 @@ pub comes_later : {l m : Option (List ℕ)} {f g : Bool} {a b : List ℕ} (P : L
 comes_later {l = None} {m = m} {f = f} {g = g} {a = a} {b = b} P x y = (x.more ++ y.0, tt, subst P (ap (λ (t : List ℕ). t ++ y.0) x.grown ∙ append_assoc a x.more y.0) y.2)
 comes_later {l = Some xs} {m = None} {f = f} {g = g} {a = a} {b = b} P x y = absurd x.kept
 comes_later {l = Some xs} {m = Some ys} {f = f} {g = g} {a = a} {b = b} P x y = (xs, refl, subst P (ap (λ (t : List ℕ). b ++ t) y.1 ∙ x.kept) y.2)
-
--- what a failed read leaves
-pub keeps_behind : (buffer : List ℕ) (old new : Option (List ℕ)) → Keeps old new → Keeps (pending buffer old) (pending buffer new)
-keeps_behind buffer None new x = tt
-keeps_behind buffer (Some xs) None x = absurd x
-keeps_behind buffer (Some xs) (Some ys) x = ap (λ (t : List ℕ). buffer ++ t) x
 
 halts_later : {l m n : Option (List ℕ)} {f g : Bool} {a b c : List ℕ} {P : List ℕ → Type 0} → Grows l f a m g b → Halts m b n c P → Halts l a n c P
 halts_later {l = l} {m = m} {n = n} {f = f} {g = g} {a = a} {b = b} {c = c} x y = record {

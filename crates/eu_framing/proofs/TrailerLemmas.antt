@@ -1,5 +1,5 @@
 -- Trailers and whole chunked bodies, in the buffer and in all bytes.
-use Rattle.std.proofs.Common.{◌≡◌, ◌≢◌, ℕ, ◌+◌, ◌-◌, ◌≤◌, ◌⊎◌, inl, inr, ⊎_elim, true, false, nat_le, List, ◌++◌, length, take, drop, Result, Ok, Err, IfOk, refl, sym, ap, ◌∙◌, subst, append_assoc, length-append, arith}
+use Rattle.std.proofs.Common.{◌≡◌, ◌≢◌, ℕ, ◌+◌, ◌-◌, ◌≤◌, ◌⊎◌, inl, inr, ⊎_elim, true, false, nat_le, List, ◌++◌, length, take, drop, refl, sym, ap, ◌∙◌, subst, append_assoc, length-append, arith}
 use Rattle.std.proofs.lemmas.List.{length-take, length-drop, length-map, take-append-drop, take-append-le, drop-drop}
 use Rattle.std.proofs.lemmas.Bool.{cases_Bool, leb-true, leb-false}
 use Rattle.httparse.specs.Grammar.{print_chunk_line, print_section, HasNoSection, NeverHasSection, MayBecomeSection}
@@ -71,11 +71,6 @@ trailer_found room text spans found many x =
       fits = omega (arith, inside, length-take (trailer_room room) text);
       few = omega (arith, many, ap length at.fields_are, length-map (take found.1 spans) (header_bytes w), length-map x.0 name_and_value, length-take found.1 spans);
     }
-
-pub trailer_so_inside : (room start n : ℕ) (b : List ℕ) (r : Result ℕ Fault) → start ≤ length b → length b ≤ n → IfOk r (FindsTrailer room (drop start b)) → IfOk r (λ len. start + len ≤ n)
-trailer_so_inside room start n b (Ok len) within long x =
-    omega (arith, ap length x.reads.1, length-append (print_section x.fields x.last) (drop len (drop start b)), x.size, length-drop start b, long)
-trailer_so_inside room start n b (Err fault) within long x = tt
 
 -- the trailer stands in all bytes
 trailer_at : (room start len : ℕ) (b more : List ℕ) → start ≤ length b → FindsTrailer room (drop start b) len → HasTrailer room (drop start (b ++ more)) (drop (start + len) b ++ more)

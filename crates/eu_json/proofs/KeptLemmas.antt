@@ -10,9 +10,9 @@ use Rattle.serde_json.specs.Data.{Data, Members, no_members, member, put}
 use Rattle.serde_json.specs.Find.{get_member}
 use Rattle.serde_json.proofs.Views.{get_member-put, get_member-put_other}
 use Rattle.eu_json.specs.Tree.{but_member}
-use Rattle.eu_json.proofs.MemberLemmas.{neither}
+use Rattle.std.proofs.lemmas.Bool.{or_parts}
 use Rattle.eu_text.proofs.OrderLemmas.{IsBelow}
-use Rattle.eu_json.proofs.OrderLemmas.{MembersInOrder}
+use Rattle.eu_text.proofs.FitLemmas.{MembersOrdered}
 
 same_name : (name : List ℕ) → slice_cmp nat_cmp name name ≡ Equal
 same_name name = tied_itself nat_list_cmp_total name
@@ -52,7 +52,7 @@ but_self_at : (o : Ordering) (k l : List ℕ) (d : Data) (ms rest : Members) →
 but_self_at Equal k l d ms rest is below later = below_absent k ms (subst (λ (n : List ℕ). IsBelow n ms) (sym (equal_names k l is)) below)
 but_self_at o k l d ms rest is below later = rw is later
 
-but_self : (k : List ℕ) (ms : Members) → MembersInOrder ms → get_member k (but_member k ms) ≡ None
+but_self : (k : List ℕ) (ms : Members) → MembersOrdered ms → get_member k (but_member k ms) ≡ None
 but_self k no_members order = refl
 but_self k (member l d ms) order = but_self_at _ k l d ms (but_member k ms) refl order.0 (but_self k ms order.2)
 
@@ -64,11 +64,11 @@ below_but : (j k : List ℕ) (ms : Members) → IsBelow j ms → IsBelow j (but_
 below_but j k no_members below = tt
 below_but j k (member l d ms) below = below_but_at _ j l d ms (but_member k ms) below.0 below.1 (below_but j k ms below.1)
 
-in_order_but_at : (o : Ordering) (l : List ℕ) (d : Data) (ms rest : Members) → MembersInOrder (member l d ms) → IsBelow l rest → MembersInOrder rest → MembersInOrder (match_ordering o (member l d rest) ms (member l d rest))
+in_order_but_at : (o : Ordering) (l : List ℕ) (d : Data) (ms rest : Members) → MembersOrdered (member l d ms) → IsBelow l rest → MembersOrdered rest → MembersOrdered (match_ordering o (member l d rest) ms (member l d rest))
 in_order_but_at Equal l d ms rest order below later = order.2
 in_order_but_at o l d ms rest order below later = (below, order.1, later)
 
-in_order_but : (k : List ℕ) (ms : Members) → MembersInOrder ms → MembersInOrder (but_member k ms)
+in_order_but : (k : List ℕ) (ms : Members) → MembersOrdered ms → MembersOrdered (but_member k ms)
 in_order_but k no_members order = tt
 in_order_but k (member l d ms) order = in_order_but_at _ l d ms (but_member k ms) order (below_but l k ms order.0) (in_order_but k ms order.2)
 
@@ -141,10 +141,10 @@ has q (n ∷ ns) = has q ns || bytes_eq q n
 pub buts_other : (q : List ℕ) (ns : List (List ℕ)) (ms : Members) → has q ns ≡ false → get_member q (buts ns ms) ≡ get_member q ms
 buts_other q [] ms apart = refl
 buts_other q (n ∷ ns) ms apart =
-    let parts = neither (has q ns) (bytes_eq q n) apart in
+    let parts = or_parts (has q ns) (bytes_eq q n) apart in
     but_other q n (buts ns ms) parts.1 ∙ buts_other q ns ms parts.0
 
-pub in_order_buts : (ns : List (List ℕ)) (ms : Members) → MembersInOrder ms → MembersInOrder (buts ns ms)
+pub in_order_buts : (ns : List (List ℕ)) (ms : Members) → MembersOrdered ms → MembersOrdered (buts ns ms)
 in_order_buts [] ms order = order
 in_order_buts (n ∷ ns) ms order = in_order_but n (buts ns ms) (in_order_buts ns ms order)
 
@@ -152,13 +152,13 @@ in_order_buts (n ∷ ns) ms order = in_order_but n (buts ns ms) (in_order_buts n
 abbrev pub Lacks : List (List ℕ) → Members → Type 0
 Lacks ns ms = (q : List ℕ) → has q ns ≡ true → get_member q ms ≡ None
 
-self_at : (same : Bool) (q n : List ℕ) (ns : List (List ℕ)) (ms : Members) → bytes_eq q n ≡ same → MembersInOrder ms → (has q ns ≡ true → get_member q (buts ns ms) ≡ None)
+self_at : (same : Bool) (q n : List ℕ) (ns : List (List ℕ)) (ms : Members) → bytes_eq q n ≡ same → MembersOrdered ms → (has q ns ≡ true → get_member q (buts ns ms) ≡ None)
     → (has q ns || same) ≡ true → get_member q (but_member n (buts ns ms)) ≡ None
 self_at true q n ns ms is order later here = ap (λ k. get_member k (but_member n (buts ns ms))) ((bytes_eq-Decides q n).0 is) ∙ but_self n (buts ns ms) (in_order_buts ns ms order)
 self_at false q n ns ms is order later here = but_other q n (buts ns ms) is ∙ later (or_false (has q ns) here)
 
 -- so it is once they were taken out
-pub buts_self : (ns : List (List ℕ)) (ms : Members) → MembersInOrder ms → Lacks ns (buts ns ms)
+pub buts_self : (ns : List (List ℕ)) (ms : Members) → MembersOrdered ms → Lacks ns (buts ns ms)
 buts_self [] ms order q here = absurd cc
 buts_self (n ∷ ns) ms order q here = self_at _ q n ns ms refl order (buts_self ns ms order q) here
 

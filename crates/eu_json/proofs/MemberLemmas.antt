@@ -1,6 +1,6 @@
 -- Members that are taken out of an object
-use Rattle.std.proofs.Common.{◌≡◌, ℕ, Bool, true, false, ◌||◌, ◌&&◌, List, [], ◌∷◌, Option, Some, None, Ordering, Equal, cond, is_some, is_lt, refl, ap, ap₂}
-use Rattle.std.proofs.lemmas.Bool.{and_parts}
+use Rattle.std.proofs.Common.{◌≡◌, ℕ, true, false, ◌&&◌, List, [], ◌∷◌, Option, Some, None, Ordering, Equal, cond, is_some, is_lt, refl, ap, ap₂}
+use Rattle.std.proofs.lemmas.Bool.{and_parts, or_parts}
 use Rattle.std.proofs.lemmas.Cmp.{nat_list_cmp_total}
 use Rattle.std.specs.String.{string_bytes}
 use Rattle.std.specs.Ordering.{nat_cmp, is_eq, match_ordering}
@@ -25,10 +25,6 @@ pub members_view-remove_entry : (name : List ℕ) (es : List Entry) → members_
 members_view-remove_entry name [] = refl
 members_view-remove_entry name (e ∷ es) = step (slice_cmp nat_cmp name (string_bytes e.0)) e es _ _ (members_view-remove_entry name es)
 
-pub neither : (a b : Bool) → (a || b) ≡ false → (a ≡ false) × (b ≡ false)
-neither true b e = cc
-neither false b e = (refl, e)
-
 -- ---- no member of whole numbers has a fraction
 
 found : (o : Ordering) (e i : Data) (before : Option Data) → match_ordering o before (Some e) before ≡ Some i → has_float e ≡ false → (before ≡ Some i → has_float i ≡ false) → has_float i ≡ false
@@ -38,7 +34,7 @@ found o e i before is whole rest = rest is
 pub whole_member : (name : List ℕ) (ms : Members) (i : Data) → members_have_float ms ≡ false → get_member name ms ≡ Some i → has_float i ≡ false
 whole_member name no_members i whole is = cc
 whole_member name (member l d ms) i whole is =
-    let parts = neither (has_float d) (members_have_float ms) whole in
+    let parts = or_parts (has_float d) (members_have_float ms) whole in
     found (slice_cmp nat_cmp name l) d i (get_member name ms) is parts.0 (whole_member name ms i parts.1)
 
 pub whole_get : (name : List ℕ) (d i : Data) → has_float d ≡ false → get name d ≡ Some i → has_float i ≡ false
@@ -58,7 +54,7 @@ kept o l d ms rest first whole later = rw (first, later) refl
 whole_but : (name : List ℕ) (ms : Members) → members_have_float ms ≡ false → members_have_float (but_member name ms) ≡ false
 whole_but name no_members whole = refl
 whole_but name (member l d ms) whole =
-    let parts = neither (has_float d) (members_have_float ms) whole in
+    let parts = or_parts (has_float d) (members_have_float ms) whole in
     kept (slice_cmp nat_cmp name l) l d ms (but_member name ms) parts.0 parts.1 (whole_but name ms parts.1)
 
 pub whole_without : (name : List ℕ) (d : Data) → has_float d ≡ false → has_float (without name d) ≡ false

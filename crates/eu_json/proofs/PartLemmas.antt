@@ -17,7 +17,8 @@ use Rattle.eu_text.proofs.ReadLemmas.{has_no_float}
 use Rattle.eu_json.specs.Batch.{few_items, items_in}
 use Rattle.eu_json.specs.Parts.{FitsIfWhole, InfosFit}
 use Rattle.eu_json.proofs.MemberLemmas.{whole_get}
-use Rattle.eu_json.proofs.OrderLemmas.{InOrder, ItemsInOrder, in_order_get, ordered_fits, read_in_order}
+use Rattle.eu_text.proofs.FitLemmas.{IsOrdered, ItemsOrdered, ordered_fits, read_ordered}
+use Rattle.eu_json.proofs.OrderLemmas.{in_order_get}
 use Rattle.eu_json.proofs.SaidLemmas.{ok_same}
 
 -- ---- a member that is got nests no deeper
@@ -39,10 +40,10 @@ get_depth name d i within is = absurd cc
 
 -- as every part of what was read
 abbrev pub IsPart : Data → Type 0
-IsPart d = InOrder d × (depth d ≤ max_depth)
+IsPart d = IsOrdered d × (depth d ≤ max_depth)
 
 pub whole_part : (text : List ℕ) (d : Data) → read text ≡ Some d → IsPart d
-whole_part text d is = (read_in_order text d is, depth-read text d is)
+whole_part text d is = (read_ordered text d is, depth-read text d is)
 
 pub member_part : (name : List ℕ) (d i : Data) → IsPart d → get name d ≡ Some i → IsPart i
 member_part name d i part is = (in_order_get name d i part.0 is, get_depth name d i part.1 is)
@@ -69,7 +70,7 @@ instance_rest text body i got at is fit =
 
 -- ---- the items of a batch
 
-infos_fit : (is : Items) → ItemsInOrder is → items_depth is ≤ max_depth → InfosFit is
+infos_fit : (is : Items) → ItemsOrdered is → items_depth is ≤ max_depth → InfosFit is
 infos_fit no_items order within = tt
 infos_fit (item i is) order within = (
   λ d got. part_fits d (member_part (codes "instanceInfo") i d (order.0, omega (arith, within)) got),

@@ -13,7 +13,8 @@ use Rattle.eu_json.specs.Tree.{text_at, is_blank}
 use Rattle.eu_json.specs.Reading.{address_stands, app_stands, center_stands, digits_within, instance_of, interval_in, interval_within, lease_member, name_of, of_body, of_member, of_object, secs_digits, secs_in, secs_within, short, stamp_in}
 use Rattle.eu_json.proofs.KeptLemmas.{Lacks, buts, buts_other, buts_self, in_order_buts}
 use Rattle.eu_json.proofs.MemberLemmas.{whole_get, whole_without}
-use Rattle.eu_json.proofs.OrderLemmas.{InOrder, MembersInOrder, in_order_get, read_in_order}
+use Rattle.eu_text.proofs.FitLemmas.{IsOrdered, MembersOrdered, read_ordered}
+use Rattle.eu_json.proofs.OrderLemmas.{in_order_get}
 
 -- the members that the registry writes itself
 abbrev pub own_names : List (List ℕ)
@@ -25,7 +26,7 @@ own_names =
 pub record IsSaid (i : Instance) (ms : Members) : Type 0 where
   pub rest : i.rest ≡ object ms
   pub lacks : Lacks own_names ms
-  pub order : MembersInOrder ms
+  pub order : MembersOrdered ms
   pub whole : members_have_float ms ≡ false
   pub host : is_blank (text_at (codes "hostName") (object ms)) ≡ false
   pub address : address_stands (object ms) ≡ Ok tt
@@ -101,7 +102,7 @@ whole_rest : (ns : List (List ℕ)) (ms : Members) → members_have_float ms ≡
 whole_rest [] ms whole = whole
 whole_rest (n ∷ ns) ms whole = whole_without n (object (buts ns ms)) (whole_rest ns ms whole)
 
-said_of_object : (i : Instance) (app : List ℕ) (moment : ℕ) (ms : Members) → MembersInOrder ms → members_have_float ms ≡ false → of_object app moment (object ms) ≡ Ok i → IsSaid i (buts own_names ms)
+said_of_object : (i : Instance) (app : List ℕ) (moment : ℕ) (ms : Members) → MembersOrdered ms → members_have_float ms ≡ false → of_object app moment (object ms) ≡ Ok i → IsSaid i (buts own_names ms)
 unfolding of_object
 said_of_object i app moment ms order whole is =
     let name = ok_step (name_of (object ms)) _ i is in
@@ -130,20 +131,20 @@ said_of_object i app moment ms order whole is =
 
 -- ---- from the text
 
-said_of_member : (i : Instance) (app : List ℕ) (moment : ℕ) (body d : Data) (fraction : Bool) → fraction ≡ has_float body → InOrder body → get (codes "instance") body ≡ Some d
+said_of_member : (i : Instance) (app : List ℕ) (moment : ℕ) (body d : Data) (fraction : Bool) → fraction ≡ has_float body → IsOrdered body → get (codes "instance") body ≡ Some d
     → cond (is_some (as_object d)) (cond fraction (Err NotWhole) (of_object app moment d)) (Err NotJson) ≡ Ok i → (ms : Members) × IsSaid i ms
 said_of_member i app moment body (object ms) false whole order got is =
     (buts own_names ms, said_of_object i app moment ms (in_order_get (codes "instance") body (object ms) order got) (whole_get (codes "instance") body (object ms) (sym whole) got) is)
 said_of_member i app moment body d fraction whole order got is = absurd cc
 
-said_of_found : (i : Instance) (app : List ℕ) (moment : ℕ) (body : Data) (d : Option Data) → InOrder body → get (codes "instance") body ≡ d
+said_of_found : (i : Instance) (app : List ℕ) (moment : ℕ) (body : Data) (d : Option Data) → IsOrdered body → get (codes "instance") body ≡ d
     → of_member app moment (has_float body) d ≡ Ok i → (ms : Members) × IsSaid i ms
 said_of_found i app moment body None order got is = absurd cc
 said_of_found i app moment body (Some d) order got is = said_of_member i app moment body d (has_float body) refl order got is
 
 said_of_body : (i : Instance) (app : List ℕ) (moment : ℕ) (text : List ℕ) (body : Option Data) → read text ≡ body → of_body app moment body ≡ Ok i → (ms : Members) × IsSaid i ms
 said_of_body i app moment text None got is = absurd cc
-said_of_body i app moment text (Some body) got is = said_of_found i app moment body (get (codes "instance") body) (read_in_order text body got) refl is
+said_of_body i app moment text (Some body) got is = said_of_found i app moment body (get (codes "instance") body) (read_ordered text body got) refl is
 
 pub said : (i : Instance) (app : List ℕ) (moment : ℕ) (text : List ℕ) → instance_of app moment text ≡ Ok i → (ms : Members) × IsSaid i ms
 said i app moment text is = said_of_body i app moment text (read text) refl is

@@ -21,12 +21,12 @@ use Rattle.eu_json.specs.Reading.{interval_within, secs_within}
 use Rattle.eu_json.specs.Tree.{instance_tree, lease_tree}
 use Rattle.eu_json.proofs.BackLemmas.{sets, tree_is, whole_back}
 use Rattle.eu_json.proofs.KeptLemmas.{puts}
-use Rattle.eu_json.proofs.OrderLemmas.{InOrder, ItemsInOrder, MembersInOrder, in_order_put, ordered_fits}
+use Rattle.eu_text.proofs.FitLemmas.{IsOrdered, ItemsOrdered, MembersOrdered, fit_put, ordered_fits}
 use Rattle.eu_json.proofs.SaidLemmas.{IsSaid, said}
 
 -- in order, and of whole numbers
 abbrev IsTold : Data → Type 0
-IsTold d = InOrder d × (has_float d ≡ false)
+IsTold d = IsOrdered d × (has_float d ≡ false)
 
 -- ---- an instance
 
@@ -36,12 +36,12 @@ secs_small n is = grind (arith, nat_tests, is)
 interval_small : (n : ℕ) → interval_within n ≡ n → n < 2 ^ 64
 interval_small n is = grind (arith, nat_tests, is)
 
-lease_in_order : (i : Instance) (ms : Members) → IsSaid i ms → InOrder (lease_tree i None)
+lease_in_order : (i : Instance) (ms : Members) → IsSaid i ms → IsOrdered (lease_tree i None)
 lease_in_order i ms of = ((refl, tt), secs_small i.secs of.secs, (tt, interval_small i.interval of.interval, tt))
 
-puts_in_order : (ps : List (List ℕ × Data)) (ms : Members) → MembersInOrder ms → AllByRecursion (λ p. InOrder p.1) ps → MembersInOrder (puts ps ms)
+puts_in_order : (ps : List (List ℕ × Data)) (ms : Members) → MembersOrdered ms → AllByRecursion (λ p. IsOrdered p.1) ps → MembersOrdered (puts ps ms)
 puts_in_order [] ms order each = order
-puts_in_order (p ∷ ps) ms order each = in_order_put p.0 p.1 (puts ps ms) each.0 (puts_in_order ps ms order each.1)
+puts_in_order (p ∷ ps) ms order each = fit_put p.0 p.1 (puts ps ms) each.0 (puts_in_order ps ms order each.1)
 
 said_told : (i : Instance) (ms : Members) → IsSaid i ms → IsTold (instance_tree i None)
 said_told i ms of =
@@ -77,7 +77,7 @@ task_told t sound =
 
 -- ---- the whole
 
-items_told : (ts : List Task) → AllByRecursion IsSound ts → ItemsInOrder (items_of (map task_tree ts)) × (items_have_float (items_of (map task_tree ts)) ≡ false)
+items_told : (ts : List Task) → AllByRecursion IsSound ts → ItemsOrdered (items_of (map task_tree ts)) × (items_have_float (items_of (map task_tree ts)) ≡ false)
 items_told [] sound = (tt, refl)
 items_told (t ∷ ts) sound =
     let first = task_told t sound.0 in

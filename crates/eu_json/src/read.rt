@@ -15,12 +15,9 @@ use crate::members::{take, without};
 use crate::numbers::{interval_in, secs_in, stamp_in};
 use crate::statuses::{overridden_at, status_in};
 use eu_base::{App, Fault, Id, Instance, Key, LONGEST_NAME, Moment, Rest, Status};
-use eu_text::fits;
+use eu_text::is_fit;
 use serde_json::Value;
 use std::alloc::{AllocError, Global};
-
-/// How deep JSON may nest that is read.
-const MOST_NESTING: usize = 127;
 
 /// The JSON of a text. `NotJson` where it is none, and `OutOfMemory`, which a text without a byte never is.
 pub fn parse(alloc: Global, text: &str) -> Result<Value, Fault>
@@ -44,7 +41,7 @@ pub fn is_whole(value: &Value) -> bool
     ensures whole { result ≡ not (has_float (view value.now)) }
     ensures fit { result ≡ is_fit (view value.now) }
 {
-    fits(value, MOST_NESTING)
+    is_fit(value)
 }
 
 /// A member of the lease's information, where that is an object.
@@ -88,8 +85,7 @@ fn rest_of(alloc: Global, instance: Value) -> Result<Rest, AllocError>
     rest = without(rest, "status");
     rest = without(rest, "app");
     rest = without(rest, "instanceId");
-    let rest = Rest::new(alloc, rest)?;
-    Ok(rest.unwrap())
+    Rest::of_fit(alloc, rest)
 }
 
 /// The instance of an object whose numbers are all whole. What is wrong with it is told before any memory is taken.

@@ -1,12 +1,7 @@
 -- Stamps and statuses
-use Rattle.std.proofs.Common.{◌≡◌, ℕ, ◌<◌, ◌^◌, Bool, true, false, List, [], ◌∷◌, length, map, Option, Some, None, Result, Ok, Err, SomeIff, refl, sym, ◌∙◌, ap, arith, rules, nat_lt, ◌&&◌, if◌then◌else◌}
+use Rattle.std.proofs.Common.{◌≡◌, ℕ, ◌<◌, ◌^◌, Bool, true, false, List, length, Option, Some, None, Result, Ok, Err, SomeIff, refl, sym, ◌∙◌, ap, arith, nat_lt, ◌&&◌, if◌then◌else◌}
 use Rattle.std.proofs.lemmas.Bool.{and_parts, and_from, false_from_ne_true, ltb-true, lt-ltb}
-use Rattle.std.proofs.lemmas.Bool.Decides.{nat_tests}
-use Rattle.std.proofs.lemmas.Slice.Eq.{bytes_eq-Decides}
-use Rattle.std.proofs.lemmas.Str.Ascii.{lowercase-uppercase}
-use Rattle.std.specs.Bool.{Decides}
-use Rattle.std.specs.Char.{to_ascii_lowercase, to_ascii_uppercase}
-use Rattle.std.specs.Str.{all_ascii_digits, bytes_eq}
+use Rattle.std.specs.Str.{all_ascii_digits}
 use Rattle.std.specs.Str.Parse.{digits_value}
 use Rattle.std.specs.Result.{OkIff, result_ok}
 use Rattle.eu_base.specs.declared.faults.Fault.{Fault}
@@ -64,10 +59,6 @@ no_u32 : (text : List ℕ) → (0 < length text → length text < 11 → all_asc
 unfolding u32_of
 no_u32 text other = rw (isnt 11 (2 ^ 32) text other) refl
 
--- a text of more digits is none
-pub long_u32 : (text : List ℕ) → 10 < length text → u32_of text ≡ None
-long_u32 text long = no_u32 text (λ filled short all small. omega arith)
-
 -- the number below 2^32 of some digits
 pub u32_by : {E : Type 0} (text : List ℕ) (v : ℕ) (r : Result ℕ E) → 0 < length text → length text < 11 → digits text ≡ Some v → OkIff r (v < 2 ^ 32) v → result_ok r ≡ u32_of text
 u32_by text v (Err fault) filled short e fits =
@@ -76,29 +67,6 @@ u32_by text v (Err fault) filled short e fits =
 u32_by text v (Ok n) filled short e fits =
     let d = digits_some text v e in
     ap Some (fits.1 ∙ sym d.2) ∙ sym (some_u32 text filled short d.1 (rw d.2 fits.0))
-
-pub no_u32_by : (text : List ℕ) → digits text ≡ None → u32_of text ≡ None
-no_u32_by text e = no_u32 text (λ filled short all small. digits_none text e (omega arith) all)
-
--- letters of either case
-upper_lower : (c : ℕ) → to_ascii_uppercase (to_ascii_lowercase c) ≡ to_ascii_uppercase c
-upper_lower c = grind (arith, nat_tests)
-
-raised : (text : List ℕ) → map to_ascii_uppercase (map to_ascii_lowercase text) ≡ map to_ascii_uppercase text
-raised [] = refl
-raised (c ∷ text) = rw (upper_lower c, raised text) refl
-
-lowered : (text : List ℕ) → map to_ascii_lowercase (map to_ascii_uppercase text) ≡ map to_ascii_lowercase text
-lowered [] = refl
-lowered (c ∷ text) = rw (lowercase-uppercase c, lowered text) refl
-
-pub same_letters : (text name : List ℕ) (r : Bool) → map to_ascii_uppercase name ≡ name → Decides r (map to_ascii_lowercase text ≡ map to_ascii_lowercase name) → r ≡ bytes_eq (map to_ascii_uppercase text) name
-same_letters text name r capitals same =
-    let decides : Decides r (map to_ascii_uppercase text ≡ name) = (
-      λ t. sym (raised text) ∙ ap (map to_ascii_uppercase) (same.0 t) ∙ raised name ∙ capitals,
-      λ e. same.1 (sym (lowered text) ∙ ap (map to_ascii_lowercase) e),
-    ) in
-    search (rules, bytes_eq-Decides)
 
 -- the stamp of some digits
 pub stamp_by : (text : List ℕ) (v : ℕ) (o : Option ℕ) → 0 < length text → digits text ≡ Some v → SomeIff o (v < 2 ^ 63) v → o ≡ stamp_of text

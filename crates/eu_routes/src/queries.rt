@@ -114,7 +114,7 @@ pub fn values_at<'q>(
 
 /// The stamp that a value tells. None where there is no value, or an empty one; `BadValue` for any other text.
 pub fn stamp_given(value: Option<CowStr<'_, Global>>) -> Result<Option<Stamp>, Fault>
-    ensures { Gives result (spec.stamp_given (option_map cow_str_bytes value.entry)) }
+    ensures { result ≡ spec.stamp_given (option_map cow_str_bytes value.entry) }
 {
     let Some(value) = value else {
         return Ok(None);
@@ -132,7 +132,7 @@ pub fn stamp_given(value: Option<CowStr<'_, Global>>) -> Result<Option<Stamp>, F
 /// The status that a value tells. None where there is no value; `BadValue` for any text that is no status, an empty one too.
 #[tactic(auto, unfolding(crate::specs::Query::status_in))]
 pub fn status_given(value: Option<CowStr<'_, Global>>) -> Result<Option<Status>, Fault>
-    ensures { Gives result (spec.status_given (option_map cow_str_bytes value.entry)) }
+    ensures { result ≡ spec.status_given (option_map cow_str_bytes value.entry) }
 {
     let Some(value) = value else {
         return Ok(None);
@@ -168,7 +168,7 @@ fn read_switch(text: &str) -> Option<bool>
 
 /// The number that a value tells. `BadValue` where there is no value, or one that isn't a number below 2^32.
 fn u32_given(value: Option<CowStr<'_, Global>>) -> Result<u32, Fault>
-    ensures { Gives result (spec.needed spec.u32_of (option_map cow_str_bytes value.entry)) }
+    ensures { result ≡ spec.needed spec.u32_of (option_map cow_str_bytes value.entry) }
 {
     let Some(value) = value else {
         return Err(Fault::BadValue);
@@ -178,7 +178,7 @@ fn u32_given(value: Option<CowStr<'_, Global>>) -> Result<u32, Fault>
 
 /// Whether a value tells that a setting is on. `BadValue` where there is no value, or one that is neither `on` nor `off`.
 fn switch_given(value: Option<CowStr<'_, Global>>) -> Result<bool, Fault>
-    ensures { Gives result (spec.needed spec.switch_of (option_map cow_str_bytes value.entry)) }
+    ensures { result ≡ spec.needed spec.switch_of (option_map cow_str_bytes value.entry) }
 {
     let Some(value) = value else {
         return Err(Fault::BadValue);

@@ -1,6 +1,6 @@
 -- A session, one request after another.
 use Rattle.std.proofs.Common.{◌≡◌, ◌⊎◌, ⊎_elim, inl, inr, ℕ, ◌+◌, ◌<◌, ◌≤◌, Bool, true, false, ◌||◌, eqb, List, [], ◌∷◌, ◌++◌, flat_map, Option, Some, None, Result, Ok, Err, refl, sym, subst, ap, ◌∙◌, append-nil, length-append, arith}
-use Rattle.std.proofs.KnownBytes.{Appends-nil, Appends-trans, Keeps-refl, prepend_known-nil}
+use Rattle.std.proofs.KnownBytes.{Appends-trans, Keeps-refl}
 use Rattle.std.proofs.lemmas.Bool.{false≢true, cases_lt}
 use Rattle.std.proofs.lemmas.List.Concat.{flat_map-append}
 use Rattle.std.specs.Io.KnownBytes.{Appends, Keeps}
@@ -61,17 +61,6 @@ module _ {D C : Type 0} (asked : D → Ask → ℕ → Result Answer Fault → D
   -- the state with these bytes to come
   abbrev state_with : D → C → Option (List ℕ) → Standing D C
   state_with desk clock l = record { left = l; desk = desk; clock = clock }
-
-  pub goes_start : (l : Option (List ℕ)) (desk : D) (clock : C) (held : Option (List ℕ))
-      → GoesOn asked tells 0 (record { left = l; desk = desk; clock = clock }) (record { left = pending [] l; desk = desk; clock = clock }) held held
-  goes_start l desk clock held = record {
-    turns = [];
-    chain = ap (state_with desk clock) (prepend_known-nil l);
-    count = refl;
-    few = omega arith;
-    each = tt;
-    written = Appends-nil held;
-  }
 
   step_of : (l l' : Option (List ℕ)) (request : Request) (close : Bool) (desk desk' : D) (clock clock' : C) (c : Comes asked tells request desk clock desk' clock') → Between l l' (FindsNext (Some request))
       → Step asked tells (record { left = l; desk = desk; clock = clock }) (record { request = request; moment = c.moment; outcome = c.outcome; close = close }) (record { left = l'; desk = desk'; clock = clock' })

@@ -1,13 +1,11 @@
 -- An answer of a lawful book
-use Rattle.std.proofs.Common.{◌≡◌, ℕ, true, arith, ap, ◌∙◌, inl, refl}
-use Rattle.std.specs.Prelude.{Result, Ok, Err, IfOk, IfErr, OnOk}
+use Rattle.std.proofs.Common.{◌≡◌, ℕ, ap}
+use Rattle.std.specs.Prelude.{None, Result, Ok, Err, IfOk, OnOk}
 use Rattle.std.specs.declared.alloc.AllocError.{AllocError}
 use Rattle.eu_base.specs.declared.faults.Fault.{Fault}
 use Rattle.eu_base.specs.declared.faults.Fault.TheVariants.{OutOfMemory}
-use Rattle.eu_base.specs.declared.settings.Config.{Config}
 use Rattle.eu_book.specs.declared.book.Receipt.{Receipt}
-use Rattle.eu_book.specs.Account.{Account, Applies, IsLawful, Refuses, entry, logged, opened}
-use Rattle.eu_book.proofs.BookLemmas.{opened_kept}
+use Rattle.eu_book.specs.Account.{Account, Applies, IsLawful, Refuses, entry, known_fault, logged}
 use Rattle.eu_clock.specs.Front.{Asks}
 use Rattle.eu_model.specs.declared.commands.Command.{Command}
 use Rattle.eu_model.specs.declared.views.Query.{Query}
@@ -21,15 +19,8 @@ module _ (c : Command) (t : ℕ) where
       → p' ≡ after_answer p (logged c t y.reply y.number) b.first → IsAnsweredBySome asks x p (entry p.number y.number c t y.reply) x' p'
   is_answer asks x x' p p' a b y before after is told = (a, b, before, after, is, ap (λ (k : PassAccount). k.journal_first) told)
 
-  pub is_refused : (a : Account) (f : Fault) → IsLawful a → Refuses a c t f → IsRefusedBySome c t f
-  is_refused a f before is = (a, before, is)
-
-  any_config : Config
-  any_config = record { preservation = true; percent = 85; interval = 30; evict_ms = 60000 }
-
-  -- memory may be wanted at any time
-  pub memory_is_wanted : IsRefusedBySome c t OutOfMemory
-  memory_is_wanted = (opened any_config 0 0, (opened_kept any_config 0 0 (omega arith) (omega arith)).lawful, λ s at. inl refl)
+  pub is_refused : (a : Account) (f : Fault) → IsLawful a → Refuses a c t f → (f ≡ OutOfMemory → known_fault a.totals.steps a.state.queues c t ≡ None) → IsRefusedBySome c t f
+  is_refused a f before is memory = (a, before, is, memory)
 
 pub is_shown : (q : Query) (t : ℕ) (p p' : PassAccount) (a : Account) (r : Result View AllocError) → IsLawful a → IfOk r (λ v. Shows a.state.registry (λ s. view s q t) v)
     → OnOk r (p' ≡ after_view p a.first) → IfOk r (λ v. IsShownBySome p q t v p')

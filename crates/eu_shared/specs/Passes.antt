@@ -1,8 +1,9 @@
 -- Passes and the shared book, as contracts see them
-use Rattle.std.specs.Prelude.{◌≡◌, ℕ, List, [], ◌∷◌, ◌++◌, max}
+use Rattle.std.specs.Prelude.{◌≡◌, ℕ, List, [], ◌∷◌, ◌++◌, max, None}
 use Rattle.eu_base.specs.declared.faults.Fault.{Fault}
+use Rattle.eu_base.specs.declared.faults.Fault.TheVariants.{OutOfMemory}
 use Rattle.eu_book.specs.declared.journal.Logged.{Logged}
-use Rattle.eu_book.specs.Account.{Account, Applies, IsLawful, Refuses, opened}
+use Rattle.eu_book.specs.Account.{Account, Applies, IsLawful, Refuses, known_fault, opened}
 use Rattle.eu_base.specs.declared.settings.Config.{Config}
 use Rattle.eu_clock.specs.Front.{Asks}
 use Rattle.eu_model.specs.declared.commands.Command.{Command}
@@ -59,9 +60,9 @@ abbrev pub IsAnsweredBySome : {S : Type 0} → Asks S → S → PassAccount → 
 IsAnsweredBySome asks x p e x' p' =
     (before : Account) × (after : Account) × IsLawful before × IsLawful after × Applies asks before x e after x' × (p'.journal_first ≡ max p.journal_first after.first)
 
--- some lawful book refuses it so
+-- some lawful book refuses it so, where want of memory hides no fault that needs none to be known
 abbrev pub IsRefusedBySome : Command → ℕ → Fault → Type 0
-IsRefusedBySome c t f = (a : Account) × IsLawful a × Refuses a c t f
+IsRefusedBySome c t f = (a : Account) × IsLawful a × Refuses a c t f × (f ≡ OutOfMemory → known_fault a.totals.steps a.state.queues c t ≡ None)
 
 -- some lawful book shows it to the pass, which has then seen where its journal begins
 abbrev pub IsShownBySome : PassAccount → Query → ℕ → View → PassAccount → Type 0

@@ -1,6 +1,6 @@
 //! The book behind the lock, with its part of the ledgers.
-ghost use Rattle.std.specs.Prelude.{◌≡◌, ◌↔◌, ◌+◌, ◌<◌, ◌≤◌, ◌^◌, Err, vec_len, IfOk, IfErr, OnOk, OnErr};
-ghost use Rattle.eu_book.specs.Account.{cleared, entry, logged, Applies, IsLawful, Refuses};
+ghost use Rattle.std.specs.Prelude.{◌≡◌, ◌↔◌, ◌+◌, ◌<◌, ◌≤◌, ◌^◌, Err, None, vec_len, IfOk, IfErr, OnOk, OnErr};
+ghost use Rattle.eu_book.specs.Account.{cleared, entry, known_fault, logged, Applies, IsLawful, Refuses};
 ghost use Rattle.eu_book.specs.Checkpoint.{IsJournal, IsRetired};
 ghost use Rattle.eu_model.specs.Answers.{Shows};
 ghost use Rattle.eu_model.specs.Delta.{plus};
@@ -153,7 +153,8 @@ impl<K: Label> Held<K> {
         sum_up(passes, &mut self.rest, &mut self.totals, Tally::nothing())
     }
 
-    /// Tells the book a command for a pass, at a moment: `Book::apply` with the pass's number, and with its refusals.
+    /// Tells the book a command for a pass, at a moment: `Book::apply` with the pass's number, and with its refusals, of which want of
+    /// memory hides none that it doesn't hide there.
     ///
     /// The pass logs what it is answered, and what was done is added to its tallies. The number of the entry is at least that of
     /// the steps that were made for this pass. A refusal changes neither the book nor the pass, and asks no word.
@@ -172,13 +173,15 @@ impl<K: Label> Held<K> {
         ensures after { OnOk result (IsLawful self.new.book) }
         ensures pass_count { self.new.pass_count ≡ self.old.pass_count }
         ensures refused { IfErr result (λ f. Refuses self.old.book command moment f) }
+        ensures memory { IfErr result (λ f. f ≡ Fault.OutOfMemory → known_fault self.old.book.totals.steps self.old.book.state.queues command moment ≡ None) }
         ensures err { OnErr result ((self.new ≡ self.old) × (pass.new ≡ pass.old)) }
         ensures unasked { OnErr result (chooser.new ≡ chooser.old) }
     {
         let _before = self.book.journal();
         let Ok(mine) = command.copy(alloc) else {
+            let fault = self.book.refusal_without_memory(&command, moment);
             drop(command);
-            return Err(Fault::OutOfMemory);
+            return Err(fault);
         };
         let outcome = self.ask_with(alloc, pass, command, mine, moment, chooser)?;
         Ok(outcome.into_receipt())
@@ -204,13 +207,15 @@ impl<K: Label> Held<K> {
         ensures after { OnOk result (IsLawful self.new.book) }
         ensures pass_count { self.new.pass_count ≡ self.old.pass_count }
         ensures refused { IfErr result (λ f. Refuses self.old.book command moment f) }
+        ensures memory { IfErr result (λ f. f ≡ Fault.OutOfMemory → known_fault self.old.book.totals.steps self.old.book.state.queues command moment ≡ None) }
         ensures err { OnErr result ((self.new ≡ self.old) × (pass.new ≡ pass.old)) }
         ensures unasked { OnErr result (chooser.new ≡ chooser.old) }
     {
         let _lawful = self.book.journal();
         if pass.log.reserve(1).is_err() {
+            let fault = self.book.refusal_without_memory(&command, moment);
             drop((command, mine));
-            return Err(Fault::OutOfMemory);
+            return Err(fault);
         }
         let outcome = self
             .book

@@ -121,8 +121,12 @@ impl<K: Label> Pass<K> {
         ensures unasked { OnErr result (chooser.new ≡ chooser.old) }
     {
         let Ok(mine) = self.prepare(alloc, &command) else {
+            let fault = shared
+                .lock(rt)
+                .book()
+                .refusal_without_memory(&command, moment);
             drop(command);
-            return Err(Fault::OutOfMemory);
+            return Err(fault);
         };
         let outcome = shared
             .lock(rt)

@@ -1,4 +1,4 @@
--- A tree of whole numbers that was read fits
+-- Each part of a tree that was read stands in order, and fits where its numbers are whole
 use Rattle.std.proofs.Common.{◌≡◌, ℕ, zero, suc, ◌+◌, ◌-◌, ◌<◌, ◌≤◌, ◌^◌, max, ℤ, pos, negsuc, List, length, drop, Bool, true, false, true≢false, ◌&&◌, ◌||◌, nat_lt, nat_le, cond, Option, Some, None, option_map, option_and_then, Ordering, Less, Equal, Greater, is_lt, refl, sym, ap, ap₂, ◌∙◌, subst, nat_cmp, arith}
 use Rattle.std.specs.Prelude.{⊤, slice_index, ◌==◌}
 use Rattle.std.specs.Ordering.{match_ordering, ordering_reverse}
@@ -19,17 +19,17 @@ use Rattle.eu_text.proofs.OrderLemmas.{IsBelow, below_more}
 
 -- ---- what is so of each tree that was read
 
-abbrev FitsNegative : ℤ → Type 0
+abbrev pub FitsNegative : ℤ → Type 0
 FitsNegative (pos n) = ⊥
 FitsNegative (negsuc n) = n < 2 ^ 63
 
-abbrev FitsNumber : Num → Type 0
+abbrev pub FitsNumber : Num → Type 0
 FitsNumber (unsigned n) = n < 2 ^ 64
 FitsNumber (negative z) = FitsNegative z
 FitsNumber (float x) = ⊤
 
 abbrev mutual
-  IsOrdered : Data → Type 0
+  pub IsOrdered : Data → Type 0
   IsOrdered null = ⊤
   IsOrdered (boolean b) = ⊤
   IsOrdered (number n) = FitsNumber n
@@ -37,11 +37,11 @@ abbrev mutual
   IsOrdered (array ds) = ItemsOrdered ds
   IsOrdered (object ms) = MembersOrdered ms
 
-  ItemsOrdered : Items → Type 0
+  pub ItemsOrdered : Items → Type 0
   ItemsOrdered no_items = ⊤
   ItemsOrdered (item d ds) = IsOrdered d × ItemsOrdered ds
 
-  MembersOrdered : Members → Type 0
+  pub MembersOrdered : Members → Type 0
   MembersOrdered no_members = ⊤
   MembersOrdered (member k d ms) = IsBelow k ms × IsOrdered d × MembersOrdered ms
 
@@ -64,7 +64,7 @@ put_at Less k l d e ms rest is value here below later more order = ((is, below_m
 put_at Equal k l d e ms rest is value here below later more order = (below, value, later)
 put_at Greater k l d e ms rest is value here below later more order = (more (nat_list_cmp_total.antisymm l k ∙ ap ordering_reverse is), here, order)
 
-fit_put : (k : List ℕ) (d : Data) (ms : Members) → IsOrdered d → MembersOrdered ms → MembersOrdered (put k d ms)
+pub fit_put : (k : List ℕ) (d : Data) (ms : Members) → IsOrdered d → MembersOrdered ms → MembersOrdered (put k d ms)
 fit_put k d no_members value order = (tt, value, tt)
 fit_put k d (member l e ms) value order =
     put_at _ k l d e ms (put k d ms) refl value order.1 order.0 order.2 (λ less. below_put l k d ms less order.0) (fit_put k d ms value order.2)
@@ -139,7 +139,7 @@ parsed_fit : (o : Option json.Json) → Each IsOrdered (option_and_then of_json 
 parsed_fit None = tt
 parsed_fit (Some j) = of_json_fit j
 
-read_ordered : (text : List ℕ) (d : Data) → read text ≡ Some d → IsOrdered d
+pub read_ordered : (text : List ℕ) (d : Data) → read text ≡ Some d → IsOrdered d
 read_ordered text d is =
     let parsed = option_and_then (λ p. json.if_last p.0 p.1) (json.value max_depth (tokens text)) in
     subst (Each IsOrdered) is (parsed_fit parsed)
@@ -157,7 +157,7 @@ follows_below None k d ms below = refl
 follows_below (Some j) k d ms below = ap is_lt below.0
 
 mutual
-  ordered_fits : (n : ℕ) (d : Data) → IsOrdered d → has_float d ≡ false → depth d ≤ n → fits n d ≡ true
+  pub ordered_fits : (n : ℕ) (d : Data) → IsOrdered d → has_float d ≡ false → depth d ≤ n → fits n d ≡ true
   ordered_fits n null order whole within = refl
   ordered_fits n (boolean b) order whole within = refl
   ordered_fits n (number x) order whole within = whole_number x whole order

@@ -12,7 +12,7 @@ use std::alloc::{AllocError, Global};
 use std::cmp::Ordering;
 
 /// A member of an object: its name and its value.
-pub type Entry = (String, Value);
+pub type Member = (String, Value);
 
 /// Where a name cuts the text of members.
 #[derive(Clone, Copy, Debug)]
@@ -44,9 +44,9 @@ pub struct Cuts {
 fn append_before<'e>(
     alloc: Global,
     out: &mut String,
-    entries: &'e [Entry],
+    entries: &'e [Member],
     name: &str,
-) -> Result<&'e [Entry], AllocError>
+) -> Result<&'e [Member], AllocError>
     requires { members_have_float (members_view entries.now) ≡ false }
     ensures text { IfOk result (λ left. string_bytes out.new ++ led (members_view left.now) ≡ string_bytes out.old ++ led (members_view entries.now)) }
     ensures len { OnOk result (length (string_bytes out.new) ≡ length (string_bytes out.old) + length (led (before name.now (members_view entries.now)))) }
@@ -70,9 +70,9 @@ fn append_before<'e>(
 fn append_named<'e>(
     alloc: Global,
     out: &mut String,
-    entries: &'e [Entry],
+    entries: &'e [Member],
     name: &str,
-) -> Result<&'e [Entry], AllocError>
+) -> Result<&'e [Member], AllocError>
     requires first { before name.now (members_view entries.now) ≡ no_members }
     requires whole { members_have_float (members_view entries.now) ≡ false }
     ensures text { IfOk result (λ left. string_bytes out.new ++ led (members_view left.now) ≡ string_bytes out.old ++ led (members_view entries.now)) }
@@ -93,9 +93,9 @@ fn append_named<'e>(
 fn cut_at<'e>(
     alloc: Global,
     out: &mut String,
-    entries: &'e [Entry],
+    entries: &'e [Member],
     name: &str,
-) -> Result<(Cut, &'e [Entry]), AllocError>
+) -> Result<(Cut, &'e [Member]), AllocError>
     requires { members_have_float (members_view entries.now) ≡ false }
     ensures text { IfOk result (λ p. string_bytes out.new ++ led (members_view p.1.now) ≡ string_bytes out.old ++ led (members_view entries.now)) }
     ensures cut { IfOk result (λ p. p.0 ≡ record { before = length (led (before name.now (members_view entries.now))); named = length (led (named name.now (members_view entries.now))) }) }
@@ -114,7 +114,7 @@ fn cut_at<'e>(
 }
 
 /// Appends members, each with a comma before it, and tells where the registry's own names cut their text.
-pub fn push_members(alloc: Global, out: &mut String, entries: &[Entry]) -> Result<Cuts, AllocError>
+pub fn push_members(alloc: Global, out: &mut String, entries: &[Member]) -> Result<Cuts, AllocError>
     requires { members_have_float (members_view entries.now) ≡ false }
     ensures text { OnOk result (string_bytes out.new ≡ string_bytes out.old ++ led (members_view entries.now)) }
     ensures cuts { IfOk result (λ cuts. cut_list cuts ≡ cuts_of own_names (members_view entries.now)) }

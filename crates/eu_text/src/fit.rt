@@ -6,10 +6,20 @@ ghost use Rattle.eu_text.specs.Fit as spec;
 
 use serde_json::{Map, Number, Value};
 
-/// Whether a tree nests at most so deep, and its numbers are whole. (The members of an object that was read stand in the order of their
-/// names, each once: that is tested, too.) Takes no memory.
+/// How deep JSON may nest that is read.
+const MOST_NESTING: usize = 127;
+
+/// Whether a tree can be kept as its text: it nests no deeper than 127 levels, and its numbers are whole. (The members of an object
+/// that was read stand in the order of their names, each once: that is tested, too.) Takes no memory.
+pub fn is_fit(value: &Value) -> bool
+    ensures { result ≡ spec.is_fit (tree_of value.now) }
+{
+    fits(value, MOST_NESTING)
+}
+
+/// The same of a tree that may nest at most so deep.
 #[cycle(fits)]
-pub fn fits(value: &Value, depth: usize) -> bool
+fn fits(value: &Value, depth: usize) -> bool
     ensures { result ≡ spec.fits depth (tree_of value.now) }
 {
     match value {

@@ -8,7 +8,7 @@ mod object;
 mod pieces;
 
 pub use append::append_quoted;
-pub use cut::{Cut, Cuts, Entry};
-pub use fit::fits;
+pub use cut::{Cut, Cuts, Member};
+pub use fit::is_fit;
 pub use object::{ObjectText, Pieces, members_of};
 pub use pieces::{append_piece, append_text};

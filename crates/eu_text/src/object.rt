@@ -8,7 +8,7 @@ ghost use Rattle.serde_json.specs.View.{view as tree_of, members_view};
 ghost use Rattle.eu_text.specs.Fit.{is_fit};
 ghost use Rattle.eu_text.specs.Object.{IsTextOf};
 
-use crate::cut::{Cuts, Entry, push_members};
+use crate::cut::{Cuts, Member, push_members};
 use serde_json::{Map, Value};
 use std::alloc::{AllocError, Global};
 use std::marker::Model;
@@ -47,7 +47,7 @@ pub struct Pieces<'t> {
 
 impl ObjectText {
     /// The object with these members. `AllocError` where no memory is left.
-    pub fn new(alloc: Global, entries: &[Entry]) -> Result<ObjectText, AllocError>
+    pub fn new(alloc: Global, entries: &[Member]) -> Result<ObjectText, AllocError>
         requires { is_fit (object (members_view entries.now)) ≡ true }
         ensures { IfOk result (λ t. t ≡ object (members_view entries.now)) }
     {

@@ -44,7 +44,7 @@ invariant_of-self g c =
     let new = server_with c.answer.new.registry c.answer.new.peers in
     let reply = c.in-Ok.accepted.answered.reply in
     let e = entry c.args.pass a.totals.steps c.args.command c.args.moment reply in
-    let next = option_map (λ j. j.value.base) c.in-Ok.accepted.renewal in
+    let next = option_map (λ j. j.value.base) c.in-Ok.accepted.next in
     let entries = c.note.ensures.entries ∙ ap (λ es. entries_by next es ++ (e ∷ [])) c.in-Ok.ensures.entries in
     let whole = entered s a refl kept next c.in-Ok.ensures.base e new c.note.new.journal.base c.note.new.journal.first c.note.new.journal.entries.items c.note.new.totals c.note.ensures.base c.note.ensures.first entries c.note.ensures.totals in (
       entered_plain s a refl kept next c.in-Ok.ensures.base c.self.invariant.0 c.note.new.journal.base c.note.ensures.base,
@@ -59,7 +59,7 @@ returns-in-Ok-clause-applied g c =
     let new = server_with c.answer.new.registry c.answer.new.peers in
     let reply = c.in-Ok.accepted.answered.reply in
     let e = entry c.args.pass a.totals.steps c.args.command c.args.moment reply in
-    let next = option_map (λ j. j.value.base) c.in-Ok.accepted.renewal in
+    let next = option_map (λ j. j.value.base) c.in-Ok.accepted.next in
     let entries = c.note.ensures.entries ∙ ap (λ es. entries_by next es ++ (e ∷ [])) c.in-Ok.ensures.entries in
     let whole = entered s a refl kept next c.in-Ok.ensures.base e new c.note.new.journal.base c.note.new.journal.first c.note.new.journal.entries.items c.note.new.totals c.note.ensures.base c.note.ensures.first entries c.note.ensures.totals in
     let b : Account = record { base = server_of_state c.note.new.journal.base; first = c.note.new.journal.first; entries = c.note.new.journal.entries.items; state = new; totals = c.note.new.totals } in

@@ -14,7 +14,7 @@ returns c =
     let queues = c.in_ok-queues.ensures ∙ c.in_ok-peers.ensures in
     let base = server_of_empty _ c.args.config c.args.expected c.args.peers
     (λ i. let s : State = record { config = c.args.config; expected = expected i; leases = leases i; overrides = overrides i; last = 0; since = 0; previous = None; queues = queues i } in s) in
-    let entries = c.new-5.ensures.items in
+    let entries = c.in_ok-entries.ensures.items in
     let registry = c.open-2.ensures in
     let peers = c.in_ok-peers.ensures in
     let totals = c.nothing.ensures in

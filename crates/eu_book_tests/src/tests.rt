@@ -1,16 +1,10 @@
 //! The tests, by what they are of.
-mod accounts;
-mod asks;
 mod book;
-mod checkpoints;
-mod held;
+mod closed;
+mod lines;
 mod memory;
-mod openings;
-mod passes;
-mod reads;
 mod sessions;
-mod settle;
+mod shared;
 mod shared_memory;
-mod states;
-mod tails;
+mod texts;
 mod threads;

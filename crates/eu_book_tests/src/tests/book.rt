@@ -1,689 +1,340 @@
-//! Accounts worked out by hand. What commands are answered is told in words at once.
-use eu_base::{Codes, Config, Fault, MOST_ENTRIES, Moment, Stamp, Status, Task};
-use eu_book::{Book, Journal, Logged, LoggedReceipt, Receipt};
-use eu_clock::{Chooser, FirstChooser, ListChooser};
-use eu_fixtures::{at, key, registration_for, settings};
-use eu_model::{Command, Entry, Query, Queue, Reply, State, Tally, View};
+//! A book alone: what its lines say, and what comes of each, worked out by hand.
+use crate::tests::lines::{Told, first_wrong, number_of, numbered, read_ask};
+use crate::tests::texts::{
+    tell_answer, tell_fault, tell_queues, tell_read, tell_receipt, tell_reply, tell_state,
+};
+use eu_base::{Config, Fault};
+use eu_book::{Book, Journal, LoggedReceipt};
+use eu_clock::{FirstChooser, ListChooser};
+use eu_fixtures::{at, settings};
+use eu_model::{Ask, Command, Entry};
 use std::alloc::{AllocError, Global};
 
-/// What a book is told.
-#[derive(Clone, Copy)]
-pub enum Step {
-    /// A client that is UP registers this id with the stamp 5, for 10 seconds.
-    Register(&'static str),
-    /// A peer renews i1 with this stamp.
-    Renew(u64),
-    /// A client sets i1 OUT_OF_SERVICE.
-    Set,
-    /// A minute ends.
-    EndMinute,
-    /// Self-preservation is off, at 50%, with a renewal each 15 s and an eviction each 7 ms.
-    Reconfigure,
-    /// An eviction.
-    Evict,
-    /// What waits for the first peer is drained.
-    Drain,
-    /// A batch of one task has landed at the first peer, and was answered so.
-    Land(u16),
-    /// A batch for the first peer is lost.
-    Lose,
+/// A book, and by which words an eviction draws from it.
+///
+/// It is told `PASS WORDS`, as words are in a script, or `log PASS WORDS`, where who asks keeps a log; `minutes N`, of which no answer is
+/// told; and `checkpoint`. It is asked for its `state`, its `queues`, its `journal`, the `base` of that, and its `entries`.
+#[derive(Drop)]
+struct Desk {
+    book: Book,
+    chooser: ListChooser,
 }
 
-/// A peer's renewal of i1 with this stamp.
-fn renewal(alloc: Global, last_dirty: u64) -> Result<Command, Fault> {
-    let key = key(alloc, "i1")?;
-    Ok(Command::Renew {
-        key,
-        last_dirty: Stamp::new(last_dirty),
-        overridden: None,
-        replicated: true,
-    })
-}
-
-/// A client sets i1 OUT_OF_SERVICE.
-fn setting(alloc: Global) -> Result<Command, Fault> {
-    let key = key(alloc, "i1")?;
-    Ok(Command::SetStatus {
-        key,
-        status: Status::OutOfService,
-        last_dirty: None,
-        replicated: false,
-    })
-}
-
-/// A batch of one task has landed, and was answered so.
-fn landing(alloc: Global, code: u16) -> Result<Command, Fault> {
-    let codes = Codes::new(Vec::from_slice(alloc, [code].as_slice())?);
-    Ok(Command::Landed { peer: 0, codes })
-}
-
-pub fn command(alloc: Global, step: Step) -> Result<Command, Fault> {
-    match step {
-        Step::Register(id) => registration_for(alloc, id, 10),
-        Step::Renew(last_dirty) => renewal(alloc, last_dirty),
-        Step::Set => setting(alloc),
-        Step::EndMinute => Ok(Command::EndMinute),
-        Step::Reconfigure => Ok(Command::Reconfigure {
-            config: Config::new(false, 50, 15, 7)?,
-        }),
-        Step::Evict => Ok(Command::Evict),
-        Step::Drain => Ok(Command::Drain { peer: 0 }),
-        Step::Land(code) => landing(alloc, code),
-        Step::Lose => Ok(Command::Lost { peer: 0 }),
+fn tell_command(out: &mut String, command: &Command) -> Result<(), AllocError> {
+    match command {
+        Command::Register { .. } => out.push_str("Register"),
+        Command::Renew { .. } => out.push_str("Renew"),
+        other => write!(out, "{other:?}"),
     }
 }
 
-/// The action of the one task.
-fn action(tasks: &[Task]) -> &'static str {
-    match tasks {
-        [task] => task.action.name(),
-        _ => "tasks",
-    }
+fn tell_entry(out: &mut String, entry: &Entry) -> Result<(), AllocError> {
+    write!(
+        out,
+        "{} {} {} ",
+        entry.pass,
+        entry.number,
+        entry.moment.ms()
+    )?;
+    tell_command(out, &entry.command)?;
+    out.push_str(" ")?;
+    tell_reply(out, &entry.reply)?;
+    out.push_str(";")
 }
 
-pub fn word(reply: &Reply) -> &'static str {
-    match reply {
-        Reply::Registered { fresh: true } => "new",
-        Reply::Done => "done",
-        Reply::Conflict(_) => "conflict",
-        Reply::Batch(tasks) => action(tasks.as_slice()),
-        Reply::Settled => "settled",
-        _ => "other",
+fn tell_entries(out: &mut String, entries: &[Entry]) -> Result<(), AllocError> {
+    for entry in entries {
+        tell_entry(out, entry)?;
     }
+    Ok(())
 }
 
-/// The number of the entry and the reply in a word, or the number of the fault.
-fn told(answer: &Result<Receipt, Fault>) -> (u64, &'static str) {
-    match answer {
-        Ok(receipt) => (receipt.number, word(&receipt.reply)),
-        Err(fault) => (u64::from(fault.number()), "refused"),
-    }
+/// Writes where the journal begins, how many entries it has, how many leases its base has, and what was done in all.
+fn tell_journal(out: &mut String, book: &Book) -> Result<(), AllocError> {
+    let Journal {
+        base,
+        first,
+        entries,
+    } = book.journal();
+    let (entries, leases) = (entries.len(), base.leases.as_slice().len());
+    write!(out, "{first} {entries} {leases} {:?}", book.totals())
 }
 
-/// The same, where a pass tells the book a command.
-fn applied<C: Chooser>(
-    alloc: Global,
-    book: &mut Book,
-    pass: u64,
-    command: Command,
-    now: Moment,
-    chooser: &mut C,
-) -> (u64, &'static str) {
-    let answer = book.apply(alloc, pass, command, now, chooser);
-    let told = told(&answer);
-    drop(answer);
+/// Writes how many entries a journal had that has begun anew.
+fn tell_retired(
+    out: &mut String,
+    retired: Result<Box<Journal>, AllocError>,
+) -> Result<(), AllocError> {
+    let journal = retired?;
+    let entries = journal.entries.len();
+    drop(journal);
+    write!(out, "{entries}")
+}
+
+fn tell_state_of(alloc: Global, out: &mut String, book: &Book) -> Result<(), AllocError> {
+    let state = book.state(alloc)?;
+    let told = tell_state(out, &state);
+    drop(state);
     told
 }
 
-/// The same of a step.
-fn tell<C: Chooser>(
-    alloc: Global,
-    book: &mut Book,
-    pass: u64,
-    step: Step,
-    now: Moment,
-    chooser: &mut C,
-) -> (u64, &'static str) {
-    match command(alloc, step) {
-        Ok(command) => applied(alloc, book, pass, command, now, chooser),
-        Err(fault) => (u64::from(fault.number()), "refused"),
-    }
-}
-
-/// The same at moment 0, for pass 0.
-fn first(alloc: Global, book: &mut Book, step: Step) -> (u64, &'static str) {
-    tell(alloc, book, 0, step, at(0), &mut FirstChooser)
-}
-
-/// Without self-preservation, half of the leases may go in an eviction.
-fn opened(alloc: Global) -> Result<Book, Fault> {
-    let config = Config::new(false, 50, 30, 60_000)?;
-    Ok(Book::open(alloc, config, 0, 0)?)
-}
-
-fn counts_of(view: &View) -> (u64, u64) {
-    match view {
-        View::Counts(counts) => (counts.held, counts.last),
-        _ => (0, 0),
-    }
-}
-
-/// How many are held, and the renewals of the last minute.
-fn counts(alloc: Global, book: &Book) -> Result<(u64, u64), Fault> {
-    let view = book.read(alloc, &Query::Counts, at(0))?;
-    let counts = counts_of(&view);
-    drop(view);
-    Ok(counts)
-}
-
-/// How many are held, of how many are up, and of how many are out of service, as a status page tells.
-fn on_a_page(alloc: Global, book: &Book) -> Result<(u64, u64, u64), Fault> {
-    let view = book.read(alloc, &Query::Page, at(0))?;
-    let told = match &view {
-        View::Page(counts, statuses) => (counts.held, statuses.up, statuses.out_of_service),
-        _ => (0, 0, 0),
-    };
-    drop(view);
-    Ok(told)
-}
-
-fn is_entry(entry: &Entry, pass: u64, number: u64, ms: u64, reply: &str) -> bool {
-    entry.pass == pass
-        && entry.number == number
-        && entry.moment.ms() == ms
-        && word(&entry.reply) == reply
-}
-
-/// Whether the entries are a registration and a renewal that found another stamp.
-fn are_entries(entries: &[Entry]) -> bool {
-    match entries {
-        [one, two] => {
-            matches!(one.command, Command::Register { .. })
-                && is_entry(one, 3, 0, 7, "new")
-                && is_entry(two, 4, 1, 8, "conflict")
-        }
-        _ => false,
-    }
-}
-
-/// Whether the book is told a registration and a renewal by two passes, and keeps them as its entries.
-fn keeps_entries(alloc: Global, book: &mut Book) -> bool {
-    let comes = tell(
-        alloc,
-        book,
-        3,
-        Step::Register("i1"),
-        at(7),
-        &mut FirstChooser,
-    );
-    let renews = tell(alloc, book, 4, Step::Renew(4), at(8), &mut FirstChooser);
-    comes == (0, "new")
-        && renews == (1, "conflict")
-        && are_entries(book.journal().entries.as_slice())
-}
-
-/// Whether a new book keeps them.
-fn opens_and_keeps_entries(alloc: Global) -> Result<bool, Fault> {
-    let mut book = opened(alloc)?;
-    let keeps = keeps_entries(alloc, &mut book);
-    drop(book);
-    Ok(keeps)
-}
-
-#[test]
-fn each_command_is_an_entry(rt: HostRuntime) {
-    assert!(rt; opens_and_keeps_entries(rt.alloc()) == Ok(true));
-}
-
-/// Tells the book that i1 to i4 register at 0, that i1 is renewed, that the minute ends, and that an eviction comes 90 seconds later.
-fn play(alloc: Global, book: &mut Book, chooser: &mut ListChooser) {
-    for id in ["i1", "i2", "i3", "i4"] {
-        tell(alloc, book, 0, Step::Register(id), at(0), chooser);
-    }
-    tell(alloc, book, 0, Step::Renew(5), at(0), chooser);
-    tell(alloc, book, 0, Step::EndMinute, at(0), chooser);
-    tell(alloc, book, 1, Step::Evict, at(90_000), chooser);
-}
-
-/// The book that was told so, of which the eviction took two leases.
-fn played(alloc: Global) -> Result<Book, Fault> {
-    let words = Vec::from_slice(alloc, [3u64, 0].as_slice())?;
-    let mut chooser = ListChooser::new(words);
-    let mut book = opened(alloc)?;
-    play(alloc, &mut book, &mut chooser);
-    Ok(book)
-}
-
-/// Whether what was done is this in all, with so many leases held and so many renewals in the last minute.
-fn sums_up(alloc: Global, sums: Tally, wanted: (u64, u64)) -> Result<bool, Fault> {
-    let book = played(alloc)?;
-    let totals = book.totals();
-    let counts = counts(alloc, &book);
-    drop(book);
-    Ok(totals == sums && counts == Ok(wanted))
-}
-
-#[test]
-fn what_was_done_is_summed_up(rt: HostRuntime) {
-    let sums = Tally {
-        steps: 7,
-        counted: 1,
-        added: 4,
-        removed: 2,
-    };
-    assert!(rt; sums_up(rt.alloc(), sums, (2, 1)) == Ok(true));
-}
-
-/// Whether the last entry is an eviction of these two victims.
-fn took(entries: &[Entry], first: &str, second: &str) -> bool {
-    let Some(last) = entries.last() else {
-        return false;
-    };
-    match &last.reply {
-        Reply::Evicted(victims) => match victims.as_slice() {
-            [one, two] => one.id.as_str() == first && two.id.as_str() == second,
-            _ => false,
-        },
-        _ => false,
-    }
-}
-
-/// Whether the last entry is so in the book, and in the journal that it leaves.
-fn takes(alloc: Global, first: &str, second: &str) -> Result<bool, Fault> {
-    let book = played(alloc)?;
-    let held = took(book.journal().entries.as_slice(), first, second);
-    let journal = book.into_journal();
-    let left = took(journal.entries.as_slice(), first, second);
-    drop(journal);
-    Ok(held && left)
-}
-
-#[test]
-fn victims_are_drawn(rt: HostRuntime) {
-    assert!(rt; takes(rt.alloc(), "i4", "i2") == Ok(true));
-}
-
-/// Whether two leases are listed, of these ids, the second registered at 0.
-fn is_list(view: &View, first: &str, second: &str) -> bool {
-    let View::All(all) = view else {
-        return false;
-    };
-    match all.as_slice() {
-        [one, two] => {
-            one.instance.key.id.as_str() == first
-                && two.instance.key.id.as_str() == second
-                && two.times.registered == 0
-        }
-        _ => false,
-    }
-}
-
-/// Whether the book lists them.
-fn lists(alloc: Global, book: &Book, first: &str, second: &str) -> Result<bool, Fault> {
-    let view = book.read(alloc, &Query::All, at(90_000))?;
-    let lists = is_list(&view, first, second);
-    drop(view);
-    Ok(lists)
-}
-
-/// Whether the book that was played lists them, and holds so many.
-fn holds(alloc: Global, first: &str, second: &str, held: u64) -> Result<bool, Fault> {
-    let book = played(alloc)?;
-    let lists = lists(alloc, &book, first, second);
-    let counts = book.registry().counts();
-    drop(book);
-    Ok(lists? && counts.held == held)
-}
-
-#[test]
-fn what_is_held_is_read(rt: HostRuntime) {
-    assert!(rt; holds(rt.alloc(), "i1", "i3", 2) == Ok(true));
-}
-
-/// What a page tells of the book that was played, and once i1 is out of service.
-fn pages(alloc: Global) -> Result<[(u64, u64, u64); 2], Fault> {
-    let mut book = played(alloc)?;
-    let before = on_a_page(alloc, &book);
-    first(alloc, &mut book, Step::Set);
-    let after = on_a_page(alloc, &book);
-    drop(book);
-    Ok([before?, after?])
-}
-
-#[test]
-fn a_page_counts_leases_by_status(rt: HostRuntime) {
-    assert!(rt; pages(rt.alloc()) == Ok([(2, 2, 0), (2, 1, 1)]));
-}
-
-/// Whether two leases are held, no row, and a minute with one renewal has ended before an eviction at 90,000.
-fn is_left(state: &State) -> bool {
-    state.leases.as_slice().len() == 2
-        && state.overrides.as_slice().is_empty()
-        && state.last == 1
-        && state.since == 0
-        && state.expected == 0
-        && state.previous.map(|moment| moment.ms()) == Some(90_000)
-}
-
-fn is_new(state: &State) -> bool {
-    state.leases.as_slice().is_empty() && state.previous.is_none()
-}
-
-/// Whether the registry is shown so.
-fn shows_what_is_left(alloc: Global, book: &Book) -> Result<bool, Fault> {
+fn tell_queues_of(alloc: Global, out: &mut String, book: &Book) -> Result<(), AllocError> {
     let state = book.state(alloc)?;
-    let is_left = is_left(&state);
+    let told = tell_queues(out, state.queues.as_slice());
     drop(state);
-    Ok(is_left)
+    told
 }
 
-/// Whether the book that was played shows that, and what it began with.
-fn shows_data(alloc: Global) -> Result<bool, Fault> {
-    let book = played(alloc)?;
-    let left = shows_what_is_left(alloc, &book);
-    let began = is_new(&book.journal().base);
-    drop(book);
-    Ok(left? && began)
-}
-
-#[test]
-fn the_registry_is_shown_as_data(rt: HostRuntime) {
-    assert!(rt; shows_data(rt.alloc()) == Ok(true));
+/// Writes what is given to who keeps a log; and what the log keeps, and how many entries the journal had where it has begun anew.
+fn tell_logged(out: &mut String, told: &LoggedReceipt) -> Result<(), AllocError> {
+    tell_receipt(out, &told.receipt)?;
+    write!(out, ", {} {} ", told.logged.number, told.logged.moment.ms())?;
+    tell_command(out, &told.logged.command)?;
+    out.push_str(" ")?;
+    tell_reply(out, &told.logged.reply)?;
+    match &told.retired {
+        Some(journal) => write!(out, ", {}", journal.entries.len()),
+        None => Ok(()),
+    }
 }
 
 /// Ends so many minutes.
-fn end_minute(alloc: Global, book: &mut Book, times: usize) {
-    for _ in 0..times {
-        first(alloc, book, Step::EndMinute);
+fn end_minutes(alloc: Global, book: &mut Book, count: u64) -> Result<(), Fault> {
+    for _ in 0..count {
+        drop(book.apply(alloc, 0, Command::EndMinute, at(0), &mut FirstChooser)?);
+    }
+    Ok(())
+}
+
+impl Desk {
+    fn ask(&mut self, alloc: Global, said: &str, out: &mut String) -> Result<(), Fault> {
+        let (pass, words) = numbered(said)?;
+        let (moment, ask) = read_ask(alloc, words)?;
+        match ask {
+            Ask::Do(command) => {
+                let answer = self
+                    .book
+                    .apply(alloc, pass, command, moment, &mut self.chooser);
+                Ok(tell_answer(out, answer)?)
+            }
+            Ask::See(query) => {
+                let view = self.book.read(alloc, &query, moment);
+                drop(query);
+                Ok(tell_read(out, view)?)
+            }
+        }
+    }
+
+    fn log(&mut self, alloc: Global, said: &str, out: &mut String) -> Result<(), Fault> {
+        let (pass, words) = numbered(said)?;
+        let (moment, Ask::Do(command)) = read_ask(alloc, words)? else {
+            return Err(Fault::BadValue);
+        };
+        let mine = command.copy(alloc)?;
+        match self
+            .book
+            .apply_logged(alloc, pass, command, mine, moment, &mut self.chooser)
+        {
+            Ok(logged) => {
+                let told = tell_logged(out, &logged);
+                drop(logged);
+                Ok(told?)
+            }
+            Err(fault) => Ok(tell_fault(out, fault)?),
+        }
+    }
+
+    fn end_minutes(&mut self, alloc: Global, count: &str, out: &mut String) -> Result<(), Fault> {
+        end_minutes(alloc, &mut self.book, number_of(count)?)?;
+        Ok(tell_journal(out, &self.book)?)
     }
 }
 
-/// Where a journal begins, how many entries it has, how many leases its base has, and how many steps were made in all.
-pub type Extent = (u64, usize, usize, u64);
-
-pub fn extent(book: &Book) -> Extent {
-    let journal = book.journal();
-    let leases = journal.base.leases.as_slice().len();
-    (
-        journal.first,
-        journal.entries.len(),
-        leases,
-        book.totals().steps,
-    )
+impl Told for Desk {
+    fn tell(&mut self, alloc: Global, said: &str, out: &mut String) -> Result<(), Fault> {
+        match said {
+            "state" => return Ok(tell_state_of(alloc, out, &self.book)?),
+            "queues" => return Ok(tell_queues_of(alloc, out, &self.book)?),
+            "journal" => return Ok(tell_journal(out, &self.book)?),
+            "base" => return Ok(tell_state(out, &self.book.journal().base)?),
+            "entries" => return Ok(tell_entries(out, self.book.journal().entries.as_slice())?),
+            "checkpoint" => return Ok(tell_retired(out, self.book.checkpoint(alloc))?),
+            _ => {}
+        }
+        if let Some(count) = said.strip_prefix("minutes ") {
+            return self.end_minutes(alloc, count, out);
+        }
+        match said.strip_prefix("log ") {
+            Some(said) => self.log(alloc, said, out),
+            None => self.ask(alloc, said, out),
+        }
+    }
 }
 
-/// How many entries a journal had that has begun anew.
-fn retired(journal: Result<Box<Journal>, AllocError>) -> Result<usize, Fault> {
-    let journal = journal?;
+/// The first wrong line of a text, as a book is told it that is opened with these settings, and how many entries its journal has then. It has no
+/// peer or one.
+fn plays(
+    alloc: Global,
+    config: Result<Config, Fault>,
+    has_peer: bool,
+    text: &str,
+) -> Result<(Option<usize>, usize), Fault> {
+    let words = Vec::from_slice(alloc, [3u64, 0].as_slice())?;
+    let book = Book::open(alloc, config?, 0, u32::from(has_peer))?;
+    let mut desk = Desk {
+        book,
+        chooser: ListChooser::new(words),
+    };
+    let wrong = first_wrong(alloc, &mut desk, text);
+    let Desk { book, chooser: _ } = desk;
+    let journal = book.into_journal();
     let entries = journal.entries.len();
     drop(journal);
-    Ok(entries)
+    Ok((wrong, entries))
 }
 
-/// A book that was told so many minutes: its journal then, how many entries a checkpoint takes from it, and its journal after that.
-fn after_minute(alloc: Global, times: usize) -> Result<(Extent, usize, Extent), Fault> {
-    let mut book = opened(alloc)?;
-    end_minute(alloc, &mut book, times);
-    let before = extent(&book);
-    let taken = retired(book.checkpoint(alloc));
-    let after = extent(&book);
-    drop(book);
-    Ok((before, taken?, after))
+/// Without self-preservation, half of the leases may go in an eviction.
+fn half() -> Result<Config, Fault> {
+    Config::new(false, 50, 30, 60_000)
 }
+
+const ENTRIES: &str = r#"3 register 7 A i1 10 UP UNKNOWN 5 c = 0 Registered { fresh: true }
+4 renew 8 A i1 4 - r = 1 Conflict 5
+entries = 3 0 7 Register Registered { fresh: true };4 1 8 Renew Conflict 5;"#;
 
 #[test]
-fn a_full_journal_begins_anew(rt: HostRuntime) {
-    let full = ((0, 65_536, 0, 65_536), 65_536, (65_536, 0, 0, 65_536));
-    assert!(rt; after_minute(rt.alloc(), MOST_ENTRIES) == Ok(full));
-    let more = ((65_536, 1, 0, 65_537), 1, (65_537, 0, 0, 65_537));
-    assert!(rt; after_minute(rt.alloc(), MOST_ENTRIES + 1) == Ok(more));
+fn each_command_is_an_entry(rt: HostRuntime) {
+    assert_eq!(rt; plays(rt.alloc(), half(), false, ENTRIES), Ok((None, 2)));
 }
 
-/// Whether the book that was played begins its journal anew with what is left, and goes on with the eighth step.
-fn goes_on(alloc: Global) -> Result<bool, Fault> {
-    let mut book = played(alloc)?;
-    let taken = retired(book.checkpoint(alloc));
-    let left = is_left(&book.journal().base);
-    let more = first(alloc, &mut book, Step::Register("i1"));
-    let extent = extent(&book);
-    let totals = book.totals();
-    drop(book);
-    Ok(
-        taken == Ok(7)
-            && left
-            && more == (7, "other")
-            && extent == (7, 1, 2, 8)
-            && (totals.counted, totals.added, totals.removed) == (1, 4, 2),
-    )
-}
+/// Of four leases one is renewed, and two go.
+const PLAYED: &str = r#"0 register 0 A i1 10 UP UNKNOWN 5 c = 0 Registered { fresh: true }
+0 register 0 A i2 10 UP UNKNOWN 5 c = 1 Registered { fresh: true }
+0 register 0 A i3 10 UP UNKNOWN 5 c = 2 Registered { fresh: true }
+0 register 0 A i4 10 UP UNKNOWN 5 c = 3 Registered { fresh: true }
+0 renew 0 A i1 5 - r = 4 Done
+0 roll 0 = 5 Last(1)
+1 evict 90000 = 6 Evicted i4 i2
+entries = 0 0 0 Register Registered { fresh: true };0 1 0 Register Registered { fresh: true };0 2 0 Register Registered { fresh: true };0 3 0 Register Registered { fresh: true };0 4 0 Renew Done;0 5 0 EndMinute Last(1);1 6 90000 Evict Evicted i4 i2;
+journal = 0 7 0 Tally { steps: 7, counted: 1, added: 4, removed: 2 }
+0 counts 0 = Counts { held: 2, expected: 0, threshold: 0, last: 1, permitted: true, preservation: false }
+0 look 10000 A i1 = A/i1 UP UNKNOWN 5 10 30 Rest { members: OfHost("i1") } 0 10000 0;
+0 look 10001 A i3 = none
+0 all 90000 = A/i1 UP UNKNOWN 5 10 30 Rest { members: OfHost("i1") } 0 10000 0;A/i3 UP UNKNOWN 5 10 30 Rest { members: OfHost("i3") } 0 0 0;
+state = false 50 30 60000 expected 0 last 1 since 0 previous Some(90000);A/i1 UP UNKNOWN 5 10 30 Rest { members: OfHost("i1") } 0 10000 0;A/i3 UP UNKNOWN 5 10 30 Rest { members: OfHost("i3") } 0 0 0;
+base = false 50 30 60000 expected 0 last 0 since 0 previous None;
+checkpoint = 7
+base = false 50 30 60000 expected 0 last 1 since 0 previous Some(90000);A/i1 UP UNKNOWN 5 10 30 Rest { members: OfHost("i1") } 0 10000 0;A/i3 UP UNKNOWN 5 10 30 Rest { members: OfHost("i3") } 0 0 0;
+0 register 0 A i1 10 UP UNKNOWN 5 c = 7 Registered { fresh: false }
+journal = 7 1 2 Tally { steps: 8, counted: 1, added: 4, removed: 2 }
+0 page 0 = Counts { held: 2, expected: 0, threshold: 0, last: 1, permitted: true, preservation: false } StatusCounts { up: 2, down: 0, starting: 0, out_of_service: 0, unknown: 0 }
+0 set 0 A i1 OUT_OF_SERVICE - c = 8 Done
+0 page 0 = Counts { held: 2, expected: 0, threshold: 0, last: 1, permitted: true, preservation: false } StatusCounts { up: 1, down: 0, starting: 0, out_of_service: 1, unknown: 0 }"#;
 
 #[test]
-fn a_checkpoint_keeps_what_is_left(rt: HostRuntime) {
-    assert!(rt; goes_on(rt.alloc()) == Ok(true));
+fn a_checkpoint_keeps_what_an_eviction_left(rt: HostRuntime) {
+    assert_eq!(rt; plays(rt.alloc(), half(), false, PLAYED), Ok((None, 2)));
 }
 
-/// Whether i1 alone has an override, which is OUT_OF_SERVICE.
-fn has_override(state: &State) -> bool {
-    match state.overrides.as_slice() {
-        [row] => row.0.as_str() == "i1" && row.1 == Status::OutOfService,
-        _ => false,
-    }
-}
-
-/// Whether the registry is shown with it.
-fn shows_override(alloc: Global, book: &Book) -> Result<bool, Fault> {
-    let state = book.state(alloc)?;
-    let shows = has_override(&state);
-    drop(state);
-    Ok(shows)
-}
-
-/// Whether a book in which i1 was set so begins its journal anew with the override.
-fn keeps_override(alloc: Global) -> Result<bool, Fault> {
-    let mut book = opened(alloc)?;
-    first(alloc, &mut book, Step::Register("i1"));
-    let set = first(alloc, &mut book, Step::Set);
-    let taken = retired(book.checkpoint(alloc));
-    let is_based = has_override(&book.journal().base);
-    let shows = shows_override(alloc, &book);
-    drop(book);
-    Ok(set == (1, "done") && taken == Ok(2) && is_based && shows?)
-}
+const OVERRIDDEN: &str = r#"0 register 0 A i1 10 UP UNKNOWN 5 c = 0 Registered { fresh: true }
+0 set 0 A i1 OUT_OF_SERVICE - c = 1 Done
+checkpoint = 2
+base = false 50 30 60000 expected 0 last 0 since 0 previous None;A/i1 OUT_OF_SERVICE OUT_OF_SERVICE 5 10 30 Rest { members: OfHost("i1") } 0 10000 0;i1=OUT_OF_SERVICE;
+state = false 50 30 60000 expected 0 last 0 since 0 previous None;A/i1 OUT_OF_SERVICE OUT_OF_SERVICE 5 10 30 Rest { members: OfHost("i1") } 0 10000 0;i1=OUT_OF_SERVICE;"#;
 
 #[test]
 fn a_checkpoint_keeps_overrides(rt: HostRuntime) {
-    assert!(rt; keeps_override(rt.alloc()) == Ok(true));
+    assert_eq!(rt; plays(rt.alloc(), half(), false, OVERRIDDEN), Ok((None, 0)));
 }
 
-/// Whether a command that is refused leaves a full journal as it is, and the next one that isn't has it begin anew and hands it out.
-fn hands_out(alloc: Global) -> Result<bool, Fault> {
-    let mut book = opened(alloc)?;
-    end_minute(alloc, &mut book, MOST_ENTRIES);
-    let refused = first(alloc, &mut book, Step::Drain);
-    let kept = extent(&book);
-    let (one, mine) = (Command::EndMinute, Command::EndMinute);
-    let answer = book.apply_logged(alloc, 0, one, mine, at(0), &mut FirstChooser);
-    let handed = entries_handed(&answer);
-    drop(answer);
-    let begun = extent(&book);
-    drop(book);
-    Ok(
-        refused == (15, "refused")
-            && kept == (0, 65_536, 0, 65_536)
-            && handed == Some(65_536)
-            && begun == (65_536, 1, 0, 65_537),
-    )
+const FULL: &str =
+    r#"minutes 65536 = 0 65536 0 Tally { steps: 65536, counted: 0, added: 0, removed: 0 }
+checkpoint = 65536
+journal = 65536 0 0 Tally { steps: 65536, counted: 0, added: 0, removed: 0 }
+minutes 65537 = 131072 1 0 Tally { steps: 131073, counted: 0, added: 0, removed: 0 }
+checkpoint = 1
+journal = 131073 0 0 Tally { steps: 131073, counted: 0, added: 0, removed: 0 }"#;
+
+#[test]
+fn a_full_journal_begins_anew(rt: HostRuntime) {
+    assert_eq!(rt; plays(rt.alloc(), half(), false, FULL), Ok((None, 0)));
 }
 
-/// How many entries a journal had that is handed out with an answer.
-fn entries_handed(answer: &Result<LoggedReceipt, Fault>) -> Option<usize> {
-    match answer {
-        Ok(
-            LoggedReceipt {
-                retired: Some(journal),
-                ..
-            },
-        ) => Some(journal.entries.len()),
-        _ => None,
-    }
-}
+const REFUSED: &str =
+    r#"minutes 65536 = 0 65536 0 Tally { steps: 65536, counted: 0, added: 0, removed: 0 }
+0 drain 0 0 = refused 15
+journal = 0 65536 0 Tally { steps: 65536, counted: 0, added: 0, removed: 0 }
+log 0 roll 0 = 65536 Last(0), 65536 0 EndMinute Last(0), 65536
+journal = 65536 1 0 Tally { steps: 65537, counted: 0, added: 0, removed: 0 }"#;
 
 #[test]
 fn a_refused_command_leaves_a_full_journal(rt: HostRuntime) {
-    assert!(rt; hands_out(rt.alloc()) == Ok(true));
+    assert_eq!(rt; plays(rt.alloc(), half(), false, REFUSED), Ok((None, 1)));
 }
 
-/// With one peer.
-pub fn opened_with_peer(alloc: Global) -> Result<Book, Fault> {
-    let config = settings()?;
-    Ok(Book::open(alloc, config, 0, 1)?)
-}
-
-/// The number, the moment, and the reply in a word, of what a log keeps; whether that is what the caller is told, and is of a drain.
-fn kept(receipt: &Receipt, logged: &Logged) -> (u64, u64, &'static str, bool) {
-    let word_told = word(&receipt.reply);
-    let word_kept = word(&logged.reply);
-    let same = receipt.number == logged.number && word_told == word_kept;
-    let drains = matches!(logged.command, Command::Drain { peer: 0 });
-    (logged.number, logged.moment.ms(), word_kept, same && drains)
-}
-
-/// The same of an answer, or the number of the fault.
-fn logged(answer: &Result<LoggedReceipt, Fault>) -> (u64, u64, &'static str, bool) {
-    match answer {
-        Ok(told) => kept(&told.receipt, &told.logged),
-        Err(fault) => (u64::from(fault.number()), 0, "refused", false),
-    }
-}
-
-/// The same of a drain at a moment.
-fn drained_logged(alloc: Global, book: &mut Book, now: Moment) -> (u64, u64, &'static str, bool) {
-    let drain = Command::Drain { peer: 0 };
-    let mine = Command::Drain { peer: 0 };
-    let answer = book.apply_logged(alloc, 5, drain, mine, now, &mut FirstChooser);
-    let logged = logged(&answer);
-    drop(answer);
-    logged
-}
-
-/// Whether three drains, of which a registration precedes the second, are logged and answered so.
-fn logs_drains(alloc: Global, book: &mut Book) -> bool {
-    let none = drained_logged(alloc, book, at(1));
-    let comes = first(alloc, book, Step::Register("i1"));
-    let one = drained_logged(alloc, book, at(2));
-    let again = drained_logged(alloc, book, at(3));
-    none == (9, 0, "refused", false)
-        && comes == (0, "new")
-        && one == (1, 2, "Register", true)
-        && again == (8, 0, "refused", false)
-        && book.totals().steps == 2
-}
-
-/// Whether a new book does so.
-fn opens_and_logs_drains(alloc: Global) -> Result<bool, Fault> {
-    let mut book = opened_with_peer(alloc)?;
-    let logs = logs_drains(alloc, &mut book);
-    drop(book);
-    Ok(logs)
-}
+const LOGGED: &str = r#"log 5 drain 1 0 = refused 9
+0 register 0 A i1 10 UP UNKNOWN 5 c = 0 Registered { fresh: true }
+log 5 drain 2 0 = 1 Batch Register i1, 1 2 Drain { peer: 0 } Batch Register i1
+log 5 drain 3 0 = refused 8
+journal = 0 2 0 Tally { steps: 2, counted: 0, added: 1, removed: 0 }"#;
 
 #[test]
 fn a_log_keeps_what_is_told(rt: HostRuntime) {
-    assert!(rt; opens_and_logs_drains(rt.alloc()) == Ok(true));
+    assert_eq!(rt; plays(rt.alloc(), settings(), true, LOGGED), Ok((None, 2)));
 }
 
-fn lengths(queues: &[Queue]) -> (usize, usize) {
-    match queues {
-        [queue] => (
-            queue.waiting.as_slice().len(),
-            queue.flight.as_slice().len(),
-        ),
-        _ => (0, 0),
-    }
-}
-
-/// How many tasks wait for the only peer, and how many are in flight to it.
-fn queued(alloc: Global, book: &Book) -> Result<(usize, usize), Fault> {
-    let state = book.state(alloc)?;
-    let lengths = lengths(state.queues.as_slice());
-    drop(state);
-    Ok(lengths)
-}
-
-/// A step with its answer, and how many tasks wait for the only peer and are in flight to it afterwards.
-type Told = (Step, (u64, &'static str), (usize, usize));
-
-/// Whether each step is answered so, and so many tasks wait and are in flight after it.
-fn answers(alloc: Global, book: &mut Book, steps: &[Told]) -> bool {
-    let mut holds = true;
-    for (step, answer, tasks) in steps {
-        let told = first(alloc, book, *step);
-        holds = holds && told == *answer && queued(alloc, book) == Ok(*tasks);
-    }
-    holds
-}
-
-/// Whether a new book with one peer answers so, and has made so many steps then.
-fn opens_and_answers(alloc: Global, steps: &[Told], made: u64) -> Result<bool, Fault> {
-    let mut book = opened_with_peer(alloc)?;
-    let answers = answers(alloc, &mut book, steps);
-    let totals = book.totals();
-    drop(book);
-    Ok(answers && totals.steps == made)
-}
-
-const LANDED: [Told; 4] = [
-    (Step::Register("i1"), (0, "new"), (1, 0)),
-    (Step::Renew(4), (1, "conflict"), (1, 0)),
-    (Step::Drain, (2, "Register"), (0, 1)),
-    (Step::Land(200), (3, "settled"), (0, 0)),
-];
+const LANDED: &str = r#"0 register 0 A i1 10 UP UNKNOWN 5 c = 0 Registered { fresh: true }
+queues = 1+0;
+0 renew 0 A i1 4 - r = 1 Conflict 5
+queues = 1+0;
+0 drain 0 0 = 2 Batch Register i1
+queues = 0+1;
+0 landed 0 0 200 = 3 Settled
+queues = 0+0;
+journal = 0 4 0 Tally { steps: 4, counted: 1, added: 1, removed: 0 }"#;
 
 #[test]
 fn peers_are_told_what_clients_do(rt: HostRuntime) {
-    assert!(rt; opens_and_answers(rt.alloc(), LANDED.as_slice(), 4) == Ok(true));
+    assert_eq!(rt; plays(rt.alloc(), settings(), true, LANDED), Ok((None, 4)));
 }
 
-const LOST: [Told; 4] = [
-    (Step::Register("i1"), (0, "new"), (1, 0)),
-    (Step::Drain, (1, "Register"), (0, 1)),
-    (Step::Drain, (8, "refused"), (0, 1)),
-    (Step::Lose, (2, "settled"), (1, 0)),
-];
+const LOST: &str = r#"0 register 0 A i1 10 UP UNKNOWN 5 c = 0 Registered { fresh: true }
+queues = 1+0;
+0 drain 0 0 = 1 Batch Register i1
+queues = 0+1;
+0 drain 0 0 = refused 8
+queues = 0+1;
+0 lost 0 0 = 2 Settled
+queues = 1+0;
+journal = 0 3 0 Tally { steps: 3, counted: 0, added: 1, removed: 0 }"#;
 
 #[test]
 fn lost_batches_wait_again(rt: HostRuntime) {
-    assert!(rt; opens_and_answers(rt.alloc(), LOST.as_slice(), 3) == Ok(true));
+    assert_eq!(rt; plays(rt.alloc(), settings(), true, LOST), Ok((None, 3)));
 }
 
-/// What a drain is answered where there is no peer, and how many steps were made then.
-fn drained_alone(alloc: Global) -> Result<((u64, &'static str), u64), Fault> {
-    let mut book = opened(alloc)?;
-    let told = first(alloc, &mut book, Step::Drain);
-    let steps = book.totals().steps;
-    drop(book);
-    Ok((told, steps))
-}
+const ALONE: &str = r#"0 drain 0 0 = refused 15
+journal = 0 0 0 Tally { steps: 0, counted: 0, added: 0, removed: 0 }"#;
 
 #[test]
 fn there_is_no_such_peer(rt: HostRuntime) {
-    assert!(rt; drained_alone(rt.alloc()) == Ok(((15, "refused"), 0)));
+    assert_eq!(rt; plays(rt.alloc(), half(), false, ALONE), Ok((None, 0)));
 }
 
-const CHANGED: [Told; 4] = [
-    (Step::Reconfigure, (0, "done"), (0, 0)),
-    (Step::Register("i1"), (1, "new"), (1, 0)),
-    (Step::Reconfigure, (2, "done"), (1, 0)),
-    (Step::Drain, (3, "Register"), (0, 1)),
-];
+const CHANGED: &str = r#"0 config 0 off 50 15 7 = 0 Done
+queues = 0+0;
+base = true 85 30 60000 expected 0 last 0 since 0 previous None;0+0;
+checkpoint = 1
+base = false 50 15 7 expected 0 last 0 since 0 previous None;0+0;
+journal = 1 0 0 Tally { steps: 1, counted: 0, added: 0, removed: 0 }
+0 register 0 A i1 10 UP UNKNOWN 5 c = 1 Registered { fresh: true }
+queues = 1+0;
+0 config 0 off 50 15 7 = 2 Done
+queues = 1+0;
+0 drain 0 0 = 3 Batch Register i1
+queues = 0+1;"#;
 
 #[test]
-fn peers_are_told_of_no_settings(rt: HostRuntime) {
-    assert!(rt; opens_and_answers(rt.alloc(), CHANGED.as_slice(), 4) == Ok(true));
-}
-
-fn has_new_settings(state: &State) -> bool {
-    let config = state.config;
-    !config.preservation
-        && config.percent.value() == 50
-        && config.interval.secs() == 15
-        && config.evict_ms == 7
-}
-
-/// Whether a journal begins anew with the settings that the first step gave, which is counted as one step and no more.
-fn begins_with_new_settings(alloc: Global) -> Result<bool, Fault> {
-    let mut book = opened_with_peer(alloc)?;
-    let told = first(alloc, &mut book, Step::Reconfigure);
-    let old = has_new_settings(&book.journal().base);
-    let taken = retired(book.checkpoint(alloc));
-    let new = has_new_settings(&book.journal().base);
-    let totals = book.totals();
-    drop(book);
-    let sums = (totals.steps, totals.counted, totals.added, totals.removed);
-    Ok(told == (0, "done") && !old && taken == Ok(1) && new && sums == (1, 0, 0, 0))
-}
-
-#[test]
-fn a_checkpoint_keeps_new_settings(rt: HostRuntime) {
-    assert!(rt; begins_with_new_settings(rt.alloc()) == Ok(true));
+fn a_checkpoint_keeps_new_settings_and_peers_are_told_of_none(rt: HostRuntime) {
+    assert_eq!(rt; plays(rt.alloc(), settings(), true, CHANGED), Ok((None, 3)));
 }

@@ -1,10 +1,10 @@
 //! Want of memory. In a usual run no allocation is refused; `tools/sweep_memory.sh` refuses one after another.
-use crate::tests::book::{Step, command, extent, opened_with_peer, word};
-use eu_base::{App, Fault, MOST_ENTRIES};
+use crate::tests::lines::read_ask;
+use eu_base::{Fault, MOST_ENTRIES, Moment};
 use eu_book::Book;
 use eu_clock::FirstChooser;
-use eu_fixtures::{at, key, pause_or_go_on};
-use eu_model::{Command, Entry, Query, State, View};
+use eu_fixtures::{at, pause_or_go_on, settings};
+use eu_model::{Ask, Command, Query, Reply, View};
 use std::alloc::{AllocError, Global};
 
 /// A book, and another that was told the same.
@@ -14,25 +14,43 @@ struct Twins {
     other: Book,
 }
 
-/// What a book is told.
-#[derive(Clone, Copy)]
-enum Line {
-    Tell(Step),
-    /// A minute ends, and a log is kept.
-    Log,
-}
-
-/// What a call answers: the number of the entry, and the reply in a word.
+/// What a call answers: the number of the entry, and the reply in a word; or the number of the leases that are seen.
 type Told = Result<(u64, &'static str), Fault>;
 
-fn tell_step(alloc: Global, book: &mut Book, step: Step) -> Told {
-    let command = command(alloc, step)?;
-    let receipt = book.apply(alloc, 0, command, at(0), &mut FirstChooser)?;
+fn word(reply: &Reply) -> &'static str {
+    match reply {
+        Reply::Registered { fresh: true } => "new",
+        Reply::Done => "done",
+        Reply::Conflict(_) => "conflict",
+        Reply::Batch(tasks) => match tasks.as_slice() {
+            [task] => task.action.name(),
+            _ => "tasks",
+        },
+        Reply::Settled => "settled",
+        _ => "other",
+    }
+}
+
+fn apply(alloc: Global, book: &mut Book, command: Command, now: Moment) -> Told {
+    let receipt = book.apply(alloc, 0, command, now, &mut FirstChooser)?;
     let told = (receipt.number, word(&receipt.reply));
     drop(receipt);
     Ok(told)
 }
 
+fn read(alloc: Global, book: &Book, query: &Query, now: Moment) -> Told {
+    let view = book.read(alloc, query, now)?;
+    let number = match &view {
+        View::One(None) => 0,
+        View::One(Some(_)) => 1,
+        View::OfApp(all) | View::All(all) => all.as_slice().len() as u64,
+        View::Counts(_) | View::Page(_, _) => 100,
+    };
+    drop(view);
+    Ok((number, "seen"))
+}
+
+/// A minute ends, and a log is kept.
 fn log(alloc: Global, book: &mut Book) -> Told {
     let (command, mine) = (Command::EndMinute, Command::EndMinute);
     let logged = book.apply_logged(alloc, 0, command, mine, at(0), &mut FirstChooser)?;
@@ -41,51 +59,48 @@ fn log(alloc: Global, book: &mut Book) -> Told {
     Ok(told)
 }
 
-fn tell(alloc: Global, book: &mut Book, line: Line) -> Told {
-    match line {
-        Line::Tell(step) => tell_step(alloc, book, step),
-        Line::Log => log(alloc, book),
-    }
+/// The journal begins anew.
+fn checkpoint(alloc: Global, book: &mut Book) -> Told {
+    let journal = book.checkpoint(alloc)?;
+    drop(journal);
+    Ok((0, "begun"))
 }
 
-fn same_entry(one: &Entry, other: &Entry) -> bool {
-    (one.pass, one.number, one.moment.ms()) == (other.pass, other.number, other.moment.ms())
-        && one.command.same(&other.command)
-        && one.reply.same(&other.reply)
-}
-
-fn same_entries(some: &[Entry], others: &[Entry]) -> bool {
-    for (one, other) in some.iter().zip(others) {
-        if !same_entry(one, other) {
-            return false;
+fn ask(alloc: Global, book: &mut Book, words: &str) -> Told {
+    let (moment, ask) = read_ask(alloc, words)?;
+    match ask {
+        Ask::Do(command) => apply(alloc, book, command, moment),
+        Ask::See(query) => {
+            let told = read(alloc, book, &query, moment);
+            drop(query);
+            told
         }
     }
-    some.len() == others.len()
 }
 
-fn text(alloc: Global, state: &State) -> Result<String, AllocError> {
-    format!(in alloc; "{state:?}")
+/// Tells a book these words, as a script has them.
+fn tell(alloc: Global, book: &mut Book, words: &str) -> Told {
+    match words {
+        "checkpoint" => checkpoint(alloc, book),
+        "log" => log(alloc, book),
+        words => ask(alloc, book, words),
+    }
 }
 
-fn same_state(alloc: Global, one: &State, other: &State) -> Result<bool, AllocError> {
-    let one = text(alloc, one)?;
-    let other = text(alloc, other)?;
-    Ok(one.as_str() == other.as_str())
-}
-
-fn same_journal(alloc: Global, twins: &Twins) -> Result<bool, AllocError> {
-    let (one, other) = (twins.tried.journal(), twins.other.journal());
-    let bases = same_state(alloc, &one.base, &other.base)?;
-    Ok(bases && one.first == other.first && same_entries(&one.entries, &other.entries))
+/// Everything that a book holds, as a text.
+fn shown(alloc: Global, book: &Book) -> Result<String, AllocError> {
+    let state = book.state(alloc)?;
+    let (journal, totals) = (book.journal(), book.totals());
+    let text = format!(in alloc; "{state:?} {journal:?} {totals:?}");
+    drop(state);
+    text
 }
 
 /// Whether both books have the same state, journal and totals.
 fn are_same(alloc: Global, twins: &Twins) -> Result<bool, AllocError> {
-    let one = twins.tried.state(alloc)?;
-    let other = twins.other.state(alloc)?;
-    let states = same_state(alloc, &one, &other)?;
-    let journals = same_journal(alloc, twins)?;
-    Ok(states && journals && twins.tried.totals() == twins.other.totals())
+    let one = shown(alloc, &twins.tried)?;
+    let other = shown(alloc, &twins.other)?;
+    Ok(one.as_str() == other.as_str())
 }
 
 /// The same, at the second try where the first finds no memory.
@@ -96,150 +111,137 @@ fn stay_same(alloc: Global, twins: &Twins) -> bool {
     }
 }
 
-/// Makes a call once more where it found no memory, if that changed nothing. `Mismatch` where it did.
-fn told(alloc: Global, twins: &mut Twins, line: Line) -> Told {
-    let told = tell(alloc, &mut twins.tried, line);
-    if told != Err(Fault::OutOfMemory) {
-        return told;
+/// Tells a book once more what found no memory.
+fn tell_twice(alloc: Global, book: &mut Book, words: &str) -> Told {
+    match tell(alloc, book, words) {
+        Err(Fault::OutOfMemory) => tell(alloc, book, words),
+        told => told,
     }
-    if !are_same(alloc, twins)? {
-        return Err(Fault::Mismatch);
-    }
-    tell(alloc, &mut twins.tried, line)
 }
 
-/// The same of both. `Mismatch` where they answer otherwise.
-fn both_lines(alloc: Global, twins: &mut Twins, line: Line) -> Told {
-    let answer = told(alloc, twins, line);
-    let mut again = tell(alloc, &mut twins.other, line);
-    if again == Err(Fault::OutOfMemory) {
-        again = tell(alloc, &mut twins.other, line);
+/// Tells both, the first once more where it found no memory, if that changed nothing. `Mismatch` where it did, or where they answer otherwise.
+fn both(alloc: Global, twins: &mut Twins, words: &str) -> Told {
+    let mut answer = tell(alloc, &mut twins.tried, words);
+    if answer == Err(Fault::OutOfMemory) {
+        if !are_same(alloc, twins)? {
+            return Err(Fault::Mismatch);
+        }
+        answer = tell(alloc, &mut twins.tried, words);
     }
-    if answer != again {
+    if tell_twice(alloc, &mut twins.other, words) != answer {
         return Err(Fault::Mismatch);
     }
     answer
 }
 
-fn both(alloc: Global, twins: &mut Twins, step: Step) -> Told {
-    both_lines(alloc, twins, Line::Tell(step))
-}
-
-/// The journal is taken from both, at the second try where the first finds no memory.
-fn checkpoint(alloc: Global, twins: &mut Twins) -> bool {
-    let taken = twins.tried.checkpoint(alloc).is_ok();
-    let same = taken || are_same(alloc, twins) == Ok(true) && twins.tried.checkpoint(alloc).is_ok();
-    same && (twins.other.checkpoint(alloc).is_ok() || twins.other.checkpoint(alloc).is_ok())
+/// Whether both are told so, and stay the same.
+fn are_told(alloc: Global, twins: &mut Twins, lines: &[(&str, Told)]) -> bool {
+    for (words, told) in lines {
+        if both(alloc, twins, words) != *told {
+            return false;
+        }
+    }
+    stay_same(alloc, twins)
 }
 
 /// Minutes end until the journal is full. Whether each is an entry.
 fn fill(alloc: Global, twins: &mut Twins) -> bool {
     for number in 2..MOST_ENTRIES as u64 {
-        if both(alloc, twins, Step::EndMinute) != Ok((number, "other")) {
+        if both(alloc, twins, "roll 0") != Ok((number, "other")) {
             return false;
         }
     }
     true
 }
 
-/// A client registers and is set OUT_OF_SERVICE, and minutes end until the journal is full. None of this is refused memory.
-fn begin(alloc: Global, twins: &mut Twins) -> bool {
-    pause_or_go_on(alloc)
-        && both(alloc, twins, Step::Register("i1")) == Ok((0, "new"))
-        && both(alloc, twins, Step::Set) == Ok((1, "done"))
-        && fill(alloc, twins)
-        && pause_or_go_on(alloc)
-}
+/// A client registers and is set OUT_OF_SERVICE.
+const BEGUN: [(&str, Told); 2] = [
+    ("register 0 A i1 10 UP UNKNOWN 5 c", Ok((0, "new"))),
+    ("set 0 A i1 OUT_OF_SERVICE - c", Ok((1, "done"))),
+];
 
 /// With a minute more the journal begins anew, and then once more.
+const ANEW: [(&str, Told); 2] = [
+    ("roll 0", Ok((65_536, "other"))),
+    ("checkpoint", Ok((0, "begun"))),
+];
+
+/// Where a journal begins, how many entries it has, how many leases its base has, and how many steps were made in all.
+fn extent(book: &Book) -> (u64, usize, usize, u64) {
+    let journal = book.journal();
+    let leases = journal.base.leases.as_slice().len();
+    (
+        journal.first,
+        journal.entries.len(),
+        leases,
+        book.totals().steps,
+    )
+}
+
+/// Minutes end until the journal is full, of which none is refused memory.
 fn begin_anew(alloc: Global, twins: &mut Twins) -> bool {
-    begin(alloc, twins)
-        && both(alloc, twins, Step::EndMinute) == Ok((65_536, "other"))
+    pause_or_go_on(alloc);
+    let begun = are_told(alloc, twins, BEGUN.as_slice()) && fill(alloc, twins);
+    pause_or_go_on(alloc);
+    begun
+        && are_told(alloc, twins, &ANEW[..1])
         && extent(&twins.tried) == (65_536, 1, 1, 65_537)
-        && stay_same(alloc, twins)
-        && checkpoint(alloc, twins)
+        && are_told(alloc, twins, &ANEW[1..])
         && extent(&twins.tried) == (65_537, 0, 1, 65_537)
-        && stay_same(alloc, twins)
 }
 
-/// How many leases a view has; of another view 100.
-fn number(view: &View) -> usize {
-    match view {
-        View::One(None) => 0,
-        View::One(Some(_)) => 1,
-        View::OfApp(all) => all.as_slice().len(),
-        View::All(all) => all.as_slice().len(),
-        View::Counts(_) | View::Page(_, _) => 100,
-    }
+/// A client registers, and the peer is told; the client is set OUT_OF_SERVICE, which is lost; another client registers. A peer's renewal meets a
+/// greater stamp; two minutes end, with a log and without; the settings are changed, and an eviction finds nobody.
+const PLAYED: [(&str, Told); 18] = [
+    ("register 0 A i1 10 UP UNKNOWN 5 c", Ok((0, "new"))),
+    ("drain 0 0", Ok((1, "Register"))),
+    ("drain 0 0", Err(Fault::Busy)),
+    ("set 0 A i1 OUT_OF_SERVICE - c", Ok((2, "done"))),
+    ("landed 0 0 200", Ok((3, "settled"))),
+    ("drain 0 0", Ok((4, "StatusUpdate"))),
+    ("lost 0 0", Ok((5, "settled"))),
+    ("register 0 A i2 10 UP UNKNOWN 5 c", Ok((6, "new"))),
+    ("look 0 A i1", Ok((1, "seen"))),
+    ("of 0 A", Ok((2, "seen"))),
+    ("all 0", Ok((2, "seen"))),
+    ("counts 0", Ok((100, "seen"))),
+    ("renew 0 A i1 4 - r", Ok((7, "conflict"))),
+    ("log", Ok((8, "other"))),
+    ("roll 0", Ok((9, "other"))),
+    ("config 0 off 50 15 7", Ok((10, "done"))),
+    ("evict 0", Ok((11, "other"))),
+    ("checkpoint", Ok((0, "begun"))),
+];
+
+/// Then an override is taken back, one client comes, a peer tells of one, and one leaves; the peer is told of all, which is lost.
+const LATER: [(&str, Told); 9] = [
+    ("unset 0 A i1 UP - c", Ok((12, "done"))),
+    ("register 0 A i3 10 UP UNKNOWN 5 c", Ok((13, "new"))),
+    ("adopt 0 A i4 10 UP UNKNOWN 5", Ok((14, "new"))),
+    ("cancel 0 A i2 c", Ok((15, "done"))),
+    ("drain 0 0", Ok((16, "tasks"))),
+    ("of 0 B", Ok((0, "seen"))),
+    ("page 0", Ok((100, "seen"))),
+    ("lost 0 0", Ok((17, "settled"))),
+    ("checkpoint", Ok((0, "begun"))),
+];
+
+/// A book with one peer.
+fn open(alloc: Global) -> Result<Book, Fault> {
+    Ok(Book::open(alloc, settings()?, 0, 1)?)
 }
 
-/// The same of what a query is answered.
-fn read(alloc: Global, book: &Book, query: Query) -> Result<usize, Fault> {
-    let view = book.read(alloc, &query, at(0));
-    drop(query);
-    let view = view?;
-    let number = number(&view);
-    drop(view);
-    Ok(number)
-}
-
-/// How many leases are seen of i1, of application A, of all, and with the counts.
-fn see(alloc: Global, book: &Book) -> Result<(usize, usize, usize, usize), Fault> {
-    let one = read(alloc, book, Query::One(key(alloc, "i1")?))?;
-    let own = read(alloc, book, Query::OfApp(App::read(alloc, "A")?))?;
-    let all = read(alloc, book, Query::All)?;
-    Ok((one, own, all, read(alloc, book, Query::Counts)?))
-}
-
-/// Whether two are seen, at the second try where the first finds no memory.
-fn are_seen(alloc: Global, book: &Book) -> bool {
-    let mut seen = see(alloc, book);
-    if seen == Err(Fault::OutOfMemory) {
-        seen = see(alloc, book);
-    }
-    seen == Ok((1, 2, 2, 100))
-}
-
-/// A client registers, and the peer is told; the client is set OUT_OF_SERVICE, which is lost; another client registers.
-fn play_first(alloc: Global, twins: &mut Twins) -> bool {
-    both(alloc, twins, Step::Register("i1")) == Ok((0, "new"))
-        && both(alloc, twins, Step::Drain) == Ok((1, "Register"))
-        && both(alloc, twins, Step::Drain) == Err(Fault::Busy)
-        && both(alloc, twins, Step::Set) == Ok((2, "done"))
-        && both(alloc, twins, Step::Land(200)) == Ok((3, "settled"))
-        && both(alloc, twins, Step::Drain) == Ok((4, "StatusUpdate"))
-        && both(alloc, twins, Step::Lose) == Ok((5, "settled"))
-        && both(alloc, twins, Step::Register("i2")) == Ok((6, "new"))
-        && are_seen(alloc, &twins.tried)
-}
-
-/// A peer's renewal meets a greater stamp; two minutes end, with a log and without; the settings are changed, and an eviction finds nobody.
-fn play_second(alloc: Global, twins: &mut Twins) -> bool {
-    both(alloc, twins, Step::Renew(4)) == Ok((7, "conflict"))
-        && both_lines(alloc, twins, Line::Log) == Ok((8, "other"))
-        && both(alloc, twins, Step::EndMinute) == Ok((9, "other"))
-        && both(alloc, twins, Step::Reconfigure) == Ok((10, "done"))
-        && both(alloc, twins, Step::Evict) == Ok((11, "other"))
-        && stay_same(alloc, twins)
-        && checkpoint(alloc, twins)
-        && stay_same(alloc, twins)
-}
-
-fn play(alloc: Global, twins: &mut Twins) -> bool {
-    play_first(alloc, twins) && play_second(alloc, twins)
-}
-
-/// A book, at the second try where the first finds no memory.
-fn opened(alloc: Global) -> Result<Book, Fault> {
-    match opened_with_peer(alloc) {
-        Err(Fault::OutOfMemory) => opened_with_peer(alloc),
-        answer => answer,
+/// The same, at the second try where the first finds no memory.
+fn open_twice(alloc: Global) -> Result<Book, Fault> {
+    match open(alloc) {
+        Err(Fault::OutOfMemory) => open(alloc),
+        opened => opened,
     }
 }
 
 fn make_twins(alloc: Global) -> Result<Twins, Fault> {
-    let tried = opened(alloc)?;
-    let other = opened(alloc)?;
+    let tried = open_twice(alloc)?;
+    let other = open_twice(alloc)?;
     Ok(Twins { tried, other })
 }
 
@@ -252,7 +254,8 @@ fn begins_anew(alloc: Global) -> Result<bool, Fault> {
 
 fn is_played(alloc: Global) -> Result<bool, Fault> {
     let mut twins = make_twins(alloc)?;
-    let played = play(alloc, &mut twins);
+    let played = are_told(alloc, &mut twins, PLAYED.as_slice())
+        && are_told(alloc, &mut twins, LATER.as_slice());
     drop(twins);
     Ok(played)
 }

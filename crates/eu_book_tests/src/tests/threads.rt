@@ -1,21 +1,39 @@
 //! Two real threads with a pass each.
 ghost use Rattle.std.specs.Prelude.{◌≡◌};
 
-use crate::tests::asks::{Two, WithTwo, ask, both, close_listed, open, with_both};
+use crate::tests::closed::first_wrong_end;
+use crate::tests::shared::{USUAL, open};
 use eu_base::Fault;
-use eu_fixtures::{registration, renewal};
-use eu_model::Tally;
-use eu_settle::{Closed, settle};
+use eu_clock::FirstChooser;
+use eu_fixtures::{moment, registration, renewal};
+use eu_model::{Command, Reply};
 use eu_shared::{Blanks, Label, Pass, Shared};
 use std::alloc::Global;
 use std::marker::Brand;
 use std::sync::Wait;
-use std::test::Fail;
 use std::thread;
 use std::thread::Threads;
 
 /// The steps of each thread.
 const STEPS: u64 = 1_000;
+
+/// Whether a pass is answered as one whose lease is there, or comes.
+fn is_answered<K: Label, R: Wait>(
+    rt: &R,
+    shared: &Shared<K>,
+    alloc: Global,
+    pass: &mut Pass<K>,
+    command: Command,
+    ms: u64,
+) -> Result<bool, Fault> {
+    let receipt = pass.ask(rt, shared, alloc, command, moment(ms)?, &mut FirstChooser)?;
+    let is_answered = matches!(
+        receipt.reply,
+        Reply::Done | Reply::Registered { fresh: true }
+    );
+    drop(receipt);
+    Ok(is_answered)
+}
 
 /// Registers an instance, and renews its lease in every further step. Whether each is answered so.
 fn ask_each<K: Label, R: Wait>(
@@ -24,12 +42,12 @@ fn ask_each<K: Label, R: Wait>(
     alloc: Global,
     pass: &mut Pass<K>,
     id: &str,
-) -> bool {
-    let mut answered = ask(rt, shared, alloc, pass, registration(alloc, id), 0).1 == "new";
+) -> Result<bool, Fault> {
+    let mut answered = is_answered(rt, shared, alloc, pass, registration(alloc, id)?, 0)?;
     for step in 1..STEPS {
-        answered &= ask(rt, shared, alloc, pass, renewal(alloc, id), step).1 == "done";
+        answered &= is_answered(rt, shared, alloc, pass, renewal(alloc, id)?, step)?;
     }
-    answered
+    Ok(answered)
 }
 
 /// The same, with the pass handed back.
@@ -42,7 +60,7 @@ fn work<K: Label, R: Wait>(
 ) -> (Pass<K>, bool) {
     let mut pass = pass;
     let answered = ask_each(rt, shared, alloc, &mut pass, id);
-    (pass, answered)
+    (pass, answered == Ok(true))
 }
 
 /// Both passes at once, each in a thread.
@@ -60,87 +78,37 @@ fn work_both<K: Label + Send + Sync, R: Threads + Wait + Sync>(
     )
 }
 
-/// What the two threads leave: the list of their passes, and whether each ask was answered as it should be.
-#[derive(Drop)]
-struct Worked<K: Label> {
-    passes: Result<Vec<Pass<K>>, Fault>,
-    answered: bool,
-}
-
-fn work_with<K: Label + Send + Sync, R: Threads + Wait + Sync>(
-    rt: &R,
-    shared: &Shared<K>,
-    alloc: Global,
-    two: Two<K>,
-) -> Worked<K> {
-    let Two { zero, one } = two;
-    let ((zero, first), (one, second)) = work_both(rt, shared, alloc, zero, one);
-    Worked {
-        passes: both(alloc, zero, one),
-        answered: first && second,
-    }
-}
-
-/// What was done in all, and whether the logs are the journal's parts.
-fn settled(closed: &Closed) -> (Tally, usize, bool) {
-    (closed.totals, closed.entries.len(), settle(closed).is_ok())
-}
-
-/// The same of a shared book that is closed with these passes.
-fn close_settled<K: Label>(
-    shared: Shared<K>,
-    alloc: Global,
-    passes: Result<Vec<Pass<K>>, Fault>,
-) -> Result<(Tally, usize, bool), Fault> {
-    let closed = close_listed(shared, alloc, passes)?;
-    let settled = settled(&closed);
-    drop(closed);
-    Ok(settled)
-}
-
-/// What two threads did: whether each ask was answered as it should be, and what is found of the closed book.
-#[derive(Clone, Copy)]
-struct Findings {
-    answered: bool,
-    totals: Tally,
-    entries: usize,
-    is_settled: bool,
-}
-
+/// Whether each ask of two threads is answered as it should be, and the first wrong line of the book that is closed then.
 fn find<K: Label + Send + Sync, R: Threads + Wait + Sync>(
     rt: &R,
     alloc: Global,
     blanks: Blanks,
-) -> Result<Findings, Fault>
+) -> Result<(bool, Option<usize>), Fault>
     requires names { (blanks.steps.name ≡ K.steps) × (blanks.counted.name ≡ K.counted) × (blanks.added.name ≡ K.added) × (blanks.removed.name ≡ K.removed) }
     requires parts { (blanks.steps.parts ≡ K.parts) × (blanks.counted.parts ≡ K.parts) × (blanks.added.parts ≡ K.parts) × (blanks.removed.parts ≡ K.parts) × (K.parts ≡ 1025) }
 {
-    let shared = open::<K>(alloc, blanks)?;
-    let WithTwo { shared, two } = with_both(rt, shared, alloc)?;
-    let Worked { passes, answered } = work_with(rt, &shared, alloc, two);
-    let (totals, entries, is_settled) = close_settled(shared, alloc, passes)?;
-    Ok(Findings {
-        answered,
-        totals,
-        entries,
-        is_settled,
-    })
+    let shared = open::<K>(alloc, USUAL, blanks)?;
+    let zero = shared.pass(rt, alloc)?;
+    let one = shared.pass(rt, alloc)?;
+    let ((zero, first), (one, second)) = work_both(rt, &shared, alloc, zero, one);
+    let mut passes = Vec::new(alloc);
+    passes.push(zero)?;
+    passes.push(one)?;
+    Ok((
+        first && second,
+        first_wrong_end(alloc, shared, passes, SETTLED),
+    ))
 }
 
-fn found<R: Threads + Wait + Sync>(rt: &R, alloc: Global) -> Result<Findings, Fault> {
+fn found<R: Threads + Wait + Sync>(rt: &R, alloc: Global) -> Result<(bool, Option<usize>), Fault> {
     find::<Brand, R>(rt, alloc, Blanks::new())
 }
 
+const SETTLED: &str =
+    "account = 0 2000 Tally { steps: 2000, counted: 1998, added: 2, removed: 0 } 2 0:1000 1:1000
+settle = Ok(())";
+
 #[test]
-fn two_threads_are_settled(rt: HostRuntime) -> Result<(), Fail> {
-    let found = found(&rt, rt.alloc())?;
-    let both = Tally {
-        steps: 2_000,
-        counted: 1_998,
-        added: 2,
-        removed: 0,
-    };
-    assert!(rt; found.answered && found.totals == both);
-    assert!(rt; found.entries == 2_000 && found.is_settled);
-    Ok(())
+fn two_threads_are_settled(rt: HostRuntime) {
+    assert_eq!(rt; found(&rt, rt.alloc()), Ok((true, None)));
 }

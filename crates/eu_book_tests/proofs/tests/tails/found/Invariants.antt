@@ -1,4 +1,0 @@
-use Rattle.eu_book_tests.proofs.tests.tails.found.Given as goal
-
-abbrev pub ghosts-find : goal.ghosts-find
-ghosts-find g a = record { steps = a.blanks.steps.name; counted = a.blanks.counted.name; added = a.blanks.added.name; removed = a.blanks.removed.name; parts = a.blanks.steps.parts }

@@ -8,7 +8,7 @@ thirteen members. For each number it tells
 
 - the processor time of a listing, of one application and of one instance, and its ratio to the other's; five turns of both, medians;
 - how many heartbeats a client sends one by one, and how long they wait: alone, and while another client asks for one instance, for the status page
-  or for all, without pause. Each client is a process of its own;
+  or for all, without pause, or registers an instance again before each time that it asks for all. Each client is a process of its own;
 - the bytes that a lease takes: after each was registered, what each takes more that is registered again (its journal's entries, and the text that
   only they have by then), and what a heartbeat takes more.
 
@@ -109,10 +109,11 @@ class Server:
         return (self.processor_time() - before) / times
 
 
-def read_without_pause(port, request, stop, calls):
+def read_without_pause(port, requests, stop, calls):
     client, count = Client(port), 0
     while not stop.is_set():
-        client.ask(request)
+        for request in requests:
+            client.ask(request)
         count += 1
     calls.value = count
 
@@ -134,14 +135,15 @@ def waits(took):
 def tell_readers(name, server):
     alone = heartbeats(server.port, 1)
     print(f"  {name}, heartbeats alone: {waits(alone)}")
-    for path in "apps/APP1/i1", "status", "apps":
+    readers = {path: [get(path)] for path in ("apps/APP1/i1", "status", "apps")} | {"apps, once it registered an instance again": [registration(2), get("apps")]}
+    for what, requests in readers.items():
         stop, calls = multiprocessing.Event(), multiprocessing.Value("q", 0)
-        reader = multiprocessing.Process(target=read_without_pause, args=(server.port, get(path), stop, calls))
+        reader = multiprocessing.Process(target=read_without_pause, args=(server.port, requests, stop, calls))
         reader.start()
         took = heartbeats(server.port, 1)
         stop.set()
         reader.join()
-        print(f"  {name}, beside who reads {path} ({calls.value // SECONDS} a second): {waits(took)}; {len(took) / len(alone):.2f} of alone", flush=True)
+        print(f"  {name}, beside who reads {what} ({calls.value // SECONDS} a second): {waits(took)}; {len(took) / len(alone):.2f} of alone", flush=True)
 
 
 def tell_reads(servers, leases):

@@ -3,3 +3,4 @@ pub mod Account
 pub mod AccountCode
 pub mod Checkpoint
 pub mod Desk
+pub mod Snapshot

@@ -8,11 +8,13 @@ ghost use Rattle.eu_base.specs.Limits.{most_entries};
 ghost use Rattle.eu_core.specs.Answered.{for_log};
 ghost use Rattle.eu_book.specs.Checkpoint.{IsJournal, IsRetired};
 ghost use Rattle.eu_book.specs.Peers.{server_with, state_of};
+ghost use Rattle.eu_book.specs.Snapshot.{view_of};
 
 use crate::checkpoint::{begin, plain_state};
 use crate::entering::{answer, note};
 use crate::journal::{Journal, Logged};
 use crate::peers::Peers;
+use crate::snapshot::ViewSnapshot;
 use eu_base::{Config, Fault, MOST_ENTRIES, MOST_PEERS, MOST_STEPS, Moment};
 use eu_clock::Chooser;
 use eu_core::Registry;
@@ -262,6 +264,23 @@ impl Book {
             Query::All => View::All(Listing::new(self.registry.list(alloc, None)?)),
             Query::Counts => View::Counts(self.registry.counts()),
             Query::Page => View::Page(self.registry.counts(), self.registry.status_counts()),
+        })
+    }
+
+    /// The same, for who holds a lock: a listing of all is taken at little cost (`Registry::snapshot`), and made of it later. The book
+    /// stays as it is. `AllocError` where no memory is left.
+    pub fn snapshot(
+        &mut self,
+        alloc: Global,
+        query: &Query,
+        moment: Moment,
+    ) -> Result<ViewSnapshot, AllocError>
+        ensures view { IfOk result (λ v. Shows self.old.state.registry (λ s. view s query.now moment) (view_of v)) }
+        ensures same { self.new ≡ self.old }
+    {
+        Ok(match query {
+            Query::All => ViewSnapshot::All(self.registry.snapshot(alloc)?),
+            query => ViewSnapshot::View(self.read(alloc, query, moment)?),
         })
     }
 

@@ -13,7 +13,9 @@ mod entering;
 mod journal;
 mod peers;
 mod serving;
+mod snapshot;
 mod tasks;
 
 pub use book::{Book, LoggedReceipt, Receipt};
 pub use journal::{Journal, Logged};
+pub use snapshot::ViewSnapshot;

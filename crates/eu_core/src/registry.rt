@@ -26,7 +26,7 @@ use eu_clock::Chooser;
 use eu_eviction::{Eviction, Overrides, run_eviction};
 use eu_lease::{Rate, Threshold};
 use eu_model::{Command, Counts, Listed, Listing, Queues, Reply, State, StatusCounts, Times};
-use eu_store::{HeldLease, Leases, Place};
+use eu_store::{HeldLease, Leases, Place, Snapshot};
 use std::alloc::{AllocError, Global};
 use std::marker::Model;
 
@@ -355,6 +355,15 @@ impl Registry {
         ensures { IfOk result (λ leases. Shows self.now (listing (option_copied app.entry)) leases.items) }
     {
         self.leases.listed(alloc, app)
+    }
+
+    /// Everything that is held, for who holds a lock: it copies no instance, but where a lease came or went, or an instance changed, since
+    /// it was called last. The registry stays as it is. `AllocError` where no memory is left.
+    pub fn snapshot(&mut self, alloc: Global) -> Result<Snapshot, AllocError>
+        ensures listing { IfOk result (λ s. Shows self.old (listing None) s) }
+        ensures same { self.new ≡ self.old }
+    {
+        self.leases.snapshot(alloc)
     }
 
     /// The registry as plain data: settings, number expected, leases in key order, override rows in the order of their ids, the

@@ -1,18 +1,13 @@
 -- An answer of a lawful book
 use Rattle.std.proofs.Common.{◌≡◌, ℕ, ap}
-use Rattle.std.specs.Prelude.{None, Result, Ok, Err, IfOk, OnOk}
-use Rattle.std.specs.declared.alloc.AllocError.{AllocError}
+use Rattle.std.specs.Prelude.{None}
 use Rattle.eu_base.specs.declared.faults.Fault.{Fault}
 use Rattle.eu_base.specs.declared.faults.Fault.TheVariants.{OutOfMemory}
 use Rattle.eu_book.specs.declared.book.Receipt.{Receipt}
 use Rattle.eu_book.specs.Account.{Account, Applies, IsLawful, Refuses, entry, known_fault, logged}
 use Rattle.eu_clock.specs.Front.{Asks}
 use Rattle.eu_model.specs.declared.commands.Command.{Command}
-use Rattle.eu_model.specs.declared.views.Query.{Query}
-use Rattle.eu_model.specs.declared.views.View.{View}
-use Rattle.eu_model.specs.Answers.{Shows}
-use Rattle.eu_model.specs.View.{view}
-use Rattle.eu_shared.specs.Passes.{PassAccount, IsAnsweredBySome, IsBegunBySome, IsRefusedBySome, IsShownBySome, after_answer, after_view}
+use Rattle.eu_shared.specs.Passes.{PassAccount, IsAnsweredBySome, IsBegunBySome, IsRefusedBySome, after_answer, after_view}
 
 module _ (c : Command) (t : ℕ) where
   pub is_answer : {S : Type 0} (asks : Asks S) (x x' : S) (p p' : PassAccount) (a b : Account) (y : Receipt) → IsLawful a → IsLawful b → Applies asks a x (entry p.number y.number c t y.reply) b x'
@@ -21,11 +16,6 @@ module _ (c : Command) (t : ℕ) where
 
   pub is_refused : (a : Account) (f : Fault) → IsLawful a → Refuses a c t f → (f ≡ OutOfMemory → known_fault a.totals.steps a.state.queues c t ≡ None) → IsRefusedBySome c t f
   is_refused a f before is memory = (a, before, is, memory)
-
-pub is_shown : (q : Query) (t : ℕ) (p p' : PassAccount) (a : Account) (r : Result View AllocError) → IsLawful a → IfOk r (λ v. Shows a.state.registry (λ s. view s q t) v)
-    → OnOk r (p' ≡ after_view p a.first) → IfOk r (λ v. IsShownBySome p q t v p')
-is_shown q t p p' a (Ok v) lawful is told = (a, lawful, is, ap (λ (k : PassAccount). k.journal_first) told)
-is_shown q t p p' a (Err e) lawful is told = is
 
 pub is_begun : (p p' : PassAccount) (a : Account) → IsLawful a → p' ≡ after_view p a.totals.steps → IsBegunBySome p p'
 is_begun p p' a lawful told = (a, lawful, ap (λ (k : PassAccount). k.journal_first) told)

@@ -2,6 +2,7 @@
 ghost use Rattle.std.specs.Prelude.{◌≡◌, ◌↔◌, ◌+◌, ◌<◌, ◌≤◌, ◌^◌, Err, None, vec_len, IfOk, IfErr, OnOk, OnErr};
 ghost use Rattle.eu_book.specs.Account.{cleared, entry, known_fault, logged, Applies, IsLawful, Refuses};
 ghost use Rattle.eu_book.specs.Checkpoint.{IsJournal, IsRetired};
+ghost use Rattle.eu_book.specs.Snapshot.{view_of};
 ghost use Rattle.eu_model.specs.Answers.{Shows};
 ghost use Rattle.eu_model.specs.Delta.{plus};
 ghost use Rattle.eu_model.specs.View.{view};
@@ -11,7 +12,7 @@ use crate::pass::{Pass, is_stale_with, see};
 use crate::shares::{Blanks, Label, Shares, Totals};
 use crate::sums::sum_up;
 use eu_base::{Config, Fault, MOST_PASSES, MOST_PEERS, Moment};
-use eu_book::{Book, Journal, Receipt};
+use eu_book::{Book, Journal, Receipt, ViewSnapshot};
 use eu_clock::Chooser;
 use eu_model::{Command, Query, Tally, View};
 use std::alloc::{AllocError, Global};
@@ -259,6 +260,22 @@ impl<K: Label> Held<K> {
             self.book.journal().first,
         );
         Ok(view)
+    }
+
+    /// The same in two steps (`Book::snapshot`): what the lock is held for, with the number at which the journal begins. Nothing
+    /// changes. `AllocError` where no memory is left.
+    pub fn snapshot(
+        &mut self,
+        alloc: Global,
+        query: &Query,
+        moment: Moment,
+    ) -> Result<(ViewSnapshot, u64), AllocError>
+        ensures view { IfOk result (λ r. Shows self.old.book.state.registry (λ s. view s query.now moment) (view_of r.0)) }
+        ensures first { IfOk result (λ r. r.1 ≡ self.old.book.first) }
+        ensures same { self.new ≡ self.old }
+    {
+        let snapshot = self.book.snapshot(alloc, query, moment)?;
+        Ok((snapshot, self.book.journal().first))
     }
 
     /// Begins the journal anew (`Book::checkpoint`), for a pass, which has seen then where it begins. Registry, queues, totals, and

@@ -15,7 +15,7 @@ ghost use Rattle.eu_shared.specs.Passes.{done_for, new_pass, IsAnsweredBySome, I
 
 use crate::closing::Unclosed;
 use crate::held::Held;
-use crate::pass::Pass;
+use crate::pass::{Pass, see};
 use crate::shares::{Blanks, Label};
 use eu_base::{Config, Fault, MOST_PEERS, Moment};
 use eu_book::Receipt;
@@ -134,8 +134,8 @@ impl<K: Label> Pass<K> {
         Ok(outcome.into_receipt())
     }
 
-    /// What a query sees of the shared book, at a moment (`Held::read`). `AllocError` where no memory is left, which leaves the pass
-    /// as it was.
+    /// What a query sees of the shared book, at a moment (`Held::read`). The lock is held for no more than `Held::snapshot` takes.
+    /// `AllocError` where no memory is left, which leaves the pass as it was.
     pub fn read<R: Wait>(
         &mut self,
         rt: &R,
@@ -148,7 +148,10 @@ impl<K: Label> Pass<K> {
         ensures pass { (self.new.number ≡ self.old.number) × (self.new.log ≡ self.old.log) × (self.new.tally ≡ self.old.tally) × (self.old.journal_first ≤ self.new.journal_first) }
         ensures err { OnErr result (self.new ≡ self.old) }
     {
-        shared.lock(rt).read(alloc, self, query, moment)
+        let (snapshot, first) = shared.lock(rt).snapshot(alloc, query, moment)?;
+        let view = snapshot.into_view(alloc)?;
+        see(&mut self.journal_first, &mut self.is_stale, first);
+        Ok(view)
     }
 
     /// Begins the shared book's journal anew (`Held::checkpoint`): what it and its peers' queues are becomes its base, and it has no

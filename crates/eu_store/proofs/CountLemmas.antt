@@ -81,7 +81,7 @@ weight s l = one l.instance.status s
 abbrev Held : Type 0
 Held = FinMap key_cmp Listed
 
-filter_true : {X : Type 0} (xs : List X) → filter (λ x. true) xs ≡ xs
+pub filter_true : {X : Type 0} (xs : List X) → filter (λ x. true) xs ≡ xs
 filter_true [] = refl
 filter_true (x ∷ xs) = ap (λ l. x ∷ l) (filter_true xs)
 
@@ -120,10 +120,16 @@ nothing (x ∷ xs) e = absurd (omega arith)
 
 -- ---- each step
 
+-- nothing is held in the empty map
+abbrev pub none_held : Held
+none_held = empty
+
+pub entries_none : entries none_held ≡ []
+entries_none = nothing (entries none_held) (sym (len-entries none_held) ∙ len-empty key_cmp Listed)
+
 pub counts_none : status_counts [] ≡ counts_of (map_of [])
 counts_none =
-    let none : Held = empty in
-    ap (λ (es : List (Key × Listed)). status_counts (map (λ e. e.1) (filter (λ e. true) es))) (sym (nothing (entries none) (sym (len-entries none) ∙ len-empty key_cmp Listed)))
+    ap (λ (es : List (Key × Listed)). status_counts (map (λ e. e.1) (filter (λ e. true) es))) (sym entries_none)
 
 pub counts_inserted : (m : Held) (k : Key) (l : Listed) → get m k ≡ None → with_one_more (counts_of m) l.instance.status ≡ counts_of (insert m k l)
 counts_inserted m k l none = same_counts _ _ (λ s. omega (arith, in_more (counts_of m) l.instance.status s, number_held m s, number_held (insert m k l) s, total_new (weight s) m k l none))

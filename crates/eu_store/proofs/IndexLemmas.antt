@@ -81,7 +81,7 @@ entry_of k es i l found there =
     let at = position-Some (key_eq k) (keys_of es) i k found in
     entry_at es i l k there ∙ ap (λ (x : Key). Some (x, l)) (same_key k (get_or (keys_of es) i k) at.1)
 
-key_equiv : IsEquivalence key_eq
+pub key_equiv : IsEquivalence key_eq
 key_equiv = subst (λ (e : Key → Key → Bool). IsEquivalence e) (sym key_eq-tie) (eq_by_cmp_equiv keys_total)
 
 -- a write at the place of a key is a write at the key

@@ -6,3 +6,6 @@ pub mod MapLemmas
 pub mod RowLemmas
 pub mod CountLemmas
 pub mod Crossing
+pub mod OrderLemmas
+pub mod PlaceLemmas
+pub mod DirectoryLemmas

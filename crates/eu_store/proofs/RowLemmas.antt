@@ -33,7 +33,7 @@ module _ {K X : Type 0} (R : K → K → Ordering) where
   is_sorted_rows [] h = tt
   is_sorted_rows (r ∷ rows) h = both _ _ (below_rows r.0 rows (sorted_head R r.0 (keys_of rows) h)) (is_sorted_rows rows (sorted_tail R r.0 (keys_of rows) h))
 
-  find_is_lookup : (q : K) (es : List (K × X)) → find R q es ≡ lookup (eq_by_cmp R q) es
+  pub find_is_lookup : (q : K) (es : List (K × X)) → find R q es ≡ lookup (eq_by_cmp R q) es
   find_is_lookup q [] = refl
   find_is_lookup q (e ∷ es) = ap (cond (eq_by_cmp R q e.0) (Some e.1)) (find_is_lookup q es)
 

@@ -1,5 +1,5 @@
 //! What is held under a key.
-ghost use Rattle.std.specs.Prelude.{◌≡◌, IfOk};
+ghost use Rattle.std.specs.Prelude.{◌≡◌, IfOk, IsTrue};
 ghost use Rattle.eu_lease.specs.Term.{listed_with};
 ghost use Rattle.eu_model.specs.Change.{stamped};
 ghost use Rattle.eu_model.specs.PlainSteps.{plain_expired};
@@ -176,6 +176,31 @@ pub enum Amendment {
     },
     /// This takes its place.
     Replaced(HeldLease),
+}
+
+impl Amendment {
+    /// Whether it keeps an instance as it is, as a heartbeat does. What tells so may be told of one that it changes not at all.
+    pub(crate) fn keeps(&self, instance: &Instance) -> bool
+        ensures { IsTrue result → (l : Listed) → l.instance ≡ instance.now → (amended self.now l).instance ≡ l.instance }
+    {
+        match self {
+            Amendment::Renewed { .. } => true,
+            Amendment::InStatuses {
+                status,
+                overridden,
+                last_dirty,
+                ..
+            } => {
+                *status == instance.status
+                    && *overridden == instance.overridden
+                    && match last_dirty {
+                        Some(stamp) => stamp.value() <= instance.last_dirty.value(),
+                        None => true,
+                    }
+            }
+            _ => false,
+        }
+    }
 }
 
 /// Puts an instance in these statuses; a greater stamp replaces its own.

@@ -4,17 +4,19 @@ ghost use Rattle.std.specs.Option.{option_copied};
 ghost use Rattle.std.specs.FinMap as map;
 ghost use Rattle.indexmap.specs.IndexMap.{values, index_map_len, get_by, index_of_by, IsUnique};
 ghost use Rattle.eu_base.specs.Values.{key_eq};
-ghost use Rattle.eu_store.specs.Stored.{amended, changed, expired_keys, listing_of, rows_of};
-ghost use Rattle.eu_model.specs.View.{is_of, status_counts, with_one_more, with_one_fewer, in_status};
-ghost use Rattle.std.specs.Map.Iter.{deref_pair};
+ghost use Rattle.eu_store.specs.Stored.{amended, changed, expired_keys, listing_of};
+ghost use Rattle.eu_model.specs.View.{status_counts, with_one_more, with_one_fewer, in_status};
 
-use crate::{Amendment, HeldLease};
+use crate::directory::Latest;
+use crate::rows::listed_rows;
+use crate::{Amendment, HeldLease, Snapshot};
 use eu_base::{App, Fault, Key, MOST_LEASES, Moment, Status};
 use eu_deadlines::Deadlines;
 use eu_model::{Listed, StatusCounts};
 use indexmap::IndexMap;
 use std::alloc::{AllocError, Global};
 use std::marker::Model;
+use std::sync::Arc;
 
 /// Where a lease was found. It's a hint: where another lease stands there now, the key is looked up once more.
 #[derive(Clone, Copy, Debug)]
@@ -41,12 +43,14 @@ fn place_of(table: &IndexMap<Key, HeldLease>, key: &Key, hint: Place) -> Option<
 /// taking memory.
 ///
 /// Beside them stands an index of their deadlines, in the order of the table, so that of those which have expired n are found
-/// by a look at no more than n + 1 others. And how many have each status is counted at each step.
+/// by a look at no more than n + 1 others. How many have each status is counted at each step. And what a snapshot copied is kept for
+/// the next one, until a key comes or goes or an instance changes.
 #[derive(Debug, Drop)]
 pub struct Leases {
     table: IndexMap<Key, HeldLease>,
     index: Deadlines,
     counts: StatusCounts,
+    latest: Latest,
 }
 
 impl Model for Leases {
@@ -54,6 +58,7 @@ impl Model for Leases {
     ghost use Rattle.std.specs.FinMap as map;
     ghost use Rattle.indexmap.specs.IndexMap.{spare};
     ghost use Rattle.eu_store.specs.Stored.{Stored, coded_stored, counts_of, deadlines};
+    ghost use Rattle.eu_store.specs.Order.{IsLatest};
     ghost use Rattle.eu_base.specs.Limits.{most_leases};
 
     ghost Value = { Stored };
@@ -62,7 +67,7 @@ impl Model for Leases {
 
     ghost view = { λ a. record { held = map.from_entries a.table.entries; room = min (min (spare a.table) a.index.room) (most_leases - length a.table.entries) } };
 
-    ghost invariant = { λ a. (length a.table.entries ≤ most_leases) × (a.index.list ≡ deadlines a.table.entries) × (a.counts ≡ counts_of (map.from_entries a.table.entries)) };
+    ghost invariant = { λ a. (length a.table.entries ≤ most_leases) × (a.index.list ≡ deadlines a.table.entries) × (a.counts ≡ counts_of (map.from_entries a.table.entries)) × IsLatest a.table.entries a.latest };
 }
 
 impl Leases {
@@ -74,6 +79,7 @@ impl Leases {
             table: IndexMap::new(alloc),
             index: Deadlines::new(alloc),
             counts: StatusCounts::of(&[]),
+            latest: Latest::none(),
         }
     }
 
@@ -133,6 +139,7 @@ impl Leases {
         ensures held { self.new.held ≡ map.insert self.old.held key held }
         ensures room { self.old.room ≤ self.new.room + 1 }
     {
+        self.latest.is_fresh = false;
         self.counts.add(held.instance().status);
         self.index.push(held.deadline());
         self.table.insert(key, held).unwrap();
@@ -145,6 +152,7 @@ impl Leases {
         ensures room { self.old.room ≤ self.new.room }
     {
         let place = place_of(&self.table, key, hint)?;
+        self.latest.is_fresh = false;
         let (_key, held) = self.table.swap_remove_index(place).unwrap();
         self.index.swap_remove(place);
         self.counts.remove(held.instance().status);
@@ -163,6 +171,7 @@ impl Leases {
         };
         let held = &mut self.table[place];
         let before = held.instance().status;
+        self.latest.step(amendment.keeps(held.instance()));
         held.amend(amendment);
         recount(&mut self.counts, before, held.instance().status);
         self.index.set(place, held.deadline());
@@ -213,26 +222,24 @@ impl Leases {
     pub fn listed(&self, alloc: Global, app: Option<&App>) -> Result<Vec<Listed>, AllocError>
         ensures { IfOk result (λ leases. leases.items ≡ listing_of (option_copied app.entry) self.now.held) }
     {
-        let rows = self.rows(alloc, app)?;
-        let mut leases = Vec::with_capacity(alloc, rows.len())?;
-        for row in &rows {
-            leases.push(row.1.listed(alloc)?)?;
+        if self.latest.is_fresh {
+            let directory = self.latest.directory.as_ref().unwrap();
+            return directory.listed(alloc, &self.table, app);
         }
-        Ok(leases)
+        listed_rows(alloc, &self.table, app)
     }
 
-    /// The same, with the keys and not copied.
-    fn rows(&self, alloc: Global, app: Option<&App>) -> Result<Vec<(&Key, &HeldLease)>, AllocError>
-        ensures { IfOk result (λ rows. map deref_pair rows.items ≡ rows_of (option_copied app.entry) self.now.held) }
+    /// Everything that is held, for who holds a lock: it copies no instance, but where a key came or went, or an instance changed, since
+    /// it was called last. The leases stay as they are. `AllocError` where no memory is left.
+    pub fn snapshot(&mut self, alloc: Global) -> Result<Snapshot, AllocError>
+        ensures listing { IfOk result (λ s. s ≡ listing_of None self.old.held) }
+        ensures same { self.new ≡ self.old }
     {
-        let mut rows = Vec::new(alloc);
-        for (key, held) in self.table.iter() {
-            if is_of(key, app) {
-                rows.push((key, held))?;
-            }
-        }
-        rows.sort_by_key(|row| row.0)?;
-        Ok(rows)
+        let retired = self.latest.renew(alloc, &self.table)?;
+        let directory = self.latest.directory.as_ref().unwrap();
+        let times = directory.times(alloc, &self.table)?;
+        let instances = Arc::try_clone(&directory.instances)?;
+        Ok(Snapshot::new(instances, times, retired))
     }
 }
 
@@ -246,15 +253,5 @@ fn recount(counts: &mut StatusCounts, before: Status, after: Status)
     if before != after {
         counts.remove(before);
         counts.add(after);
-    }
-}
-
-/// Whether a key is of that application. Each is, where none is given.
-fn is_of(key: &Key, app: Option<&App>) -> bool
-    ensures { result ≡ is_of (option_copied app.entry) key.now }
-{
-    match app {
-        Some(app) => key.app == *app,
-        None => true,
     }
 }

@@ -1,8 +1,12 @@
 //! The leases that are held, by their keys.
 #![tactic(auto)]
 
+mod directory;
 mod held;
 mod leases;
+mod rows;
+mod snapshot;
 
 pub use held::{Amendment, HeldLease};
 pub use leases::{Leases, Place};
+pub use snapshot::Snapshot;

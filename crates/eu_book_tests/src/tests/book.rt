@@ -180,7 +180,8 @@ fn plays(
     text: &str,
 ) -> Result<(Option<usize>, usize), Fault> {
     let words = Vec::from_slice(alloc, [3u64, 0].as_slice())?;
-    let book = Book::open(alloc, config?, 0, u32::from(has_peer))?;
+    let peers = if has_peer { 1 } else { 0 };
+    let book = Book::open(alloc, config?, 0, peers)?;
     let mut desk = Desk {
         book,
         chooser: ListChooser::new(words),

@@ -7,7 +7,7 @@ use crate::tests::shared::{USUAL, open as open_shared};
 use eu_base::{Fault, Moment};
 use eu_book::Receipt;
 use eu_clock::FirstChooser;
-use eu_fixtures::{pause_or_go_on, settings};
+use eu_fixtures::{moment, pause_or_go_on, settings};
 use eu_model::{Ask, Command, Listed, Query, Reply, View};
 use eu_settle::Closed;
 use eu_shared::{Blanks, Held, Label, Pass, Shared, Unclosed, close};
@@ -235,6 +235,19 @@ fn add<K: Label, A: Asked<K>>(alloc: Global, asked: &mut A) -> Result<Pass<K>, F
     }
 }
 
+/// Whether a batch for a peer that isn't there is refused as that, whatever memory is left.
+fn misses_a_peer<K: Label, A: Asked<K>>(
+    alloc: Global,
+    asked: &mut A,
+    pass: &mut Pass<K>,
+    now: Moment,
+) -> bool {
+    pause_or_go_on(alloc);
+    let answer = asked.ask(alloc, pass, Command::Drain { peer: 0 }, now);
+    pause_or_go_on(alloc);
+    matches!(answer, Err(Fault::NoPeer))
+}
+
 /// Two passes, once all was answered so. `Mismatch` where it wasn't.
 fn ask_all<K: Label, A: Asked<K>>(alloc: Global, asked: &mut A) -> Result<Vec<Pass<K>>, Fault> {
     let mut passes = Vec::with_capacity(alloc, 2)?;
@@ -244,7 +257,9 @@ fn ask_all<K: Label, A: Asked<K>>(alloc: Global, asked: &mut A) -> Result<Vec<Pa
         let Some(pass) = passes.get_mut(place) else {
             return Err(Fault::Mismatch);
         };
-        if !is_told(alloc, asked, pass, words, wanted)? {
+        if !is_told(alloc, asked, pass, words, wanted)?
+            || !misses_a_peer(alloc, asked, pass, moment(6)?)
+        {
             return Err(Fault::Mismatch);
         }
     }

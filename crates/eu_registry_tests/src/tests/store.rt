@@ -325,10 +325,69 @@ fn an_application_lists_its_own(rt: HostRuntime) -> Result<(), Fail> {
     let was_put = put(rt.alloc(), &mut leases, other, "i0");
     let cases = [("A", "i1 UP 0 i2 UP 0 "), ("aa", "i0 UP 0 "), ("B", "")];
     let own = each_lists(rt.alloc(), &leases, &cases);
-    let all = lists(rt.alloc(), &leases, "i1 UP 0 i2 UP 0 i0 UP 0 ");
+    let all = snaps(rt.alloc(), &mut leases, "i1 UP 0 i2 UP 0 i0 UP 0 ");
+    let own_again = each_lists(rt.alloc(), &leases, &cases);
     drop(leases);
     assert!(rt; was_put.is_ok());
     assert!(rt; own == Ok(true));
     assert!(rt; all == Ok(true));
+    assert!(rt; own_again == Ok(true));
+    Ok(())
+}
+
+/// Whether that is told of a snapshot, and of the listing that is made beside it.
+fn snaps(alloc: Global, leases: &mut Leases, text: &str) -> Result<bool, Fault> {
+    let snapshot = leases.snapshot(alloc)?;
+    let listing = snapshot.listed(alloc)?;
+    Ok(told(alloc, &listing)?.as_str() == text && lists(alloc, leases, text)?)
+}
+
+/// Whether i2 is put, and i3 renewed, and each snapshot tells so.
+fn snaps_grow(alloc: Global, leases: &mut Leases) -> Result<bool, Fault> {
+    let third = key(alloc, "i3")?;
+    let place = place(leases, &third);
+    let before = snaps(alloc, leases, "i1 UP 0 i3 UP 0 ")?;
+    put_each(alloc, leases, &["i2"])?;
+    let grown = snaps(alloc, leases, "i1 UP 0 i2 UP 0 i3 UP 0 ")?;
+    let renewed = renew(leases, &third, place, moment(5)?);
+    Ok(before && grown && renewed && snaps(alloc, leases, "i1 UP 0 i2 UP 0 i3 UP 10005 ")?)
+}
+
+/// Whether i3 is put down and i1 taken, and each snapshot tells so.
+fn snaps_shrink(alloc: Global, leases: &mut Leases) -> Result<bool, Fault> {
+    let first = key(alloc, "i1")?;
+    let place = place(leases, &first);
+    let down = put_down(alloc, leases)?;
+    let changed = snaps(alloc, leases, "i1 UP 0 i2 UP 0 i3 DOWN 10005 ")?;
+    let taken = is_there(leases.take(&first, place));
+    Ok(down && changed && taken && snaps(alloc, leases, "i2 UP 0 i3 DOWN 10005 ")?)
+}
+
+#[test]
+fn snapshots_follow_each_step(rt: HostRuntime) -> Result<(), Fail> {
+    let mut leases = leases(rt.alloc(), &["i3", "i1"])?;
+    let grown = snaps_grow(rt.alloc(), &mut leases);
+    let shrunk = snaps_shrink(rt.alloc(), &mut leases);
+    drop(leases);
+    assert!(rt; grown == Ok(true));
+    assert!(rt; shrunk == Ok(true));
+    Ok(())
+}
+
+/// What a snapshot tells after i3 was put down and a new one was taken.
+fn snapped_before(alloc: Global, leases: &mut Leases) -> Result<String, Fault> {
+    let before = leases.snapshot(alloc)?;
+    put_down(alloc, leases)?;
+    drop(leases.snapshot(alloc)?);
+    let listing = before.listed(alloc)?;
+    Ok(told(alloc, &listing)?)
+}
+
+#[test]
+fn a_snapshot_stays_as_it_was(rt: HostRuntime) -> Result<(), Fail> {
+    let mut leases = leases(rt.alloc(), &["i3", "i1"])?;
+    let text = snapped_before(rt.alloc(), &mut leases);
+    drop(leases);
+    assert_eq!(rt; text?.as_str(), "i1 UP 0 i3 UP 0 ");
     Ok(())
 }

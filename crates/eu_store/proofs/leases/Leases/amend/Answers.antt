@@ -1,4 +1,7 @@
 use Rattle.std.proofs.Common.{◌-◌, ◌≤◌, ◌<◌, subst, refl, is_some, length, min, set, sym, ap, ◌∙◌, arith}
+use Rattle.std.specs.Prelude.{MatchOption}
+use Rattle.indexmap.proofs.CallerLemmas.{keys-with_value_at}
+use Rattle.eu_store.specs.Order.{IsDirectory}
 use Rattle.indexmap.specs.IndexMap.{spare, set_value_at}
 use Rattle.std.specs.FinMap as map
 use Rattle.eu_model.specs.View.{in_status, with_one_more, with_one_fewer}
@@ -7,6 +10,7 @@ use Rattle.eu_store.proofs.CountLemmas.{counts_changed, counts_most, counted_the
 use Rattle.eu_store.proofs.MapLemmas.{none_from_is_some}
 use Rattle.eu_store.proofs.TableLemmas.{by_key, get_at, get_in, inserted, changed_in, unchanged_in}
 use Rattle.eu_store.proofs.IndexLemmas.{deadlines-set, length-set_value_at, written_at}
+use Rattle.eu_store.proofs.DirectoryLemmas.{instances_stay, latest_kept}
 use Rattle.eu_store.proofs.leases.Leases.amend.Goals as goal
 
 pub returns-in_default-clause-found : goal.returns-in_default-clause-found
@@ -26,7 +30,7 @@ recount-requires-clause-before c =
 
 pub recount-requires-clause-after : goal.recount-requires-clause-after
 recount-requires-clause-after c =
-    omega (arith, c.self.invariant.0, ap (λ n. in_status n c.instance-2.result.now.status) c.self.invariant.2, counts_most c.self.inside.table.entries c.instance-2.result.now.status)
+    omega (arith, c.self.invariant.0, ap (λ n. in_status n c.instance-3.result.now.status) c.self.invariant.2, counts_most c.self.inside.table.entries c.instance-3.result.now.status)
 
 pub invariant_of-self : goal.invariant_of-self
 invariant_of-self c =
@@ -39,8 +43,12 @@ invariant_of-self c =
     (written_at c.self.inside.table k c.in-Some.place c.index_mut-held.result.now c.amend.new.self c.in-Some.ensures.unique (sym c.in-Some.ensures.index) value) in (
       short,
       c.set.ensures.list ∙ (λ i. set (c.self.invariant.1 i) c.in-Some.place (c.deadline.ensures i)) ∙ sym (deadlines-set es c.in-Some.place c.amend.new.self),
-      c.recount.ensures ∙ (λ i. with_one_more (with_one_fewer (c.self.invariant.2 i) (c.instance.ensures i).status) (c.instance-2.ensures i).status)
+      c.recount.ensures ∙ (λ i. with_one_more (with_one_fewer (c.self.invariant.2 i) (c.instance.ensures i).status) (c.instance-3.ensures i).status)
           ∙ counts_changed (map.from_entries es) k c.index_mut-held.result.now c.amend.new.self there ∙ sym (ap counts_of now),
+      λ fresh.
+          let was = c.step.ensures.fresh fresh in
+          let instances = instances_stay es c.in-Some.place c.index_mut-held.result.now c.amend.new.self value (ap (λ l. l.instance) c.amend.ensures ∙ c.keeps.ensures was.1 c.index_mut-held.result.now (sym c.instance-2.ensures)) in
+          latest_kept es (set_value_at es c.in-Some.place c.amend.new.self) c.step.new.self (keys-with_value_at c.self.inside.table c.in-Some.place c.amend.new.self) instances (λ _. subst (λ d. MatchOption d ⊥ (λ x. IsDirectory es x)) (sym c.step.ensures.directory) (c.self.invariant.3 was.0)) fresh,
     )
 
 pub returns-clause-found : goal.returns-clause-found

@@ -1,4 +1,4 @@
-use Rattle.std.proofs.Common.{◌≤◌, ◌++◌, ◌∷◌, [], length, sym, ap, ◌∙◌, arith}
+use Rattle.std.proofs.Common.{◌≤◌, ◌++◌, ◌∷◌, [], length, refl, sym, ap, ◌∙◌, arith}
 use Rattle.std.specs.FinMap as map
 use Rattle.indexmap.proofs.CallerLemmas.{insert_entry-new}
 use Rattle.eu_base.specs.Values.{key_eq}
@@ -8,6 +8,7 @@ use Rattle.eu_store.proofs.CountLemmas.{counts_inserted, counts_most}
 use Rattle.eu_store.proofs.MapLemmas.{at_ok}
 use Rattle.eu_store.proofs.TableLemmas.{by_key, get_at, inserted}
 use Rattle.eu_store.proofs.IndexLemmas.{deadlines-push, length-push}
+use Rattle.eu_store.proofs.DirectoryLemmas.{none_latest}
 use Rattle.eu_store.proofs.leases.Leases.insert.Goals as goal
 
 pub add-requires : goal.add-requires
@@ -31,6 +32,7 @@ invariant_of-self c =
       short,
       c.push.ensures.list ∙ (λ i. c.self.invariant.1 i ++ c.deadline.ensures i ∷ []) ∙ sym (ap deadlines made ∙ deadlines-push es c.args.key c.args.held),
       c.add.ensures ∙ (λ i. with_one_more (c.self.invariant.2 i) (c.instance.ensures i).status) ∙ counts_inserted (map.from_entries es) c.args.key c.args.held none ∙ sym (ap counts_of now),
+      none_latest _ _ refl,
     )
 
 pub returns-clause-held : goal.returns-clause-held

@@ -4,7 +4,7 @@ use Rattle.std.specs.Option.{option_copied}
 use Rattle.std.specs.FinMap.Entries.{where_key}
 use Rattle.eu_base.specs.Values.{key_cmp}
 use Rattle.eu_model.specs.View.{is_of}
-use Rattle.eu_store.proofs.leases.Leases.rows.Given as goal
+use Rattle.eu_store.proofs.rows.rows.Given as goal
 
 -- the rows so far, and those among what is left
 abbrev pub invariant-loop-key : goal.invariant-loop-key

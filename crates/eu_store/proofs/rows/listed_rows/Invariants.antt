@@ -1,5 +1,5 @@
 use Rattle.std.proofs.Common.{◌≡◌, map, take}
-use Rattle.eu_store.proofs.leases.Leases.listed.Given as goal
+use Rattle.eu_store.proofs.rows.listed_rows.Given as goal
 
 -- what the rows so far hold
 abbrev pub invariant-loop-row : goal.invariant-loop-row

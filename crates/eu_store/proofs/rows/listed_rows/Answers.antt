@@ -1,7 +1,7 @@
 use Rattle.std.proofs.Common.{map, ap, ◌∙◌}
 use Rattle.std.proofs.lemmas.List.{take_all}
 use Rattle.eu_store.proofs.RowLemmas.{values_shown}
-use Rattle.eu_store.proofs.leases.Leases.listed.Goals as goal
+use Rattle.eu_store.proofs.rows.listed_rows.Goals as goal
 
 pub returns : goal.returns
 returns c =

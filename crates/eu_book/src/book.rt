@@ -255,7 +255,7 @@ impl Book {
         Ok(match query {
             Query::One(key) => View::One(match self.registry.look(key, moment) {
                 Some((instance, times)) => Some(Listed {
-                    instance: instance.copy(alloc)?,
+                    instance: instance.to_instance(alloc)?,
                     times,
                 }),
                 None => None,

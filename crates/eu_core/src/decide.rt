@@ -10,10 +10,10 @@ ghost use Rattle.eu_core.specs.Decided.{begins, count_fault, decided, IsChange};
 
 use crate::decision::{Change, Decision, LeaseChange};
 use crate::statuses::row_of_peer;
-use eu_base::{BoxedInstance, Fault, Instance, Moment, Stamp, Status};
+use eu_base::{BoxedInstance, Fault, Moment, Stamp, Status};
 use eu_lease::{Rate, is_status, override_rule};
 use eu_model::Reply;
-use eu_store::{Amendment, HeldLease};
+use eu_store::{Amendment, HeldLease, SharedInstance};
 use std::alloc::{AllocError, Global};
 
 /// What is known beside the lease when a command on it is decided.
@@ -49,7 +49,7 @@ pub fn decide_renewal(
         return Ok(unchanged(context, Reply::NotFound));
     };
     let instance = held.instance();
-    let own = instance.status;
+    let own = instance.status();
     let status = override_rule(own, context.row, Some(own), replicated);
     if is_status(status, Status::Unknown) {
         return Ok(unchanged(context, Reply::NotFound));
@@ -62,7 +62,7 @@ pub fn decide_renewal(
             lease: LeaseChange::Amended(Amendment::InStatuses {
                 moment,
                 status,
-                overridden: row_of_peer.unwrap_or(instance.overridden),
+                overridden: row_of_peer.unwrap_or(instance.overridden()),
                 last_dirty: None,
                 comes_up: false,
             }),
@@ -78,7 +78,7 @@ pub fn decide_renewal(
 /// `Conflict` alone, whose instance is a copy.
 fn renew_reply(
     alloc: Global,
-    instance: &Instance,
+    instance: &SharedInstance,
     status: Status,
     last_dirty: Option<Stamp>,
     replicated: bool,
@@ -90,11 +90,11 @@ fn renew_reply(
     let Some(stamp) = last_dirty else {
         return Ok(Reply::Done);
     };
-    if stamp.value() > instance.last_dirty.value() {
+    if stamp.value() > instance.last_dirty().value() {
         return Ok(Reply::Stale);
     }
-    if stamp.value() < instance.last_dirty.value() && replicated {
-        let mut now = instance.copy(alloc)?;
+    if stamp.value() < instance.last_dirty().value() && replicated {
+        let mut now = instance.to_instance(alloc)?;
         now.status = status;
         return Ok(Reply::Conflict(BoxedInstance::new(alloc, now)?));
     }
@@ -118,7 +118,7 @@ pub fn decide_status(
     let Some(visible) = visible else {
         return unchanged(context, Reply::NotFound);
     };
-    if is_status(visible.instance().status, status) {
+    if is_status(visible.instance().status(), status) {
         return renewed(context, moment);
     }
     Decision {

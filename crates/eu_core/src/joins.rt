@@ -15,7 +15,7 @@ use crate::statuses::judge_statuses;
 use eu_base::{Instance, MOST_LEASES, Moment, Status};
 use eu_lease::Lease;
 use eu_model::Reply;
-use eu_store::{Amendment, HeldLease};
+use eu_store::{Amendment, HeldLease, SharedInstance};
 use std::alloc::{AllocError, Global};
 
 /// A lease that begins with its instance in this status.
@@ -44,26 +44,11 @@ pub fn decide_join(
 {
     match held {
         None => join_new(alloc, instance, context, replicated, moment),
-        Some(held) if instance.last_dirty.value() < held.instance().last_dirty.value() => {
+        Some(held) if instance.last_dirty.value() < held.instance().last_dirty().value() => {
             Ok(join_under(instance, held, context, replicated, moment))
         }
         Some(held) => join_over(alloc, instance, held, context, replicated, moment),
     }
-}
-
-/// A copy of an instance in these statuses. `AllocError` where no memory is left.
-fn copy_as(
-    alloc: Global,
-    instance: &Instance,
-    status: Status,
-    overridden: Status,
-) -> Result<Box<Instance>, AllocError>
-    ensures { IfOk result (λ b. b.value ≡ record instance.now { status = status; overridden = overridden }) }
-{
-    let mut instance = instance.copy(alloc)?;
-    instance.status = status;
-    instance.overridden = overridden;
-    Ok(Box::new(alloc, instance)?)
 }
 
 /// The registration of an instance whose key isn't held. `AllocError` where no memory is left.
@@ -86,7 +71,7 @@ fn join_new(
     );
     let fresh = Lease::fresh(moment, instance.secs);
     let lease = begun(fresh, statuses.status, moment);
-    let instance = copy_as(alloc, instance, statuses.status, statuses.overridden)?;
+    let instance = SharedInstance::of(alloc, instance, statuses.status, statuses.overridden)?;
     let held = HeldLease::new(instance, lease);
     Ok(Decision {
         change: Change {
@@ -116,12 +101,12 @@ fn join_over(
         instance.status,
         instance.overridden,
         context.row,
-        Some(held.instance().status),
+        Some(held.instance().status()),
         replicated,
     );
     let anew = held.lease().anew(moment, instance.secs);
     let lease = begun(anew, statuses.status, moment);
-    let instance = copy_as(alloc, instance, statuses.status, statuses.overridden)?;
+    let instance = SharedInstance::of(alloc, instance, statuses.status, statuses.overridden)?;
     let held = HeldLease::new(instance, lease);
     Ok(Decision {
         change: Change {
@@ -148,10 +133,10 @@ fn join_under(
 {
     let own = held.instance();
     let statuses = judge_statuses(
-        own.status,
-        own.overridden,
+        own.status(),
+        own.overridden(),
         context.row,
-        Some(own.status),
+        Some(own.status()),
         replicated,
     );
     let anew = held.lease().anew(moment, newcomer.secs);

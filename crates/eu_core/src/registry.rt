@@ -26,7 +26,7 @@ use eu_clock::Chooser;
 use eu_eviction::{Eviction, Overrides, run_eviction};
 use eu_lease::{Rate, Threshold};
 use eu_model::{Command, Counts, Listed, Listing, Queues, Reply, State, StatusCounts, Times};
-use eu_store::{HeldLease, Leases, Place, Snapshot};
+use eu_store::{HeldLease, Leases, Place, SharedInstance, Snapshot};
 use std::alloc::{AllocError, Global};
 use std::marker::Model;
 
@@ -338,7 +338,7 @@ impl Registry {
     /// (`AbstractInstanceRegistry.getInstanceByAppAndId` in Eureka).
     ///
     /// None where no lease is held, and where eviction is permitted and the lease has expired. Takes no memory.
-    pub fn look(&self, key: &Key, moment: Moment) -> Option<(&Instance, Times)>
+    pub fn look(&self, key: &Key, moment: Moment) -> Option<(&SharedInstance, Times)>
         ensures { Shows self.now (λ s. one s key.now moment) (shown result) }
     {
         match self.visible(self.leases.get(key), moment) {

@@ -116,11 +116,11 @@ fn instance_left(
     ensures { IfOk result (λ left. left ≡ option_map (λ (l : Listed). l.instance) (lease_left change.now (option_copied held.entry))) }
 {
     match (change, held) {
-        (LeaseChange::Stays, Some(held)) => Ok(Some(held.instance().copy(alloc)?)),
+        (LeaseChange::Stays, Some(held)) => Ok(Some(held.instance().to_instance(alloc)?)),
         (LeaseChange::Amended(amendment), Some(held)) => {
             Ok(Some(held.instance_amended(alloc, amendment)?))
         }
-        (LeaseChange::Begun(begun), _) => Ok(Some(begun.instance().copy(alloc)?)),
+        (LeaseChange::Begun(begun), _) => Ok(Some(begun.instance().to_instance(alloc)?)),
         _ => Ok(None),
     }
 }

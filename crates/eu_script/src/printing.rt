@@ -7,6 +7,7 @@ ghost use Rattle.eu_page.specs.Page.{shown_page};
 ghost use Rattle.eu_base.specs.Values.{action_name};
 
 use eu_base::{Fault, Instance, Key, Task};
+use eu_core::SharedInstance;
 use eu_model::{Counts, Reply, StatusCounts, Times};
 use eu_page::{page_of, status_page};
 use std::alloc::{AllocError, Global};
@@ -100,7 +101,10 @@ pub fn print_refusal(out: &mut String, fault: Fault) -> Result<(), AllocError>
 }
 
 /// Prints the line of a lease that is looked at: its instance and its moments, or `404`.
-pub fn print_look(out: &mut String, lease: Option<(&Instance, Times)>) -> Result<(), AllocError>
+pub fn print_look(
+    out: &mut String,
+    lease: Option<(&SharedInstance, Times)>,
+) -> Result<(), AllocError>
     ensures { OnOk result (string_bytes out.new ≡ string_bytes out.old ++ look_text (shown lease.entry)) }
 {
     match lease {
@@ -109,12 +113,12 @@ pub fn print_look(out: &mut String, lease: Option<(&Instance, Times)>) -> Result
     }
 }
 
-fn print_found(out: &mut String, instance: &Instance, times: Times) -> Result<(), AllocError>
+fn print_found(out: &mut String, instance: &SharedInstance, times: Times) -> Result<(), AllocError>
     ensures { OnOk result (string_bytes out.new ≡ string_bytes out.old ++ found_text instance.now times) }
 {
-    let status = instance.status.name();
-    let overridden = instance.overridden.name();
-    let (last_dirty, secs) = (instance.last_dirty.value(), instance.secs.secs());
+    let status = instance.status().name();
+    let overridden = instance.overridden().name();
+    let (last_dirty, secs) = (instance.last_dirty().value(), instance.secs().secs());
     let (registered, up, updated) = (times.registered, times.up, times.updated);
     writeln!(
         out,

@@ -14,7 +14,7 @@ use crate::sums::sum_up;
 use eu_base::{Config, Fault, MOST_PASSES, MOST_PEERS, Moment};
 use eu_book::{Book, Journal, Receipt, ViewSnapshot};
 use eu_clock::Chooser;
-use eu_model::{Command, Query, Tally, View};
+use eu_model::{Command, Query, Tally};
 use std::alloc::{AllocError, Global};
 use std::marker::Model;
 
@@ -66,7 +66,8 @@ impl<K: Label> Model for Held<K> {
 
 impl<K: Label> Held<K> {
     /// A book that is opened now (`Book::open`) for no more than 8 peers, over four new ledgers of 1,025 parts each (`Blanks::new`),
-    /// and no pass. `AllocError` where no memory is left.
+    /// and no pass. It keeps the order of its leases from the start, so that no listing sorts them under the lock. `AllocError` where no
+    /// memory is left.
     pub fn open(
         alloc: Global,
         config: Config,
@@ -79,7 +80,10 @@ impl<K: Label> Held<K> {
         requires parts { (blanks.steps.parts ≡ K.parts) × (blanks.counted.parts ≡ K.parts) × (blanks.added.parts ≡ K.parts) × (blanks.removed.parts ≡ K.parts) × (K.parts ≡ 1025) }
         ensures { IfOk result (λ held. held ≡ opening config expected peers) }
     {
-        let book = Book::open(alloc, config, expected, peers)?;
+        let mut book = Book::open(alloc, config, expected, peers)?;
+        // The order of the keys is kept from the first listing on. So the first one comes while there is nothing to sort.
+        let nothing = book.snapshot(alloc, &Query::All, Moment::new(0).unwrap())?;
+        drop(nothing);
         let (totals, rest) = blanks.open::<K>();
         Ok(Held {
             book,
@@ -240,30 +244,8 @@ impl<K: Label> Held<K> {
         })
     }
 
-    /// What a query sees at a moment (`Book::read`). The pass has then seen where the journal begins, and nothing else changes.
-    /// `AllocError` where no memory is left, which changes nothing.
-    pub fn read(
-        &self,
-        alloc: Global,
-        pass: &mut Pass<K>,
-        query: &Query,
-        moment: Moment,
-    ) -> Result<View, AllocError>
-        ensures view { IfOk result (λ v. Shows self.now.book.state.registry (λ s. view s query.now moment) v) }
-        ensures pass { OnOk result (pass.new ≡ after_view pass.old self.now.book.first) }
-        ensures err { OnErr result (pass.new ≡ pass.old) }
-    {
-        let view = self.book.read(alloc, query, moment)?;
-        see(
-            &mut pass.journal_first,
-            &mut pass.is_stale,
-            self.book.journal().first,
-        );
-        Ok(view)
-    }
-
-    /// The same in two steps (`Book::snapshot`): what the lock is held for, with the number at which the journal begins. Nothing
-    /// changes. `AllocError` where no memory is left.
+    /// What a query sees at a moment, as far as the lock is held for it (`Book::snapshot`): `ViewSnapshot::into_view` makes the view of
+    /// it once the lock is let go. With it the number at which the journal begins. Nothing changes. `AllocError` where no memory is left.
     pub fn snapshot(
         &mut self,
         alloc: Global,

@@ -134,7 +134,7 @@ impl<K: Label> Pass<K> {
         Ok(outcome.into_receipt())
     }
 
-    /// What a query sees of the shared book, at a moment (`Held::read`). The lock is held for no more than `Held::snapshot` takes.
+    /// What a query sees of the shared book, at a moment (`Book::read`). The lock is held for no more than `Held::snapshot` takes.
     /// `AllocError` where no memory is left, which leaves the pass as it was.
     pub fn read<R: Wait>(
         &mut self,

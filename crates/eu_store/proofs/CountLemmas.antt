@@ -96,11 +96,11 @@ number_held m s = in_counts (listing_of None m) s ∙ ap (λ es. number_in (map 
 total_new : (w : Listed → ℕ) (m : Held) (k : Key) (l : Listed) → get m k ≡ None → total w (entries (insert m k l)) ≡ w l + total w (entries m)
 total_new w m k l none = ap (total w) (entries-insert keys_total m k l) ∙ total_put key_cmp w k l (entries m) (sym (get-entries m k) ∙ none)
 
-get_removed : (m : Held) (k : Key) → get (remove m k) k ≡ None
+pub get_removed : (m : Held) (k : Key) → get (remove m k) k ≡ None
 get_removed m k = get-remove keys_total m k k ∙ ap (λ (r : Ordering). cond (is_eq r) None (get m k)) (tied_itself keys_total k)
 
 -- a lease that is put anew
-insert_removed : (m : Held) (k : Key) (l : Listed) → insert (remove m k) k l ≡ insert m k l
+pub insert_removed : (m : Held) (k : Key) (l : Listed) → insert (remove m k) k l ≡ insert m k l
 insert_removed m k l = same_map keys_total keys_exact _ _ (λ q.
     get-insert keys_total (remove m k) k l q
     ∙ ap (cond (eq_by_cmp key_cmp q k) (Some l)) (get-remove keys_total m k q)

@@ -1,13 +1,12 @@
 -- What is kept for readers stays right where keys and instances stay, and what it says is the listing
-use Rattle.std.proofs.Common.{◌≡◌, ℕ, zero, suc, ◌+◌, ◌<◌, true, false, true≢false, List, [], ◌∷◌, ◌++◌, filter, map, length, get_or, take, slice_get, refl, sym, ap, ◌∙◌, Option, None, Some, is_some, arith, Bor}
-use Rattle.std.specs.Arc.{arc_value}
+use Rattle.std.proofs.Common.{◌≡◌, ℕ, zero, suc, ◌+◌, ◌<◌, true, List, [], ◌∷◌, ◌++◌, filter, map, length, get_or, take, slice_get, refl, sym, ap, ◌∙◌, Option, None, Some, is_some, arith, Bor}
 use Rattle.std.specs.List.{IsDistinct}
 use Rattle.std.specs.FinMap.{entries}
 use Rattle.std.specs.Map.{keys_of, lookup, values_of}
 use Rattle.std.specs.Map.Iter.{deref_pair}
-use Rattle.std.specs.Option.{option_map}
-use Rattle.std.proofs.lemmas.List.{map-append, map_more}
-use Rattle.std.proofs.lemmas.Option.{slice_get-get_or, slice_get-map}
+use Rattle.std.specs.Option.{option_map, option_map_or}
+use Rattle.std.proofs.lemmas.List.{length-map, map-append, map_more, take_more}
+use Rattle.std.proofs.lemmas.Option.{slice_get-get_or, slice_get-map, slice_get_within}
 use Rattle.indexmap.specs.IndexMap.{set_value_at}
 use Rattle.eu_base.specs.declared.instances.Instance.{Instance}
 use Rattle.eu_base.specs.declared.names.Key.{Key}
@@ -15,13 +14,13 @@ use Rattle.eu_base.specs.Values.{key_eq}
 use Rattle.eu_model.specs.View.{is_of}
 use Rattle.eu_model.specs.declared.views.Listed.{Listed}
 use Rattle.eu_model.specs.declared.views.Times.{Times}
-use Rattle.eu_store.specs.declared.directory.Directory.{Directory}
-use Rattle.eu_store.specs.declared.directory.Latest.{Latest}
-use Rattle.eu_store.specs.Order.{at_places, instances_of, keys_held, listed_by, times_of, IsDirectory, IsInOrder, IsLatest}
+use Rattle.eu_store.specs.Order.{at_places, instance_at, instances_in, instances_of, keys_held, snapped, timed, times_of, AreWhole, IsInOrder, Part}
 use Rattle.eu_store.specs.Stored.{listing_of, rows_of}
 use Rattle.eu_store.proofs.CountLemmas.{filter_true}
-use Rattle.eu_store.proofs.OrderLemmas.{Entries, held, listing_at, order_kept, row_held}
-use Rattle.eu_store.proofs.PlaceLemmas.{at_length, same_all}
+use Rattle.eu_store.proofs.OrderLemmas.{Entries, held, listing_at, row_held}
+use Rattle.eu_store.proofs.FoundLemmas.{entry_there}
+use Rattle.eu_store.proofs.PartLemmas.{part_lookup}
+use Rattle.eu_store.proofs.PlaceLemmas.{same_all}
 use Rattle.eu_store.proofs.RowLemmas.{keys_shown}
 
 -- ---- a value that is written at a place
@@ -33,20 +32,6 @@ pub instances_stay : (es : Entries) (i : ℕ) (l n : Listed) → slice_get (valu
 instances_stay [] i l n there same = refl
 instances_stay (e ∷ es) zero l n there same = ap (λ x. x ∷ instances_of es) (same ∙ sym (ap (λ (x : Listed). x.instance) (first e.1 l there)))
 instances_stay (e ∷ es) (suc i) l n there same = ap (λ xs. e.1.instance ∷ xs) (instances_stay es i l n there same)
-
-directory_kept : (es fs : Entries) (d : Directory) → keys_of fs ≡ keys_of es → instances_of fs ≡ instances_of es → IsDirectory es d → IsDirectory fs d
-directory_kept es fs d keys instances is = (order_kept es fs d.places.items is.0 keys, ap (λ xs. at_places xs d.places.items) instances ∙ is.1)
-
-kept_there : (es fs : Entries) (d : Option Directory) → keys_of fs ≡ keys_of es → instances_of fs ≡ instances_of es → IsLatest es (record { directory = d; is_fresh = true }) → IsLatest fs (record { directory = d; is_fresh = true })
-kept_there es fs None keys instances is = is
-kept_there es fs (Some d) keys instances is = λ fresh. directory_kept es fs d keys instances (is fresh)
-
-pub latest_kept : (es fs : Entries) (kept : Latest) → keys_of fs ≡ keys_of es → instances_of fs ≡ instances_of es → IsLatest es kept → IsLatest fs kept
-latest_kept es fs kept keys instances is = λ fresh. kept_there es fs kept.directory keys instances (λ _. is fresh) refl
-
--- what is out of date says nothing
-pub none_latest : (es : Entries) (kept : Latest) → kept.is_fresh ≡ false → IsLatest es kept
-none_latest es kept stale = λ fresh. absurd (true≢false (sym fresh ∙ stale))
 
 -- ---- what is listed
 
@@ -64,59 +49,52 @@ listed_at (e ∷ es) zero i t at_i at_t = λ j. Some (record { instance = of_ins
     of_times h = cc
 listed_at (e ∷ es) (suc p) i t at_i at_t = listed_at es p i t at_i at_t
 
-both_at : (es : Entries) (ps : List ℕ) (is : List Instance) (ts : List Times) → at_places (instances_of es) ps ≡ map Some is → at_places (times_of es) ps ≡ map Some ts → at_places (values_of es) ps ≡ map Some (listed_by is ts)
-both_at es [] [] ts at_i at_t = refl
-both_at es [] (i ∷ is) ts at_i at_t = absurd (omega (arith, at_length (instances_of es) [] (i ∷ is) at_i))
-both_at es (p ∷ ps) [] ts at_i at_t = absurd (omega (arith, at_length (instances_of es) (p ∷ ps) [] at_i))
-both_at es (p ∷ ps) (i ∷ is) [] at_i at_t = absurd (omega (arith, at_length (times_of es) (p ∷ ps) [] at_t))
-both_at es (p ∷ ps) (i ∷ is) (t ∷ ts) at_i at_t = λ j. listed_at es p i t (head_i at_i) (head_t at_t) j ∷ both_at es ps is ts (tail_i at_i) (tail_t at_t) j
+both_at : (es : Entries) (parts : List (List Instance)) (rows : List (ℕ × Times)) → ((p : ℕ) → p < length es → instance_at parts p ≡ slice_get (instances_of es) p)
+    → at_places (times_of es) (map (λ r. r.0) rows) ≡ map Some (map (λ r. r.1) rows) → at_places (values_of es) (map (λ r. r.0) rows) ≡ map Some (snapped parts rows)
+both_at es parts [] whole h = refl
+both_at es parts (r ∷ rows) whole h =
+    let at_t = head h in
+    let entry = entry_there es r.0 (omega (arith, slice_get_within (times_of es) r.0 r.1 at_t, length-map es (λ e. e.1.times))) in
+    let at_i = slice_get-map (λ e. e.1.instance) es r.0 ∙ ap (option_map (λ (e : Key × Listed). e.1.instance)) entry.1 in
+    let here = whole r.0 (omega (arith, slice_get_within (times_of es) r.0 r.1 at_t, length-map es (λ e. e.1.times))) ∙ at_i in
+    (λ j. listed_at es r.0 entry.0.1.instance r.1 at_i at_t j ∷ both_at es parts rows whole (tail h) j)
+    ∙ ap (λ o. map (λ (l : Listed). Some l) (option_map_or (λ i. timed r.1 i ∷ snapped parts rows) o (snapped parts rows))) (sym here)
   where
-    head_i : ◌≡◌ {A = List (Option Instance)} (slice_get (instances_of es) p ∷ at_places (instances_of es) ps) (Some i ∷ map Some is) → slice_get (instances_of es) p ≡ Some i
-    head_i h = cc
+    head : ◌≡◌ {A = List (Option Times)} (slice_get (times_of es) r.0 ∷ at_places (times_of es) (map (λ q. q.0) rows)) (Some r.1 ∷ map Some (map (λ q. q.1) rows)) → slice_get (times_of es) r.0 ≡ Some r.1
+    head h = cc
 
-    tail_i : ◌≡◌ {A = List (Option Instance)} (slice_get (instances_of es) p ∷ at_places (instances_of es) ps) (Some i ∷ map Some is) → at_places (instances_of es) ps ≡ map Some is
-    tail_i h = cc
+    tail : ◌≡◌ {A = List (Option Times)} (slice_get (times_of es) r.0 ∷ at_places (times_of es) (map (λ q. q.0) rows)) (Some r.1 ∷ map Some (map (λ q. q.1) rows)) → at_places (times_of es) (map (λ q. q.0) rows) ≡ map Some (map (λ q. q.1) rows)
+    tail h = cc
 
-    head_t : ◌≡◌ {A = List (Option Times)} (slice_get (times_of es) p ∷ at_places (times_of es) ps) (Some t ∷ map Some ts) → slice_get (times_of es) p ≡ Some t
-    head_t h = cc
+pub snapshot_is : (es : Entries) (places : List ℕ) (parts : List Part) (rows : List (ℕ × Times)) → IsDistinct key_eq (keys_of es) → IsInOrder es places → AreWhole es parts → map (λ r. r.0) rows ≡ places
+    → map Some (map (λ r. r.1) rows) ≡ at_places (times_of es) places → snapped (instances_in parts) rows ≡ listing_of None (held es)
+snapshot_is es places parts rows apart order whole at times =
+    let in_order : at_places (keys_of es) places ≡ map Some (filter (is_of None) (keys_held es)) = order ∙ ap (map (λ (k : Key). Some k)) (sym (filter_true (keys_held es))) in
+    same_all (snapped (instances_in parts) rows) (listing_of None (held es)) (
+    sym (both_at es (instances_in parts) rows (part_lookup es parts whole) (ap (at_places (times_of es)) at ∙ sym times))
+    ∙ ap (at_places (values_of es)) at ∙ listing_at None es places apart in_order)
 
-    tail_t : ◌≡◌ {A = List (Option Times)} (slice_get (times_of es) p ∷ at_places (times_of es) ps) (Some t ∷ map Some ts) → at_places (times_of es) ps ≡ map Some ts
-    tail_t h = cc
+-- what was found, as a list
+abbrev pub found : Option Listed → List Listed
+found o = option_map_or (λ l. l ∷ []) o []
 
-pub snapshot_is : (es : Entries) (d : Directory) (ts : List Times) → IsDistinct key_eq (keys_of es) → IsDirectory es d → map Some ts ≡ at_places (times_of es) d.places.items
-    → listed_by (arc_value d.instances).items ts ≡ listing_of None (held es)
-snapshot_is es d ts apart is times =
-    let ps = d.places.items in
-    let order : at_places (keys_of es) ps ≡ map Some (filter (is_of None) (keys_held es)) = is.0 ∙ ap (map (λ (k : Key). Some k)) (sym (filter_true (keys_held es))) in
-    same_all (listed_by (arc_value d.instances).items ts) (listing_of None (held es)) (sym (both_at es ps (arc_value d.instances).items ts is.1 (sym times)) ∙ listing_at None es ps apart order)
-
-pub snapshot_long : (es : Entries) (d : Directory) (ts : List Times) → IsDirectory es d → map Some ts ≡ at_places (times_of es) d.places.items → length ts ≡ length (arc_value d.instances).items
-snapshot_long es d ts is times =
-    let ps = d.places.items in
-    sym (at_length (times_of es) ps ts (sym times)) ∙ at_length (instances_of es) ps (arc_value d.instances).items is.1
-
--- one more of both
-pub one_more_listed : (is : List Instance) (ts : List Times) (n : ℕ) (i : Instance) (t : Times) → slice_get is n ≡ Some i → slice_get ts n ≡ Some t
-    → listed_by (take n is) (take n ts) ++ record { instance = i; times = t } ∷ [] ≡ listed_by (take (n + 1) is) (take (n + 1) ts)
-one_more_listed [] ts n i t at_i at_t = absurd (nothing at_i)
+-- one row more
+pub one_more_snapped : (parts : List (List Instance)) (rows : List (ℕ × Times)) (n : ℕ) (d : ℕ × Times) → n < length rows
+    → snapped parts (take n rows) ++ found (option_map (timed (get_or rows n d).1) (instance_at parts (get_or rows n d).0)) ≡ snapped parts (take (n + 1) rows)
+one_more_snapped parts rows n d low = sym (ap (snapped parts) (take_more rows n d low) ∙ pushed (take n rows) (get_or rows n d))
   where
-    nothing : ◌≡◌ {A = Option Instance} None (Some i) → ⊥
-    nothing e = cc
-one_more_listed (x ∷ is) [] n i t at_i at_t = absurd (nothing at_t)
-  where
-    nothing : ◌≡◌ {A = Option Times} None (Some t) → ⊥
-    nothing e = cc
-one_more_listed (x ∷ is) (y ∷ ts) zero i t at_i at_t = λ j. record { instance = sym (of_instance at_i) j; times = sym (of_times at_t) j } ∷ []
-  where
-    of_instance : ◌≡◌ {A = Option Instance} (Some x) (Some i) → x ≡ i
-    of_instance h = cc
+    alone : (x : ℕ × Times) (o : Option Instance) → option_map_or (λ i. timed x.1 i ∷ []) o [] ≡ found (option_map (timed x.1) o)
+    alone x None = refl
+    alone x (Some i) = refl
 
-    of_times : ◌≡◌ {A = Option Times} (Some y) (Some t) → y ≡ t
-    of_times h = cc
-one_more_listed (x ∷ is) (y ∷ ts) (suc n) i t at_i at_t = ap (λ ls. record { instance = x; times = y } ∷ ls) (one_more_listed is ts n i t at_i at_t) ∙ ap (λ m. listed_by (take m (x ∷ is)) (take m (y ∷ ts))) (up n)
-  where
-    up : (n : ℕ) → suc (n + 1) ≡ suc n + 1
-    up n = omega arith
+    behind : (x : ℕ × Times) (o : Option Instance) (ls ms : List Listed) → option_map_or (λ i. timed x.1 i ∷ (ls ++ ms)) o (ls ++ ms) ≡ option_map_or (λ i. timed x.1 i ∷ ls) o ls ++ ms
+    behind x None ls ms = refl
+    behind x (Some i) ls ms = refl
+
+    pushed : (xs : List (ℕ × Times)) (x : ℕ × Times) → snapped parts (xs ++ x ∷ []) ≡ snapped parts xs ++ found (option_map (timed x.1) (instance_at parts x.0))
+    pushed [] x = alone x (instance_at parts x.0)
+    pushed (y ∷ ys) x =
+        ap (λ ls. option_map_or (λ i. timed y.1 i ∷ ls) (instance_at parts y.0) ls) (pushed ys x) ∙ behind y (instance_at parts y.0) (snapped parts ys) (found (option_map (timed x.1) (instance_at parts x.0)))
 
 -- ---- a row that is found by its key
 
@@ -144,12 +122,6 @@ one_more_key es places rows i place r low at here h =
     map-append (λ p. slice_get (keys_of es) p) places (place ∷ []) ∙ (λ j. h j ++ here j ∷ []) ∙ sym (map-append Some (map (λ (x : Bor Key × Bor Listed). x.0.now) (take i rows)) (r.0.now ∷ []))
     ∙ ap (λ (x : Bor Key × Bor Listed). map Some (map (λ (y : Bor Key × Bor Listed). y.0.now) (take i rows) ++ x.0.now ∷ [])) at
     ∙ ap (map (λ (k : Key). Some k)) (sym (map_more (λ (x : Bor Key × Bor Listed). x.0.now) rows i r low))
-
-pub one_more_instance : (es : Entries) (places : List ℕ) (is : List Instance) (place : ℕ) (k : Key) (l : Listed) (x : Instance) → slice_get es place ≡ Some (k, l) → x ≡ l.instance
-    → at_places (instances_of es) places ≡ map Some is → at_places (instances_of es) (places ++ place ∷ []) ≡ map Some (is ++ x ∷ [])
-one_more_instance es places is place k l x there same h =
-    let here : slice_get (instances_of es) place ≡ Some x = slice_get-map (λ e. e.1.instance) es place ∙ ap (option_map (λ (e : Key × Listed). e.1.instance)) there ∙ ap (λ (y : Instance). Some y) (sym same) in
-    map-append (λ p. slice_get (instances_of es) p) places (place ∷ []) ∙ (λ j. h j ++ here j ∷ []) ∙ sym (map-append Some is (x ∷ []))
 
 pub all_in_order : (es : Entries) (places : List ℕ) (rows : List (Bor Key × Bor Listed)) → map deref_pair rows ≡ rows_of None (held es) → at_places (keys_of es) places ≡ map Some (map (λ x. x.0.now) rows) → IsInOrder es places
 all_in_order es places rows is h =

@@ -35,7 +35,7 @@ same_bool false true f g = g refl
 same_bool false false f g = refl
 
 -- a list that has one that passes has it at some place
-any_place : {K : Type 0} (test : K → Bool) (d : K) (ks : List K) → list_any test ks ≡ true → (j : ℕ) × (j < length ks) × (test (get_or ks j d) ≡ true)
+pub any_place : {K : Type 0} (test : K → Bool) (d : K) (ks : List K) → list_any test ks ≡ true → (j : ℕ) × (j < length ks) × (test (get_or ks j d) ≡ true)
 any_place test d [] h = absurd (true≢false (sym h))
 any_place test d (k ∷ ks) h = by (test k) refl (any_place test d ks)
   where

@@ -9,3 +9,4 @@ pub mod Crossing
 pub mod OrderLemmas
 pub mod PlaceLemmas
 pub mod DirectoryLemmas
+pub mod PartLemmas

@@ -1,32 +1,37 @@
--- A table's entries in the order of their keys
-use Rattle.std.proofs.Common.{◌≡◌, ℕ, ◌+◌, ◌-◌, ◌<◌, ◌≤◌, ◌⊎◌, inl, inr, Bool, true, false, cond, not, ◌&&◌, List, [], ◌∷◌, map, filter, length, get_or, take, drop, slice_get, refl, sym, ap, subst, ◌∙◌, Option, None, Some, arith, true≢false, Ordering, Less, Equal, Greater}
+-- The places of a table's entries in the order of their keys, after each step
+use Rattle.std.proofs.Common.{◌≡◌, ℕ, zero, suc, ◌+◌, ◌-◌, ◌<◌, ◌≤◌, ◌⊎◌, inl, inr, Bool, true, false, cond, not, ◌&&◌, ◌||◌, List, [], ◌∷◌, ◌++◌, map, filter, length, get_or, set, take, drop, slice_get, refl, sym, ap, subst, ◌∙◌, Option, None, Some, is_some, arith, true≢false, Ordering, Less, Equal, Greater}
 use Rattle.std.specs.Option.{option_map, option_map_or}
-use Rattle.std.specs.Ordering.{is_eq, is_lt, is_le, ordering_then}
+use Rattle.std.specs.Ordering.{is_eq, is_lt, is_le, eq_by_cmp, ordering_reverse, ordering_then}
 use Rattle.std.specs.Map.{keys_of, values_of, lookup}
-use Rattle.std.specs.List.{IsDistinct, prefix_len}
+use Rattle.std.specs.List.{insert as put_in, remove as take_out, swap_remove, prefix_len, list_any, IsDistinct}
 use Rattle.std.specs.List.Sorted.{IsStrictlySortedBy, IsPartitionedBy}
-use Rattle.std.specs.FinMap.{FinMap, insert, entries, keys, entries-insert, entries_sorted, get-entries}
+use Rattle.std.specs.FinMap.{FinMap, insert, remove, get, entries, keys, entries-insert, entries_sorted, get-entries, contains_key-keys}
 use Rattle.std.specs.FinMap.Entries.{by_order, put, find, where_key, is_sorted-where_key, find-where_key}
 use Rattle.std.specs.Cmp.{eq_by_cmp_equiv}
 use Rattle.std.proofs.lemmas.Bool.{cases_lt}
 use Rattle.std.proofs.lemmas.List.Elements.{filter_agree}
-use Rattle.std.proofs.lemmas.List.{length-map}
-use Rattle.std.proofs.lemmas.Map.Keys.{Less-from_sorted, IsDistinct-from_sorted}
+use Rattle.std.proofs.lemmas.Cmp.{tied_itself}
+use Rattle.std.proofs.lemmas.List.{length-map, length-set, get_or-set_same, get_or-set_other}
+use Rattle.std.proofs.lemmas.List.Sums.{prefix_len_is, prefix_len-le-length}
+use Rattle.std.proofs.lemmas.Map.Keys.{Less-from_sorted, apart_from_distinct, IsDistinct-from_sorted}
 use Rattle.std.proofs.lemmas.Map.Entries.{lookup_from_place}
 use Rattle.std.proofs.lemmas.Option.{slice_get-map, slice_get_within, get_or_from_slice_get}
 use Rattle.eu_base.specs.declared.names.Key.{Key}
 use Rattle.eu_base.specs.Values.{name_cmp, key_cmp, key_eq}
-use Rattle.eu_base.proofs.KeyLemmas.{names_total, names_exact, name_eq-ties, keys_total, keys_exact}
+use Rattle.eu_base.proofs.KeyLemmas.{names_total, names_exact, name_eq-ties, keys_total, keys_exact, key_eq-Decides}
 use Rattle.eu_model.specs.View.{is_of}
 use Rattle.eu_model.specs.declared.views.Listed.{Listed}
-use Rattle.eu_store.specs.Order.{at_places, at_place, is_before, is_through, keys_held, IsInOrder}
+use Rattle.eu_store.specs.Order.{at_places, at_place, is_below, is_before, is_through, keys_held, IsInOrder}
+use Rattle.eu_store.specs.Limit.{within}
 use Rattle.eu_store.specs.Stored.{rows_of, listing_of}
-use Rattle.eu_store.proofs.TableLemmas.{by_key, map_of, get_at}
-use Rattle.eu_store.proofs.CountLemmas.{entries_none, filter_true}
-use Rattle.eu_store.proofs.FoundLemmas.{entry_there}
+use Rattle.eu_store.specs.declared.directory.Limit.{Limit}
+use Rattle.eu_store.specs.declared.directory.Limit.TheVariants.{Below, Before, Through}
+use Rattle.eu_store.proofs.TableLemmas.{by_key, map_of, equal_of_test, get_at, insert_same}
+use Rattle.eu_store.proofs.CountLemmas.{filter_true, entries_none, get_removed, insert_removed}
+use Rattle.eu_store.proofs.FoundLemmas.{any_place, entry_there}
 use Rattle.eu_store.proofs.IndexLemmas.{key_equiv}
 use Rattle.eu_store.proofs.MapLemmas.{nobody}
-use Rattle.eu_store.proofs.PlaceLemmas.{at_get, at_from, at_length, at_part, segment}
+use Rattle.eu_store.proofs.PlaceLemmas.{map_swapped, same_some, at_get, at_from, at_length, segment, at_part, at_removed, at_inserted, swapped_same, swapped_other}
 use Rattle.eu_store.proofs.RowLemmas.{find_is_lookup}
 use Rattle.eu_store.proofs.SortedLemmas.{sorted_keys}
 
@@ -35,6 +40,87 @@ Entries = List (Key × Listed)
 
 abbrev pub held : Entries → FinMap key_cmp Listed
 held es = map_of es
+
+rising : (es : Entries) → IsStrictlySortedBy key_cmp (keys_held es)
+rising es = sorted_keys key_cmp (entries (held es)) (entries_sorted (held es))
+
+less_of_test : (r : Ordering) → is_lt r ≡ true → r ≡ Less
+less_of_test Less h = refl
+less_of_test Equal h = cc
+less_of_test Greater h = cc
+
+-- ---- a search
+
+-- a test that holds below where it holds, holds of the first ones alone
+pub holds_first : (q : Key → Bool) → ((x y : Key) → key_cmp x y ≡ Less → q y ≡ true → q x ≡ true) → (es : Entries) → IsPartitionedBy q (keys_held es)
+holds_first q down es i j d le low holds = by (cases_lt i j)
+  where
+    by : (i < j) ⊎ (j ≤ i) → q (get_or (keys_held es) i d) ≡ true
+    by (inl under) = down (get_or (keys_held es) i d) (get_or (keys_held es) j d) (Less-from_sorted key_cmp (keys_held es) i j d (rising es) under low) holds
+    by (inr over) = let same : i ≡ j = omega (arith, le, over) in ap (λ n. q (get_or (keys_held es) n d)) same ∙ holds
+
+at_test : (q : Key → Bool) (es : Entries) (ps : List ℕ) (i d : ℕ) → IsInOrder es ps → i < length (keys_held es) → at_place q es (get_or ps i d) ≡ q (get_or (keys_held es) i nobody)
+at_test q es ps i d order low = ap (λ o. option_map_or q o false) (at_get (keys_of es) ps (keys_held es) i d nobody order low)
+
+pub parted : (q : Key → Bool) (es : Entries) (ps : List ℕ) → IsInOrder es ps → IsPartitionedBy q (keys_held es) → IsPartitionedBy (at_place q es) ps
+parted q es ps order first i j d le low holds =
+    let long : length ps ≡ length (keys_held es) = at_length (keys_of es) ps (keys_held es) order in
+    at_test q es ps i d order (omega (arith, le, low, long)) ∙ first i j nobody le (omega (arith, low, long)) (sym (at_test q es ps j d order (omega (arith, low, long))) ∙ holds)
+
+pub below_holds_first : (k : Key) (es : Entries) → IsPartitionedBy (is_below k) (keys_held es)
+below_holds_first k es = holds_first (is_below k) (λ x y up holds. ap is_lt (keys_total.trans x y k up (less_of_test (key_cmp y k) holds))) es
+
+-- a key that is among keys in order is the first that isn't below it
+found_at : (k : Key) (gs : List Key) → IsStrictlySortedBy key_cmp gs → list_any (eq_by_cmp key_cmp k) gs ≡ true → (prefix_len (is_below k) gs < length gs) × (get_or gs (prefix_len (is_below k) gs) k ≡ k)
+found_at k gs up some =
+    let a = any_place (eq_by_cmp key_cmp k) k gs some in
+    let is : k ≡ get_or gs a.0 k = keys_exact k (get_or gs a.0 k) (equal_of_test (key_cmp k (get_or gs a.0 k)) a.2) in
+    let at : prefix_len (is_below k) gs ≡ a.0 = prefix_len_is (is_below k) gs a.0 k (omega (arith, a.1))
+    (λ j low. ap is_lt (ap (key_cmp (get_or gs j k)) is ∙ Less-from_sorted key_cmp gs j a.0 k up low a.1))
+    (λ low. ap (λ x. is_lt (key_cmp x k)) (sym is) ∙ ap is_lt (tied_itself keys_total k)) in
+    (omega (arith, at, a.1), ap (λ n. get_or gs n k) at ∙ sym is)
+
+-- keys in order that are equal stand at one place
+one_spot : (gs : List Key) (a b : ℕ) (d : Key) → IsStrictlySortedBy key_cmp gs → a < length gs → b < length gs → get_or gs a d ≡ get_or gs b d → a ≡ b
+one_spot gs a b d up low high same = by (cases_lt a b) (cases_lt b a)
+  where
+    never : (x : Key) → key_cmp x x ≡ Less → ⊥
+    never x h = true≢false (sym (ap is_lt h) ∙ ap is_lt (tied_itself keys_total x))
+
+    by : (a < b) ⊎ (b ≤ a) → (b < a) ⊎ (a ≤ b) → a ≡ b
+    by (inl under) _ = absurd (never (get_or gs b d) (ap (λ x. key_cmp x (get_or gs b d)) (sym same) ∙ Less-from_sorted key_cmp gs a b d up under high))
+    by (inr _) (inl over) = absurd (never (get_or gs b d) (ap (key_cmp (get_or gs b d)) (sym same) ∙ Less-from_sorted key_cmp gs b a d up over low))
+    by (inr x) (inr y) = omega (arith, x, y)
+
+-- keys that differ stand at one place each
+one_place : (ks : List Key) (a b : ℕ) (x : Key) → IsDistinct key_eq ks → slice_get ks a ≡ Some x → slice_get ks b ≡ Some x → a ≡ b
+one_place ks a b x apart at_a at_b = by (cases_lt a b) (cases_lt b a)
+  where
+    never : (i j : ℕ) → i < j → slice_get ks i ≡ Some x → slice_get ks j ≡ Some x → ⊥
+    never i j under at_i at_j =
+        let differ = apart_from_distinct key_eq ks i j x apart under (slice_get_within ks j x at_j) in
+        let same : key_eq x x ≡ true = (key_eq-Decides x x).1 refl in
+        true≢false (sym same ∙ (λ n. key_eq (sym (get_or_from_slice_get ks i x x at_i) n) (sym (get_or_from_slice_get ks j x x at_j) n)) ∙ differ)
+
+    by : (a < b) ⊎ (b ≤ a) → (b < a) ⊎ (a ≤ b) → a ≡ b
+    by (inl under) _ = absurd (never a b under at_a at_b)
+    by (inr _) (inl over) = absurd (never b a over at_b at_a)
+    by (inr p) (inr q) = omega (arith, p, q)
+
+-- a place of the table is found by its key
+pub stands : (es : Entries) (ps : List ℕ) (p : ℕ) (k : Key) (v : Listed) → IsDistinct key_eq (keys_of es) → IsInOrder es ps → slice_get es p ≡ Some (k, v)
+    → (prefix_len (is_below k) (keys_held es) < length ps) × (get_or ps (prefix_len (is_below k) (keys_held es)) 0 ≡ p)
+stands es ps p k v apart order there =
+    let gs = keys_held es in
+    let i = prefix_len (is_below k) gs in
+    let long : length ps ≡ length gs = at_length (keys_of es) ps gs order in
+    let some = sym (contains_key-keys (held es) k) ∙ ap is_some (get_at by_key es k ∙ lookup_from_place key_equiv es p k v apart there) in
+    let found = found_at k gs (rising es) some in
+    let here = at_get (keys_of es) ps gs i 0 k order found.0 ∙ ap (λ (x : Key). Some x) found.1 in
+    let key = slice_get-map (λ e. e.0) es p ∙ ap (option_map (λ (e : Key × Listed). e.0)) there in
+    (omega (arith, long, found.0), one_place (keys_of es) (get_or ps i 0) p k apart here key)
+
+-- ---- the keys of a map after a step
 
 abbrev put_key : Key → List Key → List Key
 put_key k [] = k ∷ []
@@ -60,36 +146,146 @@ keys_in_order : (es : Entries) → keys_held es ≡ in_order (keys_of es)
 keys_in_order [] = ap (map (λ e. e.0)) entries_none
 keys_in_order (e ∷ es) = keys_inserted (held es) e.0 e.1 ∙ ap (put_key e.0) (keys_in_order es)
 
+-- a new key is put before the first that isn't below it
+put_at : (k : Key) (gs : List Key) → list_any (eq_by_cmp key_cmp k) gs ≡ false → put_key k gs ≡ put_in gs (prefix_len (is_below k) gs) k
+put_at k [] none = refl
+put_at k (g ∷ gs) none = by (key_cmp k g) refl none (put_at k gs)
+  where
+    turned : (r : Ordering) → key_cmp k g ≡ r → is_below k g ≡ is_lt (ordering_reverse r)
+    turned r is = ap is_lt (keys_total.antisymm g k ∙ ap ordering_reverse is)
+
+    by : (r : Ordering) → key_cmp k g ≡ r → (is_eq (key_cmp k g) || list_any (eq_by_cmp key_cmp k) gs) ≡ false → (list_any (eq_by_cmp key_cmp k) gs ≡ false → put_key k gs ≡ put_in gs (prefix_len (is_below k) gs) k)
+        → by_order r (k ∷ g ∷ gs) (g ∷ gs) (g ∷ put_key k gs) ≡ put_in (g ∷ gs) (cond (is_below k g) (1 + prefix_len (is_below k) gs) 0) k
+    by Less is none rest = ap (λ b. put_in (g ∷ gs) (cond b (1 + prefix_len (is_below k) gs) 0) k) (sym (turned Less is))
+    by Equal is none rest = absurd (true≢false (ap (λ r. is_eq r || list_any (eq_by_cmp key_cmp k) gs) (sym is) ∙ none))
+    by Greater is none rest =
+        ap (λ ks. g ∷ ks) (rest (ap (λ r. is_eq r || list_any (eq_by_cmp key_cmp k) gs) (sym is) ∙ none)) ∙ ap (λ j. put_in (g ∷ gs) j k) one_more
+        ∙ ap (λ b. put_in (g ∷ gs) (cond b (1 + prefix_len (is_below k) gs) 0) k) (sym (turned Greater is))
+      where
+        one_more : suc (prefix_len (is_below k) gs) ≡ 1 + prefix_len (is_below k) gs
+        one_more = omega arith
+
+keys_put_in : (m : FinMap key_cmp Listed) (k : Key) (v : Listed) → get m k ≡ None → keys (insert m k v) ≡ put_in (keys m) (prefix_len (is_below k) (keys m)) k
+keys_put_in m k v none = keys_inserted m k v ∙ put_at k (keys m) (sym (contains_key-keys m k) ∙ ap is_some none)
+
+put_there : (gs : List Key) (i : ℕ) (k d : Key) → i ≤ length gs → (get_or (put_in gs i k) i d ≡ k) × (take_out (put_in gs i k) i ≡ gs)
+put_there gs zero k d low = (refl, refl)
+put_there [] (suc i) k d low = absurd (omega (arith, low))
+put_there (g ∷ gs) (suc i) k d low = let rest = put_there gs i k d (omega (arith, low)) in (rest.0, ap (λ ks. g ∷ ks) rest.1)
+
+-- a key that goes is taken from where it stands
+keys_taken_out : (m : FinMap key_cmp Listed) (k : Key) (l : Listed) (i : ℕ) → get m k ≡ Some l → i < length (keys m) → get_or (keys m) i k ≡ k → keys (remove m k) ≡ take_out (keys m) i
+keys_taken_out m k l i there low at =
+    let hs = keys (remove m k) in
+    let j = prefix_len (is_below k) hs in
+    let whole : keys m ≡ put_in hs j k = ap keys (sym (insert_same by_key m k l there) ∙ sym (insert_removed m k l)) ∙ keys_put_in (remove m k) k l (get_removed m k) in
+    let back = put_there hs j k k (prefix_len-le-length (is_below k) hs) in
+    let here : get_or (keys m) j k ≡ k = ap (λ ks. get_or ks j k) whole ∙ back.0 in
+    let low_j : j < length (keys m) = subst (λ n. j < n) (ap length (sym whole)) (inside hs j (prefix_len-le-length (is_below k) hs)) in
+    let same : j ≡ i = one_spot (keys m) j i k (sorted_keys key_cmp (entries m) (entries_sorted m)) low_j low (here ∙ sym at) in
+    sym (ap (take_out (keys m)) (sym same) ∙ ap (λ ks. take_out ks j) whole ∙ back.1)
+  where
+    inside : (hs : List Key) (j : ℕ) → j ≤ length hs → j < length (put_in hs j k)
+    inside hs zero h = omega arith
+    inside [] (suc j) h = absurd (omega (arith, h))
+    inside (g ∷ hs) (suc j) h = let rest = inside hs j (omega (arith, h)) in omega (arith, rest)
+
+-- ---- each step
+
+pub order_none : (es : Entries) (ps : List ℕ) → es ≡ [] → ps ≡ [] → IsInOrder es ps
+order_none es ps none no_place =
+    (λ i. at_places (keys_of (none i)) (no_place i)) ∙ ap (map (λ (k : Key). Some k)) (sym (keys_in_order [])) ∙ ap (λ (l : Entries). map (λ (k : Key). Some k) (keys_held l)) (sym none)
+
+keys_push : (es : Entries) (k : Key) (v : Listed) → keys_of (es ++ (k, v) ∷ []) ≡ keys_of es ++ k ∷ []
+keys_push [] k v = refl
+keys_push (e ∷ es) k v = ap (λ ks. e.0 ∷ ks) (keys_push es k v)
+
+pub order_inserted : (es fs : Entries) (ps : List ℕ) (k : Key) (v : Listed) → IsInOrder es ps → get (held es) k ≡ None → fs ≡ es ++ (k, v) ∷ [] → held fs ≡ insert (held es) k v
+    → IsInOrder fs (put_in ps (prefix_len (is_below k) (keys_held es)) (length es))
+order_inserted es fs ps k v order none made is =
+    let i = prefix_len (is_below k) (keys_held es) in
+    ap (λ ks. at_places ks (put_in ps i (length es))) (ap keys_of made ∙ keys_push es k v)
+    ∙ ap (λ n. at_places (keys_of es ++ k ∷ []) (put_in ps i n)) (sym (length-map es (λ e. e.0)))
+    ∙ at_inserted (keys_of es) ps (keys_held es) i k order
+    ∙ ap (map (λ (x : Key). Some x)) (sym (ap keys is ∙ keys_put_in (held es) k v none))
+
 -- a step that keeps the keys
 pub order_kept : (es fs : Entries) (ps : List ℕ) → IsInOrder es ps → keys_of fs ≡ keys_of es → IsInOrder fs ps
 order_kept es fs ps order same =
     ap (λ ks. at_places ks ps) same ∙ order ∙ ap (map (λ (x : Key). Some x)) (keys_in_order es ∙ ap in_order (sym same) ∙ sym (keys_in_order fs))
 
-rising : (es : Entries) → IsStrictlySortedBy key_cmp (keys_held es)
-rising es = sorted_keys key_cmp (entries (held es)) (entries_sorted (held es))
+-- a place stands once
+pub once_in_order : (es : Entries) (ps : List ℕ) → IsInOrder es ps → (a b : ℕ) → a < length (keys_held es) → b < length (keys_held es) → get_or ps a 0 ≡ get_or ps b 0 → a ≡ b
+once_in_order es ps order a b low high same =
+    let ks = keys_of es in
+    let gs = keys_held es in
+    one_spot gs a b nobody (rising es) low high (same_some _ _ (sym (at_get ks ps gs a 0 nobody order low) ∙ ap (slice_get ks) same ∙ at_get ks ps gs b 0 nobody order high))
 
-less_of_test : (r : Ordering) → is_lt r ≡ true → r ≡ Less
-less_of_test Less h = refl
-less_of_test Equal h = cc
-less_of_test Greater h = cc
+-- the places that are left, where the one of the last is that of the one which went
+module _ (es : Entries) (ps : List ℕ) (p at moved : ℕ) (d : Key × Listed) (order : IsInOrder es ps) (within : p < length es) (at_low : at < length ps) (at_is : get_or ps at 0 ≡ p)
+    (moved_low : moved < length ps) (moved_is : get_or ps moved 0 ≡ length es - 1) where
+  abbrev gs : List Key
+  gs = keys_held es
 
--- ---- tests that hold of the first keys alone
+  abbrev ks : List Key
+  ks = keys_of es
 
--- a test that holds below where it holds, holds of the first ones alone
-pub holds_first : (q : Key → Bool) → ((x y : Key) → key_cmp x y ≡ Less → q y ≡ true → q x ≡ true) → (es : Entries) → IsPartitionedBy q (keys_held es)
-holds_first q down es i j d le low holds = by (cases_lt i j)
-  where
-    by : (i < j) ⊎ (j ≤ i) → q (get_or (keys_held es) i d) ≡ true
-    by (inl under) = down (get_or (keys_held es) i d) (get_or (keys_held es) j d) (Less-from_sorted key_cmp (keys_held es) i j d (rising es) under low) holds
-    by (inr over) = let same : i ≡ j = omega (arith, le, over) in ap (λ n. q (get_or (keys_held es) n d)) same ∙ holds
+  long : length ps ≡ length gs
+  long = at_length ks ps gs order
 
-at_test : (q : Key → Bool) (es : Entries) (ps : List ℕ) (i d : ℕ) → IsInOrder es ps → i < length (keys_held es) → at_place q es (get_or ps i d) ≡ q (get_or (keys_held es) i nobody)
-at_test q es ps i d order low = ap (λ o. option_map_or q o false) (at_get (keys_of es) ps (keys_held es) i d nobody order low)
+  many : length ks ≡ length es
+  many = length-map es (λ e. e.0)
 
-pub parted : (q : Key → Bool) (es : Entries) (ps : List ℕ) → IsInOrder es ps → IsPartitionedBy q (keys_held es) → IsPartitionedBy (at_place q es) ps
-parted q es ps order first i j d le low holds =
-    let long : length ps ≡ length (keys_held es) = at_length (keys_of es) ps (keys_held es) order in
-    at_test q es ps i d order (omega (arith, le, low, long)) ∙ first i j nobody le (omega (arith, low, long)) (sym (at_test q es ps j d order (omega (arith, low, long))) ∙ holds)
+  once : (a b : ℕ) → a < length gs → b < length gs → get_or ps a 0 ≡ get_or ps b 0 → a ≡ b
+  once = once_in_order es ps order
+
+  abbrev after : List Key
+  after = take (length ks - 1) (set ks p (get_or ks (length ks - 1) d.0))
+
+  keys_swapped : keys_of (swap_remove es p d) ≡ after
+  keys_swapped = map_swapped (λ e. e.0) es p d d.0 (omega (arith, within))
+
+  left_at : (r x : ℕ) (g : Key) → r < length gs → (r ≡ at → ⊥) → slice_get (keys_of (swap_remove es p d)) (get_or (set ps moved p) r x) ≡ Some (get_or gs r g)
+  left_at r x g low apart = ap (λ l. slice_get l (get_or (set ps moved p) r x)) keys_swapped ∙ by (cases_lt r moved) (cases_lt moved r)
+    where
+      other : (r ≡ moved → ⊥) → slice_get after (get_or (set ps moved p) r x) ≡ Some (get_or gs r g)
+      other differ =
+          let here : get_or (set ps moved p) r x ≡ get_or ps r 0 = get_or-set_other ps moved r p x differ ∙ same_default ps r x 0 (omega (arith, low, long)) in
+          let there = at_get ks ps gs r 0 g order low in
+          let inside : get_or ps r 0 < length ks = slice_get_within ks (get_or ps r 0) (get_or gs r g) there in
+          let not_last : get_or ps r 0 ≡ length es - 1 → ⊥ = λ e. differ (once r moved low (omega (arith, moved_low, long)) (e ∙ sym moved_is)) in
+          let not_gone : get_or ps r 0 ≡ p → ⊥ = λ e. apart (once r at low (omega (arith, at_low, long)) (e ∙ sym at_is)) in
+          ap (slice_get after) here ∙ swapped_other ks p (get_or ps r 0) d.0 (less_by_one (get_or ps r 0) (length ks) inside (λ e. not_last (e ∙ ap (λ n. n - 1) many))) not_gone ∙ there
+        where
+          less_by_one : (a n : ℕ) → a < n → (a ≡ n - 1 → ⊥) → a < n - 1
+          less_by_one a n h apart = omega (arith, h, apart)
+
+          same_default : (xs : List ℕ) (i a b : ℕ) → i < length xs → get_or xs i a ≡ get_or xs i b
+          same_default [] i a b h = absurd (omega arith)
+          same_default (x ∷ xs) zero a b h = refl
+          same_default (x ∷ xs) (suc i) a b h = same_default xs i a b (omega arith)
+
+      same : r ≡ moved → slice_get after (get_or (set ps moved p) r x) ≡ Some (get_or gs r g)
+      same is =
+          let here : get_or (set ps moved p) r x ≡ p = ap (λ n. get_or (set ps moved p) n x) is ∙ get_or-set_same ps moved p x moved_low in
+          let there = at_get ks ps gs r 0 g order low in
+          let last : get_or ps r 0 ≡ length ks - 1 = ap (λ n. get_or ps n 0) is ∙ moved_is ∙ ap (λ n. n - 1) (sym many) in
+          let not_gone : p ≡ length ks - 1 → ⊥ = λ e. apart (once r at low (omega (arith, at_low, long)) (last ∙ sym e ∙ sym at_is)) in
+          let under : p < length ks - 1 = omega (arith, within, many, not_gone) in
+          ap (slice_get after) here ∙ swapped_same ks p d.0 under ∙ ap (slice_get ks) (sym last) ∙ there
+
+      by : (r < moved) ⊎ (moved ≤ r) → (moved < r) ⊎ (r ≤ moved) → slice_get after (get_or (set ps moved p) r x) ≡ Some (get_or gs r g)
+      by (inl under) _ = other (λ e. omega (arith, under, e))
+      by (inr _) (inl over) = other (λ e. omega (arith, over, e))
+      by (inr a) (inr b) = same (omega (arith, a, b))
+
+  pub order_removed : (fs : Entries) (k : Key) (l : Listed) → slice_get ks p ≡ Some k → get (held es) k ≡ Some l → fs ≡ swap_remove es p d → held fs ≡ remove (held es) k → IsInOrder fs (take_out (set ps moved p) at)
+  order_removed fs k l key there made is =
+      let low : at < length gs = omega (arith, at_low, long) in
+      let here : get_or gs at k ≡ k = same_some _ _ (sym (at_get ks ps gs at 0 k order low) ∙ ap (slice_get ks) at_is ∙ key) in
+      ap (λ l. at_places (keys_of l) (take_out (set ps moved p) at)) made
+      ∙ at_removed (keys_of (swap_remove es p d)) (set ps moved p) gs at (length-set ps moved p ∙ long) left_at
+      ∙ ap (map (λ (x : Key). Some x)) (sym (ap keys is ∙ keys_taken_out (held es) k l at there low here))
 
 -- ---- the keys of an application
 
@@ -120,6 +316,12 @@ through_holds_first app es = holds_first (is_through app) (λ x y up holds. by x
     by : (x y : Key) → is_through app y ≡ true → (name_cmp x.app y.app ≡ Less) ⊎ (name_cmp x.app y.app ≡ Equal) → is_through app x ≡ true
     by x y holds (inl less) = below app x y (name_cmp y.app app) refl holds less
     by x y holds (inr same) = ap is_le (names_total.congr x.app y.app app same) ∙ holds
+
+-- what is within a limit are the first keys
+pub within_first : (limit : Limit) (es : Entries) → IsPartitionedBy (within limit) (keys_held es)
+within_first (Below k) es = below_holds_first k.now es
+within_first (Before app) es = before_holds_first app.now es
+within_first (Through app) es = through_holds_first app.now es
 
 before_through : (app : List ℕ) (x : Key) → is_before app x ≡ true → is_through app x ≡ true
 before_through app x = within (name_cmp x.app app)
@@ -173,9 +375,6 @@ keys_where p (e ∷ es) = by (p e.0) (keys_where p es)
     by : (b : Bool) → keys_of (where_key key_cmp p es) ≡ filter p (keys_of es) → keys_of (cond b (e ∷ where_key key_cmp p es) (where_key key_cmp p es)) ≡ cond b (e.0 ∷ filter p (keys_of es)) (filter p (keys_of es))
     by true h = ap (λ ks. e.0 ∷ ks) h
     by false h = h
-
-same_some : {A : Type 0} (x y : A) → ◌≡◌ {A = Option A} (Some x) (Some y) → x ≡ y
-same_some x y h = cc
 
 -- at the places of keys stand the values that are looked up by them
 values_at : (es : Entries) (ps : List ℕ) (rows : Entries) → IsDistinct key_eq (keys_of es) → ((i : ℕ) (e : Key × Listed) → slice_get rows i ≡ Some e → lookup (key_eq e.0) es ≡ Some e.1)

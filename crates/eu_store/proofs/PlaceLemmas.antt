@@ -1,17 +1,28 @@
--- What stands at places of a list
-use Rattle.std.proofs.Common.{◌≡◌, ℕ, zero, suc, ◌+◌, ◌-◌, ◌<◌, ◌≤◌, Bool, true, false, cond, not, ◌&&◌, List, [], ◌∷◌, ◌++◌, map, filter, length, get_or, take, drop, slice_get, refl, sym, ap, ◌∙◌, Option, Some, arith, true≢false}
-use Rattle.std.specs.List.{prefix_len}
+-- What stands at places of a list, and what a change of the list or of the places leaves there
+use Rattle.std.proofs.Common.{◌≡◌, ℕ, zero, suc, ◌+◌, ◌-◌, ◌<◌, ◌≤◌, Bool, true, false, cond, not, ◌&&◌, List, [], ◌∷◌, ◌++◌, map, filter, length, get_or, set, take, drop, slice_get, refl, sym, ap, ◌∙◌, Option, None, Some, arith, true≢false}
+use Rattle.std.specs.List.{insert, remove, swap_remove, prefix_len}
 use Rattle.std.specs.List.Sorted.{IsPartitionedBy, IsPartitionPoint}
 use Rattle.std.specs.Option.{option_map_or}
-use Rattle.std.proofs.lemmas.List.{length-map, map-append, map_more, take-map, drop-map}
+use Rattle.std.proofs.lemmas.List.{length-map, map-append, map-set, map_more, take-map, drop-map, get_or-map}
 use Rattle.std.proofs.lemmas.List.Sums.{prefix_len_is}
-use Rattle.std.proofs.lemmas.Option.{slice_get_within}
+use Rattle.std.proofs.lemmas.Option.{slice_get-get_or, slice_get_within}
 use Rattle.eu_store.specs.Order.{at_places}
 
 one_more : (n : ℕ) → suc n ≡ 1 + n
 one_more n = omega arith
 
+-- what a list shows after its last one took the place of another
+pub map_swapped : {A B : Type 0} (f : A → B) (xs : List A) (i : ℕ) (d : A) (e : B) → 0 < length xs → map f (swap_remove xs i d) ≡ swap_remove (map f xs) i e
+map_swapped f xs i d e some =
+    let last = get_or xs (length xs - 1) d in
+    sym (take-map f (length xs - 1) (set xs i last))
+    ∙ ap (take (length xs - 1)) (map-set f xs i last ∙ ap (set (map f xs) i) (sym (get_or-map f xs (length xs - 1) d e (omega (arith, some)))))
+    ∙ ap (λ n. take (n - 1) (set (map f xs) i (get_or (map f xs) (n - 1) e))) (sym (length-map xs f))
+
 module _ {A : Type 0} where
+  pub same_some : (x y : A) → ◌≡◌ {A = Option A} (Some x) (Some y) → x ≡ y
+  same_some x y h = cc
+
   pub at_get : (xs : List A) (ps : List ℕ) (gs : List A) (i d : ℕ) (e : A) → at_places xs ps ≡ map Some gs → i < length gs → slice_get xs (get_or ps i d) ≡ Some (get_or gs i e)
   at_get xs ps [] i d e h low = absurd (omega arith)
   at_get xs [] (g ∷ gs) i d e h low = absurd (empty h)
@@ -35,6 +46,77 @@ module _ {A : Type 0} where
   at_from xs [] (g ∷ gs) long h = absurd (omega (arith, long))
   at_from xs (p ∷ ps) [] long h = absurd (omega (arith, long))
   at_from xs (p ∷ ps) (g ∷ gs) long h = λ j. h 0 p g (omega arith) j ∷ at_from xs ps gs (omega (arith, long)) (λ i d e low. h (suc i) d e (omega (arith, low))) j
+
+  -- a place less
+  pub at_removed : (xs : List A) (ps : List ℕ) (gs : List A) (i : ℕ) → length ps ≡ length gs
+      → ((r d : ℕ) (e : A) → r < length gs → (r ≡ i → ⊥) → slice_get xs (get_or ps r d) ≡ Some (get_or gs r e)) → at_places xs (remove ps i) ≡ map Some (remove gs i)
+  at_removed xs [] [] zero long h = refl
+  at_removed xs [] [] (suc i) long h = refl
+  at_removed xs [] (g ∷ gs) i long h = absurd (omega (arith, long))
+  at_removed xs (p ∷ ps) [] i long h = absurd (omega (arith, long))
+  at_removed xs (p ∷ ps) (g ∷ gs) zero long h = at_from xs ps gs (omega (arith, long)) (λ r d e low. h (suc r) d e (omega (arith, low)) (λ same. omega (arith, same)))
+  at_removed xs (p ∷ ps) (g ∷ gs) (suc i) long h =
+      λ j. h 0 p g (omega arith) (λ same. omega (arith, same)) j ∷ at_removed xs ps gs i (omega (arith, long)) (λ r d e low apart. h (suc r) d e (omega (arith, low)) (λ same. apart (omega (arith, same)))) j
+
+  get_more : (xs ys : List A) (p : ℕ) (g : A) → slice_get xs p ≡ Some g → slice_get (xs ++ ys) p ≡ Some g
+  get_more [] ys p g h = absurd (nothing h)
+    where
+      nothing : ◌≡◌ {A = Option A} None (Some g) → ⊥
+      nothing e = cc
+  get_more (x ∷ xs) ys zero g h = h
+  get_more (x ∷ xs) ys (suc p) g h = get_more xs ys p g h
+
+  get_end : (xs : List A) (x : A) → slice_get (xs ++ x ∷ []) (length xs) ≡ Some x
+  get_end [] x = refl
+  get_end (y ∷ xs) x = get_end xs x
+
+  -- a place more: that of one more at the end
+  pub at_inserted : (xs : List A) (ps : List ℕ) (gs : List A) (i : ℕ) (x : A) → at_places xs ps ≡ map Some gs → at_places (xs ++ x ∷ []) (insert ps i (length xs)) ≡ map Some (insert gs i x)
+  at_inserted xs ps gs i x h = at_more ps gs i h
+    where
+      at_same : (ps : List ℕ) (gs : List A) → at_places xs ps ≡ map Some gs → at_places (xs ++ x ∷ []) ps ≡ map Some gs
+      at_same ps gs h = at_from (xs ++ x ∷ []) ps gs (at_length xs ps gs h) (λ i d e low. get_more xs (x ∷ []) (get_or ps i d) (get_or gs i e) (at_get xs ps gs i d e h low))
+
+      at_more : (ps : List ℕ) (gs : List A) (i : ℕ) → at_places xs ps ≡ map Some gs → at_places (xs ++ x ∷ []) (insert ps i (length xs)) ≡ map Some (insert gs i x)
+      at_more ps gs zero h = λ j. get_end xs x j ∷ at_same ps gs h j
+      at_more [] [] (suc i) h = λ j. get_end xs x j ∷ []
+      at_more [] (g ∷ gs) (suc i) h = absurd (omega (arith, at_length xs [] (g ∷ gs) h))
+      at_more (p ∷ ps) [] (suc i) h = absurd (omega (arith, at_length xs (p ∷ ps) [] h))
+      at_more (p ∷ ps) (g ∷ gs) (suc i) h = λ j. get_more xs (x ∷ []) p g (at_get xs (p ∷ ps) (g ∷ gs) 0 p g h (omega arith)) j ∷ at_more ps gs i (tail h) j
+        where
+          tail : ◌≡◌ {A = List (Option A)} (slice_get xs p ∷ at_places xs ps) (Some g ∷ map Some gs) → at_places xs ps ≡ map Some gs
+          tail h = cc
+
+  pub at_part : (xs : List A) (ps : List ℕ) (gs : List A) (n low : ℕ) → at_places xs ps ≡ map Some gs → at_places xs (take n (drop low ps)) ≡ map Some (take n (drop low gs))
+  at_part xs ps gs n low h =
+      sym (take-map (λ p. slice_get xs p) n (drop low ps)) ∙ ap (take n) (sym (drop-map (λ p. slice_get xs p) low ps)) ∙ ap (λ os. take n (drop low os)) h ∙ ap (take n) (drop-map Some low gs) ∙ take-map Some n (drop low gs)
+
+  -- ---- a swap with the last
+
+  pub get_take : (m x : ℕ) (xs : List A) → x < m → slice_get (take m xs) x ≡ slice_get xs x
+  get_take zero x xs h = absurd (omega arith)
+  get_take (suc m) x [] h = refl
+  get_take (suc m) zero (y ∷ xs) h = refl
+  get_take (suc m) (suc x) (y ∷ xs) h = get_take m x xs (omega arith)
+
+  pub get_set_same : (xs : List A) (i : ℕ) (y : A) → i < length xs → slice_get (set xs i y) i ≡ Some y
+  get_set_same [] i y h = absurd (omega arith)
+  get_set_same (x ∷ xs) zero y h = refl
+  get_set_same (x ∷ xs) (suc i) y h = get_set_same xs i y (omega arith)
+
+  pub get_set_other : (xs : List A) (i j : ℕ) (y : A) → (j ≡ i → ⊥) → slice_get (set xs i y) j ≡ slice_get xs j
+  get_set_other [] i j y apart = refl
+  get_set_other (x ∷ xs) zero zero y apart = absurd (apart refl)
+  get_set_other (x ∷ xs) zero (suc j) y apart = refl
+  get_set_other (x ∷ xs) (suc i) zero y apart = refl
+  get_set_other (x ∷ xs) (suc i) (suc j) y apart = get_set_other xs i j y (λ same. apart (ap suc same))
+
+  pub swapped_same : (xs : List A) (p : ℕ) (d : A) → p < length xs - 1 → slice_get (take (length xs - 1) (set xs p (get_or xs (length xs - 1) d))) p ≡ slice_get xs (length xs - 1)
+  swapped_same xs p d low =
+      get_take (length xs - 1) p (set xs p (get_or xs (length xs - 1) d)) low ∙ get_set_same xs p (get_or xs (length xs - 1) d) (omega (arith, low)) ∙ sym (slice_get-get_or xs (length xs - 1) d (omega (arith, low)))
+
+  pub swapped_other : (xs : List A) (p x : ℕ) (d : A) → x < length xs - 1 → (x ≡ p → ⊥) → slice_get (take (length xs - 1) (set xs p (get_or xs (length xs - 1) d))) x ≡ slice_get xs x
+  swapped_other xs p x d low apart = get_take (length xs - 1) x (set xs p (get_or xs (length xs - 1) d)) low ∙ get_set_other xs p x (get_or xs (length xs - 1) d) apart
 
   -- one more of what stands at places
   pub at_one_more : (vs : List A) (ps : List ℕ) (xs : List A) (i : ℕ) (x : A) → i < length ps → map Some xs ≡ at_places vs (take i ps) → slice_get vs (get_or ps i 0) ≡ Some x
@@ -63,10 +145,6 @@ module _ {A : Type 0} where
   pub place_within : (xs : List A) (ps : List ℕ) (gs : List A) (i : ℕ) → at_places xs ps ≡ map Some gs → i < length ps → get_or ps i 0 < length xs
   place_within xs ps [] i h low = absurd (omega (arith, low, at_length xs ps [] h))
   place_within xs ps (g ∷ gs) i h low = slice_get_within xs (get_or ps i 0) (get_or (g ∷ gs) i g) (at_get xs ps (g ∷ gs) i 0 g h (omega (arith, low, at_length xs ps (g ∷ gs) h)))
-
-  pub at_part : (xs : List A) (ps : List ℕ) (gs : List A) (n low : ℕ) → at_places xs ps ≡ map Some gs → at_places xs (take n (drop low ps)) ≡ map Some (take n (drop low gs))
-  at_part xs ps gs n low h =
-      sym (take-map (λ p. slice_get xs p) n (drop low ps)) ∙ ap (take n) (sym (drop-map (λ p. slice_get xs p) low ps)) ∙ ap (λ os. take n (drop low os)) h ∙ ap (take n) (drop-map Some low gs) ∙ take-map Some n (drop low gs)
 
   -- ---- tests that hold of the first ones alone
 

@@ -29,7 +29,7 @@ by_name = record { total = names_total; exact = names_exact; ties = name_eq-ties
 abbrev pub map_of : {K X : Type 0} {R : K → K → Ordering} → List (K × X) → FinMap R X
 map_of es = from_entries es
 
-equal_of_test : (r : Ordering) → is_eq r ≡ true → r ≡ Equal
+pub equal_of_test : (r : Ordering) → is_eq r ≡ true → r ≡ Equal
 equal_of_test Less h = cc
 equal_of_test Equal h = refl
 equal_of_test Greater h = cc

@@ -1,21 +1,31 @@
 -- Leases in key order, as a table's places, and what is kept of them for who reads
-use Rattle.std.specs.Prelude.{◌≡◌, ℕ, Bool, true, false, List, [], ◌∷◌, Option, Some, map, slice_get, MatchOption}
+use Rattle.std.specs.Prelude.{◌≡◌, ℕ, Bool, false, List, [], ◌∷◌, Option, Some, ◌≢◌, ◌*◌, ◌-◌, ◌≤◌, ◌/◌, ◌%◌, length, take, drop, map, slice_get, MatchOption, ⊤}
 use Rattle.std.specs.Arc.{arc_value}
-use Rattle.std.specs.FinMap.{from_entries, keys}
+use Rattle.std.specs.FinMap.{FinMap, from_entries, keys}
 use Rattle.std.specs.Map.{keys_of}
-use Rattle.std.specs.Option.{option_map_or}
+use Rattle.std.specs.Option.{option_and_then, option_map_or}
+use Rattle.std.specs.declared.alloc.Global.{Global}
+use Rattle.std.specs.declared.sync.Arc.{Arc}
+use Rattle.std.specs.declared.vec.Vec.{Vec}
 use Rattle.std.specs.Ordering.{is_lt, is_le}
+use Rattle.eu_base.specs.Limits.{most_leases}
 use Rattle.eu_base.specs.declared.instances.Instance.{Instance}
 use Rattle.eu_base.specs.declared.names.Key.{Key}
 use Rattle.eu_base.specs.Values.{name_cmp, key_cmp}
 use Rattle.eu_model.specs.declared.views.Listed.{Listed}
 use Rattle.eu_model.specs.declared.views.Times.{Times}
 use Rattle.eu_store.specs.declared.directory.Directory.{Directory}
-use Rattle.eu_store.specs.declared.directory.Latest.{Latest}
+
+abbrev pub Part : Type 0
+Part = Arc (Vec Instance Global) Global
 
 -- what stands at places of a list
 abbrev pub at_places : {A : Type 0} → List A → List ℕ → List (Option A)
 at_places xs places = map (λ place. slice_get xs place) places
+
+-- the map that a table's entries make
+abbrev pub map_by : List (Key × Listed) → FinMap key_cmp Listed
+map_by es = from_entries es
 
 -- the keys of a table's entries, in their order
 abbrev pub keys_held : List (Key × Listed) → List Key
@@ -25,7 +35,10 @@ keys_held es = keys (from_entries {R = key_cmp} es)
 abbrev pub IsInOrder : List (Key × Listed) → List ℕ → Type 0
 IsInOrder es places = at_places (keys_of es) places ≡ map Some (keys_held es)
 
--- whether a key's application is before one, or not after it
+-- whether a key is below another; and whether its application is before one, or not after it
+abbrev pub is_below : Key → Key → Bool
+is_below k x = is_lt (key_cmp x k)
+
 abbrev pub is_before : List ℕ → Key → Bool
 is_before app x = is_lt (name_cmp x.app app)
 
@@ -43,16 +56,51 @@ instances_of es = map (λ e. e.1.instance) es
 abbrev pub times_of : List (Key × Listed) → List Times
 times_of es = map (λ e. e.1.times) es
 
--- a directory of the table: its places in key order, and the instances that stand there
+-- how many neighbours are in a part, and those of the n-th part
+abbrev pub part_room : ℕ
+part_room = 512
+
+abbrev pub window : {A : Type 0} → ℕ → List A → List A
+window n xs = take part_room (drop (n * part_room) xs)
+
+-- parts that were gathered are those of the table
+abbrev pub AreParts : List (Key × Listed) → List (Option Part) → Type 0
+AreParts es parts = (n : ℕ) (c : Part) → slice_get parts n ≡ Some (Some c) → (arc_value c).items ≡ window n (instances_of es)
+
+-- and so are these, which are all of them
+abbrev pub AreWhole : List (Key × Listed) → List Part → Type 0
+AreWhole es parts = ((n : ℕ) (c : Part) → slice_get parts n ≡ Some c → (arc_value c).items ≡ window n (instances_of es)) × (length es ≤ length parts * part_room)
+
+-- parts of before, but for that of a place
+abbrev pub IsForgotten : ℕ → List (Option Part) → List (Option Part) → Type 0
+IsForgotten place before after = (n : ℕ) (c : Part) → slice_get after n ≡ Some (Some c) → (slice_get before n ≡ Some (Some c)) × (place / part_room ≢ n)
+
+-- a directory of the table: its places in key order, and parts of it
 abbrev pub IsDirectory : List (Key × Listed) → Directory → Type 0
-IsDirectory es d = IsInOrder es d.places.items × (at_places (instances_of es) d.places.items ≡ map Some (arc_value d.instances).items)
+IsDirectory es d = IsInOrder es d.places.items × AreParts es d.parts.items
 
--- what is kept is one of the table, where it is said to be the latest
-abbrev pub IsLatest : List (Key × Listed) → Latest → Type 0
-IsLatest es kept = kept.is_fresh ≡ true → MatchOption kept.directory ⊥ (λ d. IsDirectory es d)
+abbrev pub AreOrdered : List (Key × Listed) → Option Directory → Type 0
+AreOrdered es kept = MatchOption kept ⊤ (λ d. IsDirectory es d)
 
--- instances with the moments of their leases
-abbrev pub listed_by : List Instance → List Times → List Listed
-listed_by [] ts = []
-listed_by (i ∷ is) [] = []
-listed_by (i ∷ is) (t ∷ ts) = record { instance = i; times = t } ∷ listed_by is ts
+-- how many leases more need no memory for it
+abbrev pub room_in : Directory → ℕ
+room_in d = d.places.cap - length d.places.items
+
+abbrev pub room_of : Option Directory → ℕ
+room_of kept = option_map_or (λ d. room_in d) kept most_leases
+
+-- the instances of parts, and the one of a place
+abbrev pub instances_in : List Part → List (List Instance)
+instances_in parts = map (λ (p : Part). (arc_value p).items) parts
+
+abbrev pub instance_at : List (List Instance) → ℕ → Option Instance
+instance_at parts place = option_and_then (λ p. slice_get p (place % part_room)) (slice_get parts (place / part_room))
+
+-- an instance with the moments of its lease
+abbrev pub timed : Times → Instance → Listed
+timed t i = record { instance = i; times = t }
+
+-- what places and moments list
+abbrev pub snapped : List (List Instance) → List (ℕ × Times) → List Listed
+snapped parts [] = []
+snapped parts (r ∷ rows) = option_map_or (λ i. timed r.1 i ∷ snapped parts rows) (instance_at parts r.0) (snapped parts rows)

@@ -1,50 +1,122 @@
-//! What is held in key order, for who reads: made where it's asked for, and kept until a key comes or goes, or an instance changes.
-ghost use Rattle.std.specs.Prelude.{◌≡◌, ◌≤◌, true, false, filter, length, map, Some, IfOk, IsTrue, OnOk};
-ghost use Rattle.std.specs.Map.{keys_of};
-ghost use Rattle.indexmap.specs.IndexMap.{IsUnique};
-ghost use Rattle.eu_base.specs.Values.{key_eq};
-ghost use Rattle.eu_store.specs.Order.{at_place, at_places, times_of, keys_held, IsDirectory, IsLatest};
-ghost use Rattle.eu_store.specs.Limit.{within};
-ghost use Rattle.eu_store.specs.Stored.{listing_of};
-ghost use Rattle.eu_model.specs.View.{is_of};
-ghost use Rattle.std.specs.FinMap as map;
+//! What is held in key order, for who reads. It is kept once somebody took a snapshot: nobody pays for it before.
+ghost use Rattle.std.specs.Prelude.{◌≡◌, ◌≢◌, ◌+◌, ◌-◌, ◌*◌, ◌/◌, ◌%◌, ◌<◌, ◌≤◌, ◌⊎◌, ◌∷◌, [], filter, length, map, min, slice_index_or, slice_set as set, slice_get, IfOk, IfSome, None, OnOk, Some};
+ghost use Rattle.std.specs.Arc.{arc_value};
+ghost use Rattle.std.specs.List as lists;
 ghost use Rattle.std.specs.List.{prefix_len};
 ghost use Rattle.std.specs.List.Sorted.{IsPartitionedBy};
+ghost use Rattle.std.specs.Map.{keys_of};
 ghost use Rattle.std.specs.Option.{option_copied};
+ghost use Rattle.indexmap.specs.IndexMap.{IsUnique};
+ghost use Rattle.eu_base.specs.Values.{key_eq};
+ghost use Rattle.eu_model.specs.View.{is_of};
+ghost use Rattle.eu_store.specs.Limit.{within};
+ghost use Rattle.eu_store.specs.Order.{at_place, at_places, instances_of, is_below, keys_held, room_in, times_of, window, AreParts, AreWhole, IsDirectory, IsForgotten, IsInOrder};
+ghost use Rattle.eu_store.specs.Stored.{listing_of};
+ghost use Rattle.std.specs.FinMap as map;
 
-use crate::HeldLease;
 use crate::rows::rows;
-use eu_base::{App, Instance, Key};
+use crate::{HeldLease, SharedInstance};
+use eu_base::{App, Key};
 use eu_model::{Listed, Times};
 use indexmap::IndexMap;
 use std::alloc::{AllocError, Global};
-use std::mem;
 use std::sync::Arc;
 
-/// The places of a table's leases in the order of their keys, and copies of their instances in the same order, which readers share.
+/// How many neighbours of a table are in a part.
+pub(crate) const PART_ROOM: usize = 512;
+
+/// How many parts the largest table has.
+const MOST_PARTS: usize = 128;
+
+/// The instances of some neighbours in a table.
+pub(crate) type Part = Arc<Vec<SharedInstance>, Global>;
+
+/// The places of a table's leases in the order of their keys; and its instances, in parts that readers share, as far as they were
+/// gathered since the last step that changed one of the part.
 #[derive(Debug, Drop)]
 pub(crate) struct Directory {
     pub(crate) places: Vec<usize>,
-    pub(crate) instances: Arc<Vec<Instance>, Global>,
+    pub(crate) parts: Vec<Option<Part>>,
 }
 
 impl Directory {
-    /// That of a table. `AllocError` where no memory is left.
-    fn of(alloc: Global, table: &IndexMap<Key, HeldLease>) -> Result<Directory, AllocError>
+    /// That of a table, with no part. `AllocError` where no memory is left.
+    pub(crate) fn of(
+        alloc: Global,
+        table: &IndexMap<Key, HeldLease>,
+    ) -> Result<Directory, AllocError>
         ensures { IfOk result (λ d. IsDirectory table.now.entries d) }
     {
         let rows = rows(alloc, table, None)?;
         let mut places = Vec::with_capacity(alloc, rows.len())?;
-        let mut instances = Vec::with_capacity(alloc, rows.len())?;
         for row in &rows {
-            let (place, _key, held) = table.get_full(row.0).unwrap();
+            let (place, _key, _held) = table.get_full(row.0).unwrap();
             places.push(place)?;
-            instances.push(held.instance().copy(alloc)?)?;
         }
         Ok(Directory {
             places,
-            instances: Arc::new(alloc, instances)?,
+            parts: no_parts(alloc)?,
         })
+    }
+
+    /// Makes room for one lease more.
+    pub(crate) fn reserve(&mut self) -> Result<(), AllocError>
+        ensures places { self.new.places.items ≡ self.old.places.items }
+        ensures parts { self.new.parts ≡ self.old.parts }
+        ensures ready { OnOk result (0 < room_in self.new) }
+        ensures room { room_in self.old ≤ room_in self.new }
+    {
+        self.places.reserve(1)
+    }
+
+    /// Puts a key in it that comes behind the last of the table, into the room that was made. Takes no memory.
+    pub(crate) fn put(&mut self, table: &IndexMap<Key, HeldLease>, key: &Key)
+        requires directory { IsDirectory table.now.entries self.old }
+        requires room { 0 < room_in self.old }
+        ensures places { self.new.places.items ≡ lists.insert self.old.places.items (prefix_len (is_below key.now) (keys_held table.now.entries)) (length table.now.entries) }
+        ensures parts { IsForgotten (length table.now.entries) self.old.parts.items self.new.parts.items }
+        ensures room { room_in self.old ≤ room_in self.new + 1 }
+    {
+        let at = count_within(table, Limit::Below(key), &self.places);
+        self.places.insert(at, table.len()).unwrap();
+        self.forget(table.len());
+    }
+
+    /// Takes out what stands at one position, and writes a place over what stands at another: that of the table's last lease, which goes there.
+    /// Takes no memory.
+    pub(crate) fn swap_remove(&mut self, at: usize, moved: usize, place: usize, last: usize)
+        requires at { at < length self.old.places.items }
+        requires moved { moved < length self.old.places.items }
+        ensures places { self.new.places.items ≡ lists.remove (set self.old.places.items moved place) at }
+        ensures parts { (n : _) (c : _) → slice_get self.new.parts.items n ≡ Some (Some c)
+            → (slice_get self.old.parts.items n ≡ Some (Some c)) × (place / PART_ROOM ≢ n) × (last / PART_ROOM ≢ n) }
+        ensures room { room_in self.old ≤ room_in self.new }
+    {
+        self.places[moved] = place;
+        self.places.remove(at);
+        self.forget(place);
+        self.forget(last);
+    }
+
+    /// Lets the part of a place of the table go.
+    pub(crate) fn forget(&mut self, place: usize)
+        ensures places { self.new.places ≡ self.old.places }
+        ensures parts { IsForgotten place self.old.parts.items self.new.parts.items }
+    {
+        if let Some(part) = self.parts.get_mut(place / PART_ROOM) {
+            *part = None;
+        }
+    }
+
+    /// At which position a place of the table stands. It's found by its key.
+    pub(crate) fn standing(&self, table: &IndexMap<Key, HeldLease>, place: usize) -> usize
+        requires directory { IsDirectory table.now.entries self.now }
+        requires within { place < length table.now.entries }
+        ensures bound { result < length self.now.places.items }
+        ensures value { slice_index_or self.now.places.items result 0 ≡ place }
+    {
+        let (key, _held) = table.as_slice().get_index(place).unwrap();
+        count_within(table, Limit::Below(key), &self.places)
     }
 
     /// The places of the leases of an application, or of all where none is given.
@@ -81,29 +153,126 @@ impl Directory {
         Ok(leases)
     }
 
-    /// The moments of the leases, in the same order. `AllocError` where no memory is left.
-    pub(crate) fn times(
+    /// The places in key order, each with the moments of its lease. `AllocError` where no memory is left.
+    pub(crate) fn rows(
         &self,
         alloc: Global,
         table: &IndexMap<Key, HeldLease>,
-    ) -> Result<Vec<Times>, AllocError>
+    ) -> Result<Vec<(usize, Times)>, AllocError>
         requires { IsDirectory table.now.entries self.now }
-        ensures times { IfOk result (λ t. map Some t.items ≡ at_places (times_of table.now.entries) self.now.places.items) }
+        ensures places { IfOk result (λ rows. map (λ r. r.0) rows.items ≡ self.now.places.items) }
+        ensures times { IfOk result (λ rows. map Some (map (λ r. r.1) rows.items) ≡ at_places (times_of table.now.entries) self.now.places.items) }
         ensures unique { IsUnique key_eq table.now }
     {
         let entries = table.as_slice();
-        let mut times = Vec::with_capacity(alloc, self.places.len())?;
+        let mut rows = Vec::with_capacity(alloc, self.places.len())?;
         for place in &self.places {
             let (_key, held) = entries.get_index(*place).unwrap();
-            times.push(held.times())?;
+            rows.push((*place, held.times()))?;
         }
-        Ok(times)
+        Ok(rows)
+    }
+
+    /// All parts of the table. Those that are missing are gathered. `AllocError` where no memory is left.
+    pub(crate) fn parts(
+        &mut self,
+        alloc: Global,
+        table: &IndexMap<Key, HeldLease>,
+    ) -> Result<Vec<Part>, AllocError>
+        requires parts { AreParts table.now.entries self.old.parts.items }
+        requires few { length table.now.entries ≤ MOST_PARTS * PART_ROOM }
+        ensures places { self.new.places ≡ self.old.places }
+        ensures parts { AreParts table.now.entries self.new.parts.items }
+        ensures whole { IfOk result (λ parts. AreWhole table.now.entries parts.items) }
+    {
+        let mut parts = Vec::new(alloc);
+        for number in 0..MOST_PARTS {
+            if table.len() <= number * PART_ROOM {
+                return Ok(parts);
+            }
+            parts.push(self.part_of(alloc, table, number)?)?;
+        }
+        Ok(parts)
+    }
+
+    /// The part of that number, gathered where it's missing. `AllocError` where no memory is left.
+    fn part_of(
+        &mut self,
+        alloc: Global,
+        table: &IndexMap<Key, HeldLease>,
+        number: usize,
+    ) -> Result<Part, AllocError>
+        requires parts { AreParts table.now.entries self.old.parts.items }
+        requires there { number * PART_ROOM < length table.now.entries }
+        ensures places { self.new.places ≡ self.old.places }
+        ensures parts { AreParts table.now.entries self.new.parts.items }
+        ensures part { IfOk result (λ p. (arc_value p).items ≡ window number (instances_of table.now.entries)) }
+    {
+        if let Some(part) = self.kept(number)? {
+            return Ok(part);
+        }
+        let part = Arc::new(alloc, gathered(alloc, table, number)?)?;
+        let kept = Arc::try_clone(&part)?;
+        self.keep(number, kept);
+        Ok(part)
+    }
+
+    /// The part of that number, where it is kept.
+    fn kept(&self, number: usize) -> Result<Option<Part>, AllocError>
+        ensures { IfOk result (λ o. IfSome o (λ p. (q : _) × (slice_get self.now.parts.items number ≡ Some (Some q)) × (arc_value p ≡ arc_value q))) }
+    {
+        match self.parts.get(number) {
+            Some(Some(part)) => Ok(Some(Arc::try_clone(part)?)),
+            _ => Ok(None),
+        }
+    }
+
+    /// Keeps the part of that number.
+    fn keep(&mut self, number: usize, part: Part)
+        ensures places { self.new.places ≡ self.old.places }
+        ensures parts { (n : _) (c : _) → slice_get self.new.parts.items n ≡ Some (Some c) → (slice_get self.old.parts.items n ≡ Some (Some c)) ⊎ ((n ≡ number) × (c ≡ part)) }
+    {
+        if let Some(place) = self.parts.get_mut(number) {
+            *place = Some(part);
+        }
     }
 }
 
-/// Where keys end that are looked for: before those of an application, or behind them.
+/// The room for all parts, of which none is gathered. `AllocError` where no memory is left.
+fn no_parts(alloc: Global) -> Result<Vec<Option<Part>>, AllocError>
+    ensures { IfOk result (λ parts. (n : _) (c : _) → slice_get parts.items n ≢ Some (Some c)) }
+{
+    let mut parts = Vec::with_capacity(alloc, MOST_PARTS)?;
+    for _part in 0..MOST_PARTS {
+        parts.push(None)?;
+    }
+    Ok(parts)
+}
+
+/// The instances of the part of that number. `AllocError` where no memory is left.
+fn gathered(
+    alloc: Global,
+    table: &IndexMap<Key, HeldLease>,
+    number: usize,
+) -> Result<Vec<SharedInstance>, AllocError>
+    requires { number * PART_ROOM < length table.now.entries }
+    ensures { IfOk result (λ v. v.items ≡ window number (instances_of table.now.entries)) }
+{
+    let entries = table.as_slice();
+    let begin = number * PART_ROOM;
+    let end = entries.len().min(begin.saturating_add(PART_ROOM));
+    let mut instances = Vec::with_capacity(alloc, PART_ROOM)?;
+    for place in begin..end {
+        let (_key, held) = entries.get_index(place).unwrap();
+        instances.push(held.instance().share()?)?;
+    }
+    Ok(instances)
+}
+
+/// Where keys end that are looked for: before a key, before those of an application, or behind them.
 #[derive(Clone, Copy)]
 enum Limit<'a> {
+    Below(&'a Key),
     Before(&'a App),
     Through(&'a App),
 }
@@ -116,6 +285,7 @@ fn is_within(table: &IndexMap<Key, HeldLease>, limit: Limit<'_>, place: usize) -
         return false;
     };
     match limit {
+        Limit::Below(other) => key < other,
         Limit::Before(app) => key.app < *app,
         Limit::Through(app) => key.app <= *app,
     }
@@ -132,51 +302,4 @@ fn count_within(table: &IndexMap<Key, HeldLease>, limit: Limit<'_>, places: &[us
             ensures { result ≡ at_place (within limit.entry) table.entry.now.entries place.now }
         { is_within(table, limit, *place) },
     )
-}
-
-/// The directory that was made last, and whether the table is still as it was then, but for the moments of leases.
-#[derive(Debug, Drop)]
-pub(crate) struct Latest {
-    pub(crate) directory: Option<Directory>,
-    pub(crate) is_fresh: bool,
-}
-
-impl Latest {
-    /// None yet.
-    pub(crate) fn none() -> Latest
-        ensures { result.is_fresh ≡ false }
-    {
-        Latest {
-            directory: None,
-            is_fresh: false,
-        }
-    }
-
-    /// What is left of it after a step: it's out of date, unless that kept each key and each instance.
-    #[inline(always)]
-    pub(crate) fn step(&mut self, is_kept: bool)
-        ensures directory { self.new.directory ≡ self.old.directory }
-        ensures fresh { IsTrue self.new.is_fresh → IsTrue self.old.is_fresh × IsTrue is_kept }
-    {
-        self.is_fresh = self.is_fresh && is_kept;
-    }
-
-    /// Makes it anew where it's out of date, and gives the one of before, which is to be let go where nobody waits. `AllocError` where
-    /// no memory is left.
-    pub(crate) fn renew(
-        &mut self,
-        alloc: Global,
-        table: &IndexMap<Key, HeldLease>,
-    ) -> Result<Option<Directory>, AllocError>
-        requires { IsLatest table.now.entries self.old }
-        ensures latest { IsLatest table.now.entries self.new }
-        ensures fresh { OnOk result (self.new.is_fresh ≡ true) }
-    {
-        if self.is_fresh {
-            return Ok(None);
-        }
-        let directory = Directory::of(alloc, table)?;
-        self.is_fresh = true;
-        Ok(mem::replace(&mut self.directory, Some(directory)))
-    }
 }

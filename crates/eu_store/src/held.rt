@@ -1,11 +1,11 @@
 //! What is held under a key.
 ghost use Rattle.std.specs.Prelude.{◌≡◌, IfOk, IsTrue};
 ghost use Rattle.eu_lease.specs.Term.{listed_with};
-ghost use Rattle.eu_model.specs.Change.{stamped};
 ghost use Rattle.eu_model.specs.PlainSteps.{plain_expired};
 ghost use Rattle.eu_store.specs.Stored.{amended, deadline_of, term_of};
 
-use eu_base::{Instance, LeaseSecs, Moment, Stamp, Status};
+use crate::SharedInstance;
+use eu_base::{Instance, Moment, Stamp, Status};
 use eu_lease::Lease;
 use eu_model::{Listed, Times};
 use std::alloc::{AllocError, Global};
@@ -13,11 +13,9 @@ use std::marker::Model;
 use std::mem;
 
 /// An instance with its lease, which lasts as long as the instance says. Contracts see both as they are listed.
-///
-/// The instance lies on the heap, so that little is moved where a lease is.
 #[derive(Debug, Drop)]
 pub struct HeldLease {
-    instance: Box<Instance>,
+    instance: SharedInstance,
     lease: Lease,
 }
 
@@ -31,22 +29,22 @@ impl Model for HeldLease {
 
     ghost coded = { listed.the_row.coded };
 
-    ghost view = { λ h. listed_with h.instance.value h.lease };
+    ghost view = { λ h. listed_with h.instance h.lease };
 
-    ghost invariant = { λ h. h.lease.secs ≡ h.instance.value.secs };
+    ghost invariant = { λ h. h.lease.secs ≡ h.instance.secs };
 }
 
 impl HeldLease {
     /// An instance with a lease that lasts as long as the instance says.
-    pub fn new(instance: Box<Instance>, lease: Lease) -> HeldLease
-        requires { lease.secs ≡ instance.value.secs }
-        ensures { result ≡ listed_with instance.value lease }
+    pub fn new(instance: SharedInstance, lease: Lease) -> HeldLease
+        requires { lease.secs ≡ instance.secs }
+        ensures { result ≡ listed_with instance lease }
     {
         HeldLease { instance, lease }
     }
 
     /// The instance.
-    pub fn instance(&self) -> &Instance
+    pub fn instance(&self) -> &SharedInstance
         ensures { result.now ≡ self.now.instance }
     {
         &self.instance
@@ -70,7 +68,7 @@ impl HeldLease {
     pub fn listed(&self, alloc: Global) -> Result<Listed, AllocError>
         ensures { IfOk result (λ l. l ≡ self.now) }
     {
-        let instance = self.instance.copy(alloc)?;
+        let instance = self.instance.to_instance(alloc)?;
         Ok(Listed {
             instance,
             times: self.times(),
@@ -104,7 +102,7 @@ impl HeldLease {
                 last_dirty,
                 comes_up,
             } => {
-                set_statuses(self.instance.as_mut(), status, overridden, last_dirty);
+                self.instance.set_statuses(status, overridden, last_dirty);
                 self.lease.renew(moment);
                 if comes_up {
                     self.lease.service_up(moment);
@@ -115,7 +113,7 @@ impl HeldLease {
                 overridden,
                 lease,
             } => {
-                rejoin(self.instance.as_mut(), status, overridden, lease.secs());
+                self.instance.rejoin(status, overridden, lease.secs());
                 self.lease = lease;
             }
             Amendment::Replaced(by) => drop(mem::replace(self, by)),
@@ -131,24 +129,24 @@ impl HeldLease {
         ensures { IfOk result (λ i. i ≡ (amended amendment.now self.now).instance) }
     {
         if let Amendment::Replaced(by) = amendment {
-            return by.instance.copy(alloc);
+            return by.instance.to_instance(alloc);
         }
-        let mut instance = self.instance.copy(alloc)?;
+        let mut instance = self.instance.share()?;
         match amendment {
             Amendment::InStatuses {
                 status,
                 overridden,
                 last_dirty,
                 ..
-            } => set_statuses(&mut instance, *status, *overridden, *last_dirty),
+            } => instance.set_statuses(*status, *overridden, *last_dirty),
             Amendment::Rejoined {
                 status,
                 overridden,
                 lease,
-            } => rejoin(&mut instance, *status, *overridden, lease.secs()),
+            } => instance.rejoin(*status, *overridden, lease.secs()),
             _ => {}
         }
-        Ok(instance)
+        instance.to_instance(alloc)
     }
 }
 
@@ -179,8 +177,9 @@ pub enum Amendment {
 }
 
 impl Amendment {
-    /// Whether it keeps an instance as it is, as a heartbeat does. What tells so may be told of one that it changes not at all.
-    pub(crate) fn keeps(&self, instance: &Instance) -> bool
+    /// Whether an instance stays as it is, as a heartbeat leaves it: then a listing need not gather it anew. Where this is `false`
+    /// the instance may be the same nonetheless, and is gathered once more.
+    pub(crate) fn keeps(&self, instance: &SharedInstance) -> bool
         ensures { IsTrue result → (l : Listed) → l.instance ≡ instance.now → (amended self.now l).instance ≡ l.instance }
     {
         match self {
@@ -191,40 +190,14 @@ impl Amendment {
                 last_dirty,
                 ..
             } => {
-                *status == instance.status
-                    && *overridden == instance.overridden
+                *status == instance.status()
+                    && *overridden == instance.overridden()
                     && match last_dirty {
-                        Some(stamp) => stamp.value() <= instance.last_dirty.value(),
+                        Some(stamp) => stamp.value() <= instance.last_dirty().value(),
                         None => true,
                     }
             }
             _ => false,
         }
     }
-}
-
-/// Puts an instance in these statuses; a greater stamp replaces its own.
-fn set_statuses(
-    instance: &mut Instance,
-    status: Status,
-    overridden: Status,
-    last_dirty: Option<Stamp>,
-)
-    ensures { instance.new ≡ stamped last_dirty (record instance.old { status = status; overridden = overridden }) }
-{
-    instance.status = status;
-    instance.overridden = overridden;
-    match last_dirty {
-        Some(stamp) if stamp.value() > instance.last_dirty.value() => instance.last_dirty = stamp,
-        _ => {}
-    }
-}
-
-/// Keeps an instance, but for the statuses and the duration of its lease.
-fn rejoin(instance: &mut Instance, status: Status, overridden: Status, secs: LeaseSecs)
-    ensures { instance.new ≡ record instance.old { status = status; overridden = overridden; secs = secs } }
-{
-    instance.status = status;
-    instance.overridden = overridden;
-    instance.secs = secs;
 }

@@ -7,16 +7,15 @@ ghost use Rattle.eu_base.specs.Values.{key_eq};
 ghost use Rattle.eu_store.specs.Stored.{amended, changed, expired_keys, listing_of};
 ghost use Rattle.eu_model.specs.View.{status_counts, with_one_more, with_one_fewer, in_status};
 
-use crate::directory::Latest;
+use crate::directory::Directory;
 use crate::rows::listed_rows;
-use crate::{Amendment, HeldLease, Snapshot};
+use crate::{Amendment, HeldLease, Snapshot, kept};
 use eu_base::{App, Fault, Key, MOST_LEASES, Moment, Status};
 use eu_deadlines::Deadlines;
 use eu_model::{Listed, StatusCounts};
 use indexmap::IndexMap;
 use std::alloc::{AllocError, Global};
 use std::marker::Model;
-use std::sync::Arc;
 
 /// Where a lease was found. It's a hint: where another lease stands there now, the key is looked up once more.
 #[derive(Clone, Copy, Debug)]
@@ -43,14 +42,14 @@ fn place_of(table: &IndexMap<Key, HeldLease>, key: &Key, hint: Place) -> Option<
 /// taking memory.
 ///
 /// Beside them stands an index of their deadlines, in the order of the table, so that of those which have expired n are found
-/// by a look at no more than n + 1 others. How many have each status is counted at each step. And what a snapshot copied is kept for
-/// the next one, until a key comes or goes or an instance changes.
+/// by a look at no more than n + 1 others. How many have each status is counted at each step. And once a snapshot was taken, there
+/// is a directory of the leases in key order.
 #[derive(Debug, Drop)]
 pub struct Leases {
     table: IndexMap<Key, HeldLease>,
     index: Deadlines,
     counts: StatusCounts,
-    latest: Latest,
+    directory: Option<Directory>,
 }
 
 impl Model for Leases {
@@ -58,16 +57,16 @@ impl Model for Leases {
     ghost use Rattle.std.specs.FinMap as map;
     ghost use Rattle.indexmap.specs.IndexMap.{spare};
     ghost use Rattle.eu_store.specs.Stored.{Stored, coded_stored, counts_of, deadlines};
-    ghost use Rattle.eu_store.specs.Order.{IsLatest};
+    ghost use Rattle.eu_store.specs.Order.{AreOrdered, room_of};
     ghost use Rattle.eu_base.specs.Limits.{most_leases};
 
     ghost Value = { Stored };
 
     ghost coded = { coded_stored };
 
-    ghost view = { λ a. record { held = map.from_entries a.table.entries; room = min (min (spare a.table) a.index.room) (most_leases - length a.table.entries) } };
+    ghost view = { λ a. record { held = map.from_entries a.table.entries; room = min (min (min (spare a.table) a.index.room) (room_of a.directory)) (most_leases - length a.table.entries) } };
 
-    ghost invariant = { λ a. (length a.table.entries ≤ most_leases) × (a.index.list ≡ deadlines a.table.entries) × (a.counts ≡ counts_of (map.from_entries a.table.entries)) × IsLatest a.table.entries a.latest };
+    ghost invariant = { λ a. (length a.table.entries ≤ most_leases) × (a.index.list ≡ deadlines a.table.entries) × (a.counts ≡ counts_of (map.from_entries a.table.entries)) × AreOrdered a.table.entries a.directory };
 }
 
 impl Leases {
@@ -79,7 +78,7 @@ impl Leases {
             table: IndexMap::new(alloc),
             index: Deadlines::new(alloc),
             counts: StatusCounts::of(&[]),
-            latest: Latest::none(),
+            directory: None,
         }
     }
 
@@ -129,6 +128,7 @@ impl Leases {
         }
         self.table.reserve(1)?;
         self.index.reserve()?;
+        kept::reserve(&mut self.directory)?;
         Ok(())
     }
 
@@ -139,8 +139,8 @@ impl Leases {
         ensures held { self.new.held ≡ map.insert self.old.held key held }
         ensures room { self.old.room ≤ self.new.room + 1 }
     {
-        self.latest.is_fresh = false;
-        self.counts.add(held.instance().status);
+        kept::put(&mut self.directory, &self.table, &key);
+        self.counts.add(held.instance().status());
         self.index.push(held.deadline());
         self.table.insert(key, held).unwrap();
     }
@@ -152,10 +152,10 @@ impl Leases {
         ensures room { self.old.room ≤ self.new.room }
     {
         let place = place_of(&self.table, key, hint)?;
-        self.latest.is_fresh = false;
+        kept::take(&mut self.directory, &self.table, place);
         let (_key, held) = self.table.swap_remove_index(place).unwrap();
         self.index.swap_remove(place);
-        self.counts.remove(held.instance().status);
+        self.counts.remove(held.instance().status());
         Some(held)
     }
 
@@ -169,11 +169,12 @@ impl Leases {
             drop(amendment);
             return false;
         };
+        let is_kept = amendment.keeps(self.table[place].instance());
+        kept::change(&mut self.directory, &self.table, place, is_kept);
         let held = &mut self.table[place];
-        let before = held.instance().status;
-        self.latest.step(amendment.keeps(held.instance()));
+        let before = held.instance().status();
         held.amend(amendment);
-        recount(&mut self.counts, before, held.instance().status);
+        recount(&mut self.counts, before, held.instance().status());
         self.index.set(place, held.deadline());
         true
     }
@@ -222,24 +223,23 @@ impl Leases {
     pub fn listed(&self, alloc: Global, app: Option<&App>) -> Result<Vec<Listed>, AllocError>
         ensures { IfOk result (λ leases. leases.items ≡ listing_of (option_copied app.entry) self.now.held) }
     {
-        if self.latest.is_fresh {
-            let directory = self.latest.directory.as_ref().unwrap();
-            return directory.listed(alloc, &self.table, app);
+        match &self.directory {
+            Some(directory) => directory.listed(alloc, &self.table, app),
+            None => listed_rows(alloc, &self.table, app),
         }
-        listed_rows(alloc, &self.table, app)
     }
 
-    /// Everything that is held, for who holds a lock: it copies no instance, but where a key came or went, or an instance changed, since
-    /// it was called last. The leases stay as they are. `AllocError` where no memory is left.
+    /// Everything that is held, for who holds a lock. The first one sorts what is held; each other looks at no instance, but at those that
+    /// stand near one that changed, came or went. What is held stays as it is. `AllocError` where no memory is left.
     pub fn snapshot(&mut self, alloc: Global) -> Result<Snapshot, AllocError>
         ensures listing { IfOk result (λ s. s ≡ listing_of None self.old.held) }
-        ensures same { self.new ≡ self.old }
+        ensures held { self.new.held ≡ self.old.held }
     {
-        let retired = self.latest.renew(alloc, &self.table)?;
-        let directory = self.latest.directory.as_ref().unwrap();
-        let times = directory.times(alloc, &self.table)?;
-        let instances = Arc::try_clone(&directory.instances)?;
-        Ok(Snapshot::new(instances, times, retired))
+        kept::make(&mut self.directory, alloc, &self.table)?;
+        let directory = self.directory.as_mut().unwrap();
+        let parts = directory.parts(alloc, &self.table)?;
+        let rows = directory.rows(alloc, &self.table)?;
+        Ok(Snapshot::new(parts, rows))
     }
 }
 

@@ -1,14 +1,13 @@
 //! What is held at one moment, taken at little cost.
-ghost use Rattle.std.specs.Prelude.{◌≡◌, IfOk, length};
-ghost use Rattle.std.specs.Arc.{arc_value};
-ghost use Rattle.eu_store.specs.Order.{listed_by};
+ghost use Rattle.std.specs.Prelude.{◌≡◌, ◌∷◌, ◌++◌, [], IfOk, OnOk};
+ghost use Rattle.eu_store.specs.Order.{instance_at, instances_in, snapped, timed};
+ghost use Rattle.std.specs.Option.{option_copied, option_map, option_map_or};
 
-use crate::directory::Directory;
-use eu_base::Instance;
+use crate::SharedInstance;
+use crate::directory::{PART_ROOM, Part};
 use eu_model::{Listed, Times};
 use std::alloc::{AllocError, Global};
 use std::marker::Model;
-use std::sync::Arc;
 
 /// Everything that was held at one moment, in key order. Contracts see the listing.
 ///
@@ -16,56 +15,76 @@ use std::sync::Arc;
 /// listing has of its own are made from it later.
 #[derive(Debug, Drop)]
 pub struct Snapshot {
-    instances: Arc<Vec<Instance>, Global>,
-    times: Vec<Times>,
-    retired: Option<Directory>,
+    parts: Vec<Part>,
+    rows: Vec<(usize, Times)>,
 }
 
 impl Model for Snapshot {
-    ghost use Rattle.std.specs.Prelude.{◌≡◌, List, length};
-    ghost use Rattle.std.specs.Arc.{arc_value};
+    ghost use Rattle.std.specs.Prelude.{List};
     ghost use Rattle.std.specs.Coded.{coded_list};
     ghost use Rattle.eu_model.specs.declared.views.Listed.{Listed};
     ghost use Rattle.eu_model.specs.contracts.views.Listed as listed;
-    ghost use Rattle.eu_store.specs.Order.{listed_by};
+    ghost use Rattle.eu_store.specs.Order.{instances_in, snapped};
 
     ghost Value = { List Listed };
 
     ghost coded = { coded_list listed.the_row.coded };
 
-    ghost view = { λ s. listed_by (arc_value s.instances).items s.times.items };
-
-    ghost invariant = { λ s. length s.times.items ≡ length (arc_value s.instances).items };
+    ghost view = { λ s. snapped (instances_in s.parts.items) s.rows.items };
 }
 
 impl Snapshot {
-    /// Shared instances with the moments of their leases. A directory that went out of date is let go with it.
-    pub(crate) fn new(
-        instances: Arc<Vec<Instance>, Global>,
-        times: Vec<Times>,
-        retired: Option<Directory>,
-    ) -> Snapshot
-        requires { length times.items ≡ length (arc_value instances).items }
-        ensures { result ≡ listed_by (arc_value instances).items times.items }
+    /// Shared instances, and where those of the leases are, in key order, with their moments.
+    pub(crate) fn new(parts: Vec<Part>, rows: Vec<(usize, Times)>) -> Snapshot
+        ensures { result ≡ snapped (instances_in parts.items) rows.items }
     {
-        Snapshot {
-            instances,
-            times,
-            retired,
-        }
+        Snapshot { parts, rows }
     }
 
     /// The listing, with copies of its own. `AllocError` where no memory is left.
     pub fn listed(&self, alloc: Global) -> Result<Vec<Listed>, AllocError>
         ensures { IfOk result (λ leases. leases.items ≡ self.now) }
     {
-        let mut leases = Vec::with_capacity(alloc, self.times.len())?;
-        for place in 0..self.times.len() {
-            leases.push(Listed {
-                instance: self.instances[place].copy(alloc)?,
-                times: self.times[place],
-            })?;
+        let mut leases = Vec::with_capacity(alloc, self.rows.len())?;
+        for row in &self.rows {
+            let found = listed_at(&self.parts, alloc, row.0, row.1)?;
+            append(&mut leases, found)?;
         }
         Ok(leases)
     }
+}
+
+/// What is listed of a place of the table, with these moments. `AllocError` where no memory is left.
+fn listed_at(
+    parts: &[Part],
+    alloc: Global,
+    place: usize,
+    times: Times,
+) -> Result<Option<Listed>, AllocError>
+    ensures { IfOk result (λ found. found ≡ option_map (timed times) (instance_at (instances_in parts.now) place)) }
+{
+    match shared_at(parts, place) {
+        Some(instance) => Ok(Some(Listed {
+            instance: instance.to_instance(alloc)?,
+            times,
+        })),
+        None => Ok(None),
+    }
+}
+
+/// Appends what was found, if anything was. `AllocError` where no memory is left.
+fn append(leases: &mut Vec<Listed>, found: Option<Listed>) -> Result<(), AllocError>
+    ensures { OnOk result (leases.new.items ≡ leases.old.items ++ option_map_or (λ l. l ∷ []) found []) }
+{
+    match found {
+        Some(listed) => Ok(leases.push(listed)?),
+        None => Ok(()),
+    }
+}
+
+/// The instance of a place of the table.
+fn shared_at(parts: &[Part], place: usize) -> Option<&SharedInstance>
+    ensures { option_copied result ≡ instance_at (instances_in parts.now) place }
+{
+    parts.get(place / PART_ROOM)?.get(place % PART_ROOM)
 }

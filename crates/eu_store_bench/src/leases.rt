@@ -3,7 +3,7 @@
 use eu_base::{App, Fault, Id, Instance, Key, LeaseSecs, Moment, RenewalSecs, Rest, Stamp, Status};
 use eu_clock::{Chooser, RngChooser};
 use eu_lease::Lease;
-use eu_store::{Amendment, HeldLease, Leases};
+use eu_store::{Amendment, HeldLease, Leases, SharedInstance};
 use std::alloc::Global;
 
 /// A moment at which leases that were made at 0 have expired, and those that were made then have not.
@@ -34,7 +34,8 @@ fn put(alloc: Global, leases: &mut Leases, key: &Key, moment: Moment) -> Result<
         rest: Rest::of_host(alloc, "h")?,
     };
     let lease = Lease::fresh(moment, instance.secs);
-    let held = HeldLease::new(Box::new(alloc, instance)?, lease);
+    let shared = SharedInstance::of(alloc, &instance, Status::Up, Status::Unknown)?;
+    let held = HeldLease::new(shared, lease);
     let key = key.copy(alloc)?;
     if leases.get(&key).is_none() {
         leases.insert(key, held);

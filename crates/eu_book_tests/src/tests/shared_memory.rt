@@ -59,11 +59,12 @@ impl<K: Label> Asked<K> for Held<K> {
     fn read(
         &mut self,
         alloc: Global,
-        pass: &mut Pass<K>,
+        _pass: &mut Pass<K>,
         query: &Query,
         now: Moment,
     ) -> Result<View, AllocError> {
-        Held::read(self, alloc, pass, query, now)
+        let (snapshot, _) = Held::snapshot(self, alloc, query, now)?;
+        snapshot.into_view(alloc)
     }
 
     fn checkpoint(&mut self, alloc: Global, pass: &mut Pass<K>) -> Result<(), AllocError> {

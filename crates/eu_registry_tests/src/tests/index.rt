@@ -3,7 +3,7 @@ use eu_base::{Fault, Instance, Key, LeaseSecs, Moment, RenewalSecs, Rest, Stamp,
 use eu_clock::{Chooser, RngChooser};
 use eu_fixtures::{ids, key_of, moment};
 use eu_lease::Lease;
-use eu_store::{Amendment, HeldLease, Leases, Place};
+use eu_store::{Amendment, HeldLease, Leases, Place, SharedInstance};
 use std::alloc::{AllocError, Global};
 
 /// The key of that number, of application A.
@@ -65,7 +65,8 @@ fn held(alloc: Global, number: u64, ms: u64, term: Term) -> Result<HeldLease, Fa
     let moment = moment(ms)?;
     let instance = instance(alloc, number, term)?;
     let lease = Lease::fresh(moment, instance.secs);
-    Ok(HeldLease::new(Box::new(alloc, instance)?, lease))
+    let shared = SharedInstance::of(alloc, &instance, Status::Up, Status::Unknown)?;
+    Ok(HeldLease::new(shared, lease))
 }
 
 /// Puts a lease of that number, made at that moment, in the place of the one that is held, if any.

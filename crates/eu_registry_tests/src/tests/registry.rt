@@ -4,7 +4,7 @@ use eu_base::{
     App, Config, Fault, Instance, Keys, LeaseSecs, Moment, RenewalSecs, Rest, Stamp, Status,
 };
 use eu_clock::{Chooser, FirstChooser, ListChooser};
-use eu_core::Registry;
+use eu_core::{Registry, SharedInstance};
 use eu_fixtures::{joined, key, key_of, moment, push_number};
 use eu_model::{Listed, Reply, Times};
 use std::alloc::{AllocError, Global};
@@ -240,13 +240,13 @@ fn tell_lease(out: &mut String, status: Status, numbers: &[u64]) -> Result<(), A
 }
 
 /// Writes the status, the stamp, the duration and the last update of a lease that was found.
-fn tell_found(out: &mut String, found: Option<(&Instance, Times)>) -> Result<(), AllocError> {
+fn tell_found(out: &mut String, found: Option<(&SharedInstance, Times)>) -> Result<(), AllocError> {
     let Some((instance, times)) = found else {
         return out.push_str("hidden ");
     };
-    let (last_dirty, secs) = (instance.last_dirty.value(), instance.secs.secs());
+    let (last_dirty, secs) = (instance.last_dirty().value(), instance.secs().secs());
     let numbers = [last_dirty, u64::from(secs), times.updated];
-    tell_lease(out, instance.status, numbers.as_slice())
+    tell_lease(out, instance.status(), numbers.as_slice())
 }
 
 /// The same of the lease of an id, where it is visible.

@@ -3,7 +3,7 @@ use eu_base::{App, Fault, Key, LeaseSecs, Moment, Stamp, Status};
 use eu_fixtures::{instance, key, key_of, moment};
 use eu_lease::Lease;
 use eu_model::Listed;
-use eu_store::{Amendment, HeldLease, Leases, Place};
+use eu_store::{Amendment, HeldLease, Leases, Place, SharedInstance};
 use std::alloc::{AllocError, Global};
 use std::test::Fail;
 
@@ -12,7 +12,8 @@ fn held(alloc: Global, id: &str) -> Result<HeldLease, Fault> {
     let moment = moment(0)?;
     let instance = instance(alloc, id, 7, 10)?;
     let lease = Lease::fresh(moment, instance.secs);
-    Ok(HeldLease::new(Box::new(alloc, instance)?, lease))
+    let shared = SharedInstance::of(alloc, &instance, Status::Up, Status::Unknown)?;
+    Ok(HeldLease::new(shared, lease))
 }
 
 /// Puts such a lease under that key, where none is held.
@@ -174,8 +175,8 @@ fn a_hint_may_be_old(rt: HostRuntime) -> Result<(), Fail> {
 fn stamp(leases: &Leases, key: &Key) -> Option<(u64, u32)> {
     match leases.get(key) {
         Some(held) => Some((
-            held.instance().last_dirty.value(),
-            held.instance().secs.secs(),
+            held.instance().last_dirty().value(),
+            held.instance().secs().secs(),
         )),
         None => None,
     }

@@ -1,6 +1,7 @@
 use Rattle.std.proofs.Common.{refl, ap, ◌∙◌}
 use Rattle.std.specs.Prelude.{Some}
 use Rattle.eu_base.specs.declared.instances.Instance.{Instance}
+use Rattle.eu_base.specs.declared.statuses.Status.{Status}
 use Rattle.eu_model.specs.Change.{rule, row_after, up_after}
 use Rattle.eu_lease.specs.Term.{Term, anew, listed_with}
 use Rattle.eu_core.proofs.JoinLemmas.{joins_from, chosen_over}
@@ -18,5 +19,5 @@ returns-clause-joins c =
     refl refl refl refl
     (chosen_over l n c.requires)
     s.row s.overridden
-    (s.status ∙ ap (λ (i : Instance). rule n.status (row_after row n.overridden) (Some i.status) c.args.replicated) c.instance.ensures)
+    (s.status ∙ ap (λ (v : Status). rule n.status (row_after row n.overridden) (Some v) c.args.replicated) (c.status.ensures ∙ ap (λ (i : Instance). i.status) c.instance.ensures))
     (c.new-held.ensures ∙ (λ i. listed_with (c.in_ok-instance.ensures i) (term i)))

@@ -1,6 +1,7 @@
 use Rattle.std.proofs.Common.{refl, ap, ◌∙◌}
 use Rattle.std.specs.Prelude.{Some, unwrap_or}
 use Rattle.eu_base.specs.declared.instances.Instance.{Instance}
+use Rattle.eu_base.specs.declared.statuses.Status.{Status}
 use Rattle.eu_model.specs.Change.{rule, row_after, up_after}
 use Rattle.eu_lease.specs.Term.{Term, anew}
 use Rattle.eu_store.specs.Stored.{rejoined}
@@ -15,13 +16,15 @@ returns-clause-joins c =
     let row = c.args.context.row in
     let x = c.judge_statuses-statuses.result in
     let s = c.judge_statuses-statuses.ensures in
-    let own = c.instance-own.ensures in
+    let over = c.overridden.ensures ∙ ap (λ (i : Instance). i.overridden) c.instance-own.ensures in
+    let own = c.status.ensures ∙ ap (λ (i : Instance). i.status) c.instance-own.ensures in
+    let held = c.status-2.ensures ∙ ap (λ (i : Instance). i.status) c.instance-own.ensures in
     let term = c.begun-lease.ensures ∙ ap (λ (a : Term). let b : Term = record a { up = up_after a.up x.status c.args.moment } in b)
     (c.anew-anew.ensures ∙ ap (λ a. anew a c.args.moment n.secs) c.lease.ensures) in
     joins_from _ _ n j c.args.replicated c.args.moment (Some l) (rejoined x.status x.overridden c.begun-lease.result l) row _ _
     refl refl refl refl
     (chosen_under l n c.requires)
-    (s.row ∙ ap (λ (i : Instance). row_after row i.overridden) own)
-    (s.overridden ∙ ap (λ (i : Instance). unwrap_or (row_after row i.overridden) i.overridden) own)
-    (s.status ∙ ap (λ (i : Instance). rule i.status (row_after row i.overridden) (Some i.status) c.args.replicated) own)
+    (s.row ∙ ap (row_after row) over)
+    (s.overridden ∙ ap (λ (v : Status). unwrap_or (row_after row v) v) over)
+    (s.status ∙ (λ i. rule (own i) (row_after row (over i)) (Some (held i)) c.args.replicated))
     (λ i. rejoined x.status x.overridden (term i) l)

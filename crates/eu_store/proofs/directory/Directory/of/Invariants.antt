@@ -1,12 +1,8 @@
 use Rattle.std.proofs.Common.{◌≡◌, map, take, Some}
 use Rattle.std.specs.Map.{keys_of}
-use Rattle.eu_store.specs.Order.{at_places, instances_of}
+use Rattle.eu_store.specs.Order.{at_places}
 use Rattle.eu_store.proofs.directory.Directory.of.Given as goal
 
--- so far the places are those of the rows' keys, and the instances stand there
-pub record IsSoFar (l : goal.Live-loop-row) : Type 0 where
-  pub keys : at_places (keys_of l.table.entries) l.places.items ≡ map Some (map (λ r. r.0.now) (take l.row-index l.row-items))
-  pub instances : at_places (instances_of l.table.entries) l.places.items ≡ map Some l.instances.items
-
+-- so far the places are those of the rows' keys
 abbrev pub invariant-loop-row : goal.invariant-loop-row
-invariant-loop-row l = IsSoFar l
+invariant-loop-row l = at_places (keys_of l.table.entries) l.places.items ≡ map Some (map (λ r. r.0.now) (take l.row-index l.row-items))

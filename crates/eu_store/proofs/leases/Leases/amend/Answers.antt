@@ -1,7 +1,5 @@
-use Rattle.std.proofs.Common.{◌-◌, ◌≤◌, ◌<◌, subst, refl, is_some, length, min, set, sym, ap, ◌∙◌, arith}
-use Rattle.std.specs.Prelude.{MatchOption}
-use Rattle.indexmap.proofs.CallerLemmas.{keys-with_value_at}
-use Rattle.eu_store.specs.Order.{IsDirectory}
+use Rattle.std.proofs.Common.{◌-◌, ◌≤◌, ◌<◌, subst, refl, is_some, Some, length, min, set, sym, ap, ◌∙◌, arith}
+use Rattle.eu_base.specs.declared.instances.Instance.{Instance}
 use Rattle.indexmap.specs.IndexMap.{spare, set_value_at}
 use Rattle.std.specs.FinMap as map
 use Rattle.eu_model.specs.View.{in_status, with_one_more, with_one_fewer}
@@ -9,8 +7,9 @@ use Rattle.eu_store.specs.Stored.{amended, counts_of}
 use Rattle.eu_store.proofs.CountLemmas.{counts_changed, counts_most, counted_there}
 use Rattle.eu_store.proofs.MapLemmas.{none_from_is_some}
 use Rattle.eu_store.proofs.TableLemmas.{by_key, get_at, get_in, inserted, changed_in, unchanged_in}
+use Rattle.eu_store.proofs.PartLemmas.{instance_of_value}
+use Rattle.eu_store.proofs.PlaceLemmas.{same_some}
 use Rattle.eu_store.proofs.IndexLemmas.{deadlines-set, length-set_value_at, written_at}
-use Rattle.eu_store.proofs.DirectoryLemmas.{instances_stay, latest_kept}
 use Rattle.eu_store.proofs.leases.Leases.amend.Goals as goal
 
 pub returns-in_default-clause-found : goal.returns-in_default-clause-found
@@ -26,11 +25,11 @@ pub recount-requires-clause-before : goal.recount-requires-clause-before
 recount-requires-clause-before c =
     let es = c.self.inside.table.entries in
     let there = get_at by_key es c.args.key.now ∙ sym c.in-Some.ensures.value ∙ c.index_mut-held.ensures.value in
-    subst (λ n. 0 < n) (λ i. in_status (sym c.self.invariant.2 i) (sym c.instance.ensures i).status) (counted_there (map.from_entries es) c.args.key.now c.index_mut-held.result.now there)
+    subst (λ n. 0 < n) (λ i. in_status (sym c.self.invariant.2 i) (sym (c.status-before.ensures ∙ ap (λ (j : Instance). j.status) c.instance-2.ensures) i)) (counted_there (map.from_entries es) c.args.key.now c.index_mut-held.result.now there)
 
 pub recount-requires-clause-after : goal.recount-requires-clause-after
 recount-requires-clause-after c =
-    omega (arith, c.self.invariant.0, ap (λ n. in_status n c.instance-3.result.now.status) c.self.invariant.2, counts_most c.self.inside.table.entries c.instance-3.result.now.status)
+    omega (arith, c.self.invariant.0, ap (λ n. in_status n c.status.result) c.self.invariant.2, counts_most c.self.inside.table.entries c.status.result)
 
 pub invariant_of-self : goal.invariant_of-self
 invariant_of-self c =
@@ -43,12 +42,9 @@ invariant_of-self c =
     (written_at c.self.inside.table k c.in-Some.place c.index_mut-held.result.now c.amend.new.self c.in-Some.ensures.unique (sym c.in-Some.ensures.index) value) in (
       short,
       c.set.ensures.list ∙ (λ i. set (c.self.invariant.1 i) c.in-Some.place (c.deadline.ensures i)) ∙ sym (deadlines-set es c.in-Some.place c.amend.new.self),
-      c.recount.ensures ∙ (λ i. with_one_more (with_one_fewer (c.self.invariant.2 i) (c.instance.ensures i).status) (c.instance-3.ensures i).status)
+      c.recount.ensures ∙ (λ i. with_one_more (with_one_fewer (c.self.invariant.2 i) ((c.status-before.ensures ∙ ap (λ (j : Instance). j.status) c.instance-2.ensures) i)) ((c.status.ensures ∙ ap (λ (j : Instance). j.status) c.instance-3.ensures) i))
           ∙ counts_changed (map.from_entries es) k c.index_mut-held.result.now c.amend.new.self there ∙ sym (ap counts_of now),
-      λ fresh.
-          let was = c.step.ensures.fresh fresh in
-          let instances = instances_stay es c.in-Some.place c.index_mut-held.result.now c.amend.new.self value (ap (λ l. l.instance) c.amend.ensures ∙ c.keeps.ensures was.1 c.index_mut-held.result.now (sym c.instance-2.ensures)) in
-          latest_kept es (set_value_at es c.in-Some.place c.amend.new.self) c.step.new.self (keys-with_value_at c.self.inside.table c.in-Some.place c.amend.new.self) instances (λ _. subst (λ d. MatchOption d ⊥ (λ x. IsDirectory es x)) (sym c.step.ensures.directory) (c.self.invariant.3 was.0)) fresh,
+      c.change.ensures.ordered c.amend.new.self (λ is_kept. sym (instance_of_value es c.in-Some.place c.index_mut-held.result.now value ∙ ap (λ (i : Instance). Some i) (sym (ap (λ l. l.instance) c.amend.ensures ∙ c.keeps-is_kept.ensures is_kept c.index_mut-held.result.now (ap (λ l. l.instance) (same_some _ _ (sym value ∙ c.index.ensures)) ∙ sym c.instance.ensures))))),
     )
 
 pub returns-clause-found : goal.returns-clause-found
@@ -63,4 +59,4 @@ returns-clause-held c =
 
 pub returns-clause-room : goal.returns-clause-room
 returns-clause-room c =
-    (λ i. min (min (spare c.self.inside.table) (c.set.ensures.room i)) (65536 - length-set_value_at c.self.inside.table.entries c.in-Some.place c.amend.new.self i)) ∙ ap (λ s. s.room) c.self.view_is
+    (λ i. min (min (min (spare c.self.inside.table) (c.set.ensures.room i)) (c.change.ensures.room i)) (65536 - length-set_value_at c.self.inside.table.entries c.in-Some.place c.amend.new.self i)) ∙ ap (λ s. s.room) c.self.view_is

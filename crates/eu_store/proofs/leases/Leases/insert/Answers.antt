@@ -1,6 +1,7 @@
-use Rattle.std.proofs.Common.{◌≤◌, ◌++◌, ◌∷◌, [], length, refl, sym, ap, ◌∙◌, arith}
+use Rattle.std.proofs.Common.{◌≤◌, ◌++◌, ◌∷◌, [], length, sym, ap, ◌∙◌, arith}
 use Rattle.std.specs.FinMap as map
 use Rattle.indexmap.proofs.CallerLemmas.{insert_entry-new}
+use Rattle.eu_base.specs.declared.instances.Instance.{Instance}
 use Rattle.eu_base.specs.Values.{key_eq}
 use Rattle.eu_model.specs.View.{in_status, with_one_more}
 use Rattle.eu_store.specs.Stored.{counts_of, deadlines}
@@ -8,12 +9,11 @@ use Rattle.eu_store.proofs.CountLemmas.{counts_inserted, counts_most}
 use Rattle.eu_store.proofs.MapLemmas.{at_ok}
 use Rattle.eu_store.proofs.TableLemmas.{by_key, get_at, inserted}
 use Rattle.eu_store.proofs.IndexLemmas.{deadlines-push, length-push}
-use Rattle.eu_store.proofs.DirectoryLemmas.{none_latest}
 use Rattle.eu_store.proofs.leases.Leases.insert.Goals as goal
 
 pub add-requires : goal.add-requires
 add-requires c =
-    omega (arith, c.self.invariant.0, ap (λ n. in_status n c.instance.result.now.status) c.self.invariant.2, counts_most c.self.inside.table.entries c.instance.result.now.status)
+    omega (arith, c.self.invariant.0, ap (λ n. in_status n c.status.result) c.self.invariant.2, counts_most c.self.inside.table.entries c.status.result)
 
 pub push-requires : goal.push-requires
 push-requires c = omega (arith, c.requires.room, ap (λ s. s.room) c.self.view_is)
@@ -31,8 +31,8 @@ invariant_of-self c =
     let now = inserted by_key es c.insert.new.self.entries c.args.key c.args.held (at_ok _ c.insert.ensures.updates c.unwrap.ensures).0 in (
       short,
       c.push.ensures.list ∙ (λ i. c.self.invariant.1 i ++ c.deadline.ensures i ∷ []) ∙ sym (ap deadlines made ∙ deadlines-push es c.args.key c.args.held),
-      c.add.ensures ∙ (λ i. with_one_more (c.self.invariant.2 i) (c.instance.ensures i).status) ∙ counts_inserted (map.from_entries es) c.args.key c.args.held none ∙ sym (ap counts_of now),
-      none_latest _ _ refl,
+      c.add.ensures ∙ (λ i. with_one_more (c.self.invariant.2 i) ((c.status.ensures ∙ ap (λ (i : Instance). i.status) c.instance.ensures) i)) ∙ counts_inserted (map.from_entries es) c.args.key c.args.held none ∙ sym (ap counts_of now),
+      c.put.ensures.ordered c.args.held c.insert.new.self.entries made now,
     )
 
 pub returns-clause-held : goal.returns-clause-held

@@ -30,6 +30,12 @@ returns-in_err-reserve-2-clause-full c =
     let short : map.len c.args.self.now.held < 65536 = omega arith in
     ((λ e. absurd (memory_is_not_full _ c.from_residual-in_err-reserve-2.ensures.1 e)), (λ h. absurd (omega (arith, h))))
 
+pub returns-in_err-reserve-3-clause-full : goal.returns-in_err-reserve-3-clause-full
+returns-in_err-reserve-3-clause-full c =
+    let long = len_in by_key c.self.inside.table.entries c.args.self.now.held (ap (λ s. s.held) c.self.view_is) c.len.ensures.unique in
+    let short : map.len c.args.self.now.held < 65536 = omega arith in
+    ((λ e. absurd (memory_is_not_full _ c.from_residual-in_err-reserve-3.ensures.1 e)), (λ h. absurd (omega (arith, h))))
+
 pub returns-clause-full : goal.returns-clause-full
 returns-clause-full c =
     let long = len_in by_key c.self.inside.table.entries c.args.self.now.held (ap (λ s. s.held) c.self.view_is) c.len.ensures.unique in

@@ -1,29 +1,21 @@
-use Rattle.std.proofs.Common.{◌<◌, ◌++◌, ◌∷◌, [], List, length, get_or, sym, ap, ◌∙◌, Some, arith}
-use Rattle.std.specs.Arc.{arc_value}
-use Rattle.std.proofs.lemmas.List.{take_all}
-use Rattle.std.proofs.lemmas.Option.{slice_get-get_or}
-use Rattle.eu_base.specs.declared.instances.Instance.{Instance}
+use Rattle.std.proofs.Common.{◌++◌, List, take, Option, ℕ, get_or, ap, ◌∙◌}
+use Rattle.std.specs.Option.{option_map}
+use Rattle.eu_model.specs.declared.views.Listed.{Listed}
 use Rattle.eu_model.specs.declared.views.Times.{Times}
-use Rattle.eu_store.specs.Order.{listed_by}
-use Rattle.eu_store.proofs.DirectoryLemmas.{one_more_listed}
+use Rattle.eu_store.specs.Order.{instance_at, instances_in, snapped, timed, Part}
+use Rattle.eu_store.proofs.DirectoryLemmas.{found, one_more_snapped}
 use Rattle.eu_store.proofs.snapshot.Snapshot.listed.Goals as goal
 
-pub loop-place-preserved : goal.loop-place-preserved
-loop-place-preserved c =
-    let is = (arc_value c.self.inside.instances).items in
-    let ts = c.self.inside.times.items in
-    let n = c.loop-place.place in
-    let low : n < length ts = omega (arith, c.loop-place-test.true, c.len-place-end.ensures) in
-    let instance = slice_get-get_or is n c.index.result.now (omega (arith, low, c.self.invariant)) ∙ ap (λ (i : Instance). Some i) (sym (c.index.ensures ∙ ap (λ (v : List Instance). get_or v n c.index.result.now) (ap (λ v. v.items) c.deref.ensures)) ∙ sym c.in_ok-copy.ensures) in
-    let times = slice_get-get_or ts n c.index-in-loop-place.result.now low ∙ ap (λ (t : Times). Some t) (sym c.index-in-loop-place.ensures) in
-    c.in_ok-push.ensures.items ∙ ap (λ ls. ls ++ record { instance = c.in_ok-copy.field-0; times = c.index-in-loop-place.result.now } ∷ []) c.loop-place.invariant
-    ∙ one_more_listed is ts n c.in_ok-copy.field-0 c.index-in-loop-place.result.now instance times
+-- no row
+abbrev none : ℕ × Times
+none = (0, record { registered = 0; updated = 0; up = 0 })
 
-pub returns : goal.returns
-returns c =
-    let is = (arc_value c.self.inside.instances).items in
-    let ts = c.self.inside.times.items in
-    let n = c.loop-place.place in
-    let all_i = take_all n is (omega (arith, c.loop-place-test.false, c.len-place-end.ensures, c.self.invariant)) in
-    let all_t = take_all n ts (omega (arith, c.loop-place-test.false, c.len-place-end.ensures)) in
-    c.loop-place.invariant ∙ (λ j. listed_by (all_i j) (all_t j)) ∙ c.self.view_is
+pub loop-row-preserved : goal.loop-row-preserved
+loop-row-preserved c =
+    let rows = c.deref-row-items.result.now in
+    let n = c.loop-row.row-index in
+    let parts = c.self.inside.parts.items in
+    c.in_ok-append.ensures ∙ ap (λ (ls : List Listed). ls ++ found c.in_ok-found.found) c.loop-row.invariant
+    ∙ ap (λ (o : Option Listed). snapped (instances_in parts) (take n rows) ++ found o)
+    (c.in_ok-found.ensures ∙ ap (λ (ps : List Part). option_map (timed (get_or rows n none).1) (instance_at (instances_in ps) (get_or rows n none).0)) c.deref.ensures.value)
+    ∙ one_more_snapped (instances_in parts) rows n none c.loop-row-test.true

@@ -1,0 +1,95 @@
+//! The directory, where one is kept.
+ghost use Rattle.std.specs.Prelude.{◌≡◌, ◌∷◌, ◌++◌, ◌+◌, ◌<◌, ◌≤◌, [], None, Some, List, OnOk, IsTrue, is_some, true, length, slice_get};
+ghost use Rattle.std.specs.FinMap as map;
+ghost use Rattle.std.specs.List.{swap_remove as swapped};
+ghost use Rattle.std.specs.Map.{keys_of};
+ghost use Rattle.indexmap.specs.IndexMap.{set_value_at};
+ghost use Rattle.eu_base.specs.declared.names.Key.{Key};
+ghost use Rattle.eu_model.specs.declared.views.Listed.{Listed};
+ghost use Rattle.eu_store.specs.Order.{AreOrdered, instances_of, map_by, room_of};
+
+use crate::HeldLease;
+use crate::directory::Directory;
+use eu_base::Key;
+use indexmap::IndexMap;
+use std::alloc::{AllocError, Global};
+
+/// Makes one, where none is kept. `AllocError` where no memory is left.
+pub(crate) fn make(
+    directory: &mut Option<Directory>,
+    alloc: Global,
+    table: &IndexMap<Key, HeldLease>,
+) -> Result<(), AllocError>
+    requires { AreOrdered table.now.entries directory.old }
+    ensures ordered { AreOrdered table.now.entries directory.new }
+    ensures there { OnOk result (is_some directory.new ≡ true) }
+{
+    if directory.is_none() {
+        *directory = Some(Directory::of(alloc, table)?);
+    }
+    Ok(())
+}
+
+/// Makes room in it for one lease more.
+pub(crate) fn reserve(directory: &mut Option<Directory>) -> Result<(), AllocError>
+    ensures ordered { (es : List (Key × Listed)) → AreOrdered es directory.old → AreOrdered es directory.new }
+    ensures ready { OnOk result (0 < room_of directory.new) }
+    ensures room { room_of directory.old ≤ room_of directory.new }
+{
+    match directory {
+        Some(directory) => directory.reserve(),
+        None => Ok(()),
+    }
+}
+
+/// Puts a key in it that comes behind the last of the table.
+pub(crate) fn put(directory: &mut Option<Directory>, table: &IndexMap<Key, HeldLease>, key: &Key)
+    requires ordered { AreOrdered table.now.entries directory.old }
+    requires new { map.get (map_by table.now.entries) key.now ≡ None }
+    requires room { 0 < room_of directory.old }
+    ensures ordered { (v : Listed) → (fs : List (Key × Listed)) → fs ≡ table.now.entries ++ (key.now, v) ∷ [] → map_by fs ≡ map.insert (map_by table.now.entries) key.now v → AreOrdered fs directory.new }
+    ensures room { room_of directory.old ≤ room_of directory.new + 1 }
+{
+    if let Some(directory) = directory {
+        directory.put(table, key);
+    }
+}
+
+/// Takes the key of a place out, whose place the last one of the table gets.
+pub(crate) fn take(
+    directory: &mut Option<Directory>,
+    table: &IndexMap<Key, HeldLease>,
+    place: usize,
+)
+    requires ordered { AreOrdered table.now.entries directory.old }
+    requires within { place < length table.now.entries }
+    ensures ordered { (k : Key) → (d : Key × Listed) → (l : Listed) → (fs : List (Key × Listed)) → slice_get (keys_of table.now.entries) place ≡ Some k → map.get (map_by table.now.entries) k ≡ Some l
+        → fs ≡ swapped table.now.entries place d → map_by fs ≡ map.remove (map_by table.now.entries) k → AreOrdered fs directory.new }
+    ensures room { room_of directory.old ≤ room_of directory.new }
+{
+    if let Some(directory) = directory {
+        let last = table.len() - 1;
+        let at = directory.standing(table, place);
+        let moved = directory.standing(table, last);
+        directory.swap_remove(at, moved, place, last);
+    }
+}
+
+/// What is left of it where the lease of a place changes: its part goes, unless the instance stays.
+pub(crate) fn change(
+    directory: &mut Option<Directory>,
+    table: &IndexMap<Key, HeldLease>,
+    place: usize,
+    is_kept: bool,
+)
+    requires ordered { AreOrdered table.now.entries directory.old }
+    ensures ordered { (v : Listed) → (IsTrue is_kept → Some v.instance ≡ slice_get (instances_of table.now.entries) place) → AreOrdered (set_value_at table.now.entries place v) directory.new }
+    ensures room { room_of directory.new ≡ room_of directory.old }
+{
+    if is_kept {
+        return;
+    }
+    if let Some(directory) = directory {
+        directory.forget(place);
+    }
+}

@@ -1,7 +1,6 @@
 //! The tests, by what they are of.
 mod book;
 mod closed;
-mod lines;
 mod memory;
 mod sessions;
 mod shared;

@@ -2,15 +2,19 @@
 //! that may find no memory.
 #![tactic(auto)]
 
+mod asks;
 mod commands;
 mod desks;
 mod failing;
 mod memory;
 mod messages;
 mod parts;
+mod tells;
 mod texts;
+mod told;
 mod values;
 
+pub use asks::{read_ask, read_command};
 pub use commands::{registration, registration_for, renewal};
 pub use desks::done;
 pub use failing::{Brittle, KINDS, Torn, reads_of};
@@ -20,5 +24,7 @@ pub use messages::{
     REGISTERED, REGISTRATION, RENEWAL, looked,
 };
 pub use parts::Parts;
+pub use tells::{tell_fault, tell_queues, tell_read, tell_reply, tell_state};
 pub use texts::{ids, joined, push_each, push_number, text_of};
+pub use told::{Told, first_wrong, number_of, numbered, two};
 pub use values::{at, clock, instance, key, key_of, moment, settings};

@@ -1,12 +1,12 @@
 //! A book alone: what its lines say, and what comes of each, worked out by hand.
-use crate::tests::lines::{Told, first_wrong, number_of, numbered, read_ask};
-use crate::tests::texts::{
-    tell_answer, tell_fault, tell_queues, tell_read, tell_receipt, tell_reply, tell_state,
-};
+use crate::tests::texts::{tell_answer, tell_receipt};
 use eu_base::{Config, Fault};
 use eu_book::{Book, Journal, LoggedReceipt};
 use eu_clock::{FirstChooser, ListChooser};
-use eu_fixtures::{at, settings};
+use eu_fixtures::{
+    Told, at, first_wrong, number_of, numbered, read_ask, settings, tell_fault, tell_queues,
+    tell_read, tell_reply, tell_state,
+};
 use eu_model::{Ask, Command, Entry};
 use std::alloc::{AllocError, Global};
 

@@ -1,8 +1,6 @@
 //! Books that were closed, and books that weren't: what their lines say, and what comes of each.
-use crate::tests::lines::{Told, first_wrong};
-use crate::tests::texts::{tell_fault, tell_state};
 use eu_base::Fault;
-use eu_fixtures::renewal;
+use eu_fixtures::{Told, first_wrong, renewal, tell_fault, tell_state};
 use eu_settle::{Closed, PassLog, settle};
 use eu_shared::{Label, Pass, Shared, Unclosed, close};
 use std::alloc::{AllocError, Global};
@@ -61,31 +59,51 @@ fn change(alloc: Global, closed: &mut Closed, said: &str) -> Result<(), Fault> {
     Ok(())
 }
 
-/// Of a book that was closed, which is told what is to be made of its logs and its entries.
-impl Told for Closed {
-    fn tell(&mut self, alloc: Global, said: &str, out: &mut String) -> Result<(), Fault> {
-        match said {
-            "account" => Ok(tell_account(out, self)?),
-            "base" => Ok(tell_state(out, &self.base)?),
-            "end" => Ok(tell_state(out, &self.end)?),
-            "settle" => Ok(write!(out, "{:?}", settle(self))?),
-            _ => {
-                change(alloc, self, said)?;
-                Ok(out.push_str("done")?)
-            }
+/// Tells a book that was closed what is to be made of its logs and its entries.
+fn tell_closed(
+    alloc: Global,
+    closed: &mut Closed,
+    said: &str,
+    out: &mut String,
+) -> Result<(), Fault> {
+    match said {
+        "account" => Ok(tell_account(out, closed)?),
+        "base" => Ok(tell_state(out, &closed.base)?),
+        "end" => Ok(tell_state(out, &closed.end)?),
+        "settle" => Ok(write!(out, "{:?}", settle(closed))?),
+        _ => {
+            change(alloc, closed, said)?;
+            Ok(out.push_str("done")?)
         }
     }
 }
 
-/// Of a book that wasn't.
-impl<K: Label> Told for Unclosed<K> {
-    fn tell(&mut self, _alloc: Global, said: &str, out: &mut String) -> Result<(), Fault> {
-        match said {
-            "fault" => Ok(tell_fault(out, self.fault)?),
-            "sums" => Ok(write!(out, "{:?}", self.sums)?),
-            "totals" => Ok(write!(out, "{:?}", self.totals)?),
-            "passes" => Ok(write!(out, "{} of {}", self.passes.len(), self.pass_count)?),
-            _ => Err(Fault::BadValue),
+/// Asks a book that wasn't.
+fn tell_unclosed<K: Label>(
+    unclosed: &Unclosed<K>,
+    said: &str,
+    out: &mut String,
+) -> Result<(), Fault> {
+    match said {
+        "fault" => Ok(tell_fault(out, unclosed.fault)?),
+        "sums" => Ok(write!(out, "{:?}", unclosed.sums)?),
+        "totals" => Ok(write!(out, "{:?}", unclosed.totals)?),
+        "passes" => Ok(write!(out, "{} of {}", unclosed.passes.len(), unclosed.pass_count)?),
+        _ => Err(Fault::BadValue),
+    }
+}
+
+/// What comes of a close.
+#[derive(Drop)]
+struct End<K: Label> {
+    outcome: Result<Closed, Unclosed<K>>,
+}
+
+impl<K: Label> Told for End<K> {
+    fn tell(&mut self, alloc: Global, said: &str, out: &mut String) -> Result<(), Fault> {
+        match &mut self.outcome {
+            Ok(closed) => tell_closed(alloc, closed, said, out),
+            Err(unclosed) => tell_unclosed(unclosed, said, out),
         }
     }
 }
@@ -96,20 +114,10 @@ pub fn first_wrong_closed<K: Label>(
     outcome: Result<Closed, Unclosed<K>>,
     text: &str,
 ) -> Option<usize> {
-    match outcome {
-        Ok(closed) => {
-            let mut closed = closed;
-            let wrong = first_wrong(alloc, &mut closed, text);
-            drop(closed);
-            wrong
-        }
-        Err(unclosed) => {
-            let mut unclosed = unclosed;
-            let wrong = first_wrong(alloc, &mut unclosed, text);
-            drop(unclosed);
-            wrong
-        }
-    }
+    let mut end = End { outcome };
+    let wrong = first_wrong(alloc, &mut end, text);
+    drop(end);
+    wrong
 }
 
 /// The same of a shared book that is closed.

@@ -1,9 +1,8 @@
 //! Want of memory. In a usual run no allocation is refused; `tools/sweep_memory.sh` refuses one after another.
-use crate::tests::lines::read_ask;
 use eu_base::{Fault, MOST_ENTRIES, Moment};
 use eu_book::Book;
 use eu_clock::FirstChooser;
-use eu_fixtures::{at, pause_or_go_on, settings};
+use eu_fixtures::{at, pause_or_go_on, read_ask, settings};
 use eu_model::{Ask, Command, Query, Reply, View};
 use std::alloc::{AllocError, Global};
 

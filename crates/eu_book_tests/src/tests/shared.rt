@@ -2,11 +2,10 @@
 ghost use Rattle.std.specs.Prelude.{◌≡◌};
 
 use crate::tests::closed::first_wrong_end;
-use crate::tests::lines::{Told, first_wrong, number_of, numbered, read_ask};
-use crate::tests::texts::{tell_answer, tell_fault, tell_read};
+use crate::tests::texts::tell_answer;
 use eu_base::{Config, Fault};
 use eu_clock::FirstChooser;
-use eu_fixtures::at;
+use eu_fixtures::{Told, at, first_wrong, number_of, numbered, read_ask, tell_fault, tell_read};
 use eu_model::{Ask, Command};
 use eu_shared::{Blanks, Label, Pass, Shared};
 use std::alloc::Global;

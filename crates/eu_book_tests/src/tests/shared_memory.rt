@@ -2,12 +2,11 @@
 ghost use Rattle.std.specs.Prelude.{◌≡◌};
 
 use crate::tests::closed::first_wrong_closed;
-use crate::tests::lines::read_ask;
 use crate::tests::shared::{USUAL, open as open_shared};
 use eu_base::{Fault, Moment};
 use eu_book::Receipt;
 use eu_clock::FirstChooser;
-use eu_fixtures::{moment, pause_or_go_on, settings};
+use eu_fixtures::{moment, pause_or_go_on, read_ask, settings};
 use eu_model::{Ask, Command, Listed, Query, Reply, View};
 use eu_settle::Closed;
 use eu_shared::{Blanks, Held, Label, Pass, Shared, Unclosed, close};

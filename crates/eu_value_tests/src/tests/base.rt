@@ -3,146 +3,131 @@ use eu_base::{
     Action, App, Codes, Config, Fault, Id, Instance, Key, LeaseSecs, Moment, RenewalSecs, Rest,
     Stamp, Status, Task,
 };
-use eu_fixtures::key_of;
-use serde_json::{Map, Value};
+use eu_fixtures::{Told, first_wrong, key_of, moment, number_of, two};
+use serde_json::Value;
 use std::alloc::{AllocError, Global};
-use std::cmp::Ordering;
+
+/// Names. What is read and its copy are told of `app TEXT` and of `id TEXT`, and of `apps N` and of `ids N` how long a name of so many letters is. Of
+/// `keys APP/ID APP/ID`, `app-order` and `id-order` it is told whether the first is less than the second, greater, and the same.
+#[derive(Drop)]
+struct Names;
+
+fn tell_app(alloc: Global, text: &str, out: &mut String) -> Result<(), Fault> {
+    let app = App::read(alloc, text)?;
+    let copy = app.copy(alloc)?;
+    Ok(write!(out, "{} {}", app.as_str(), copy.as_str())?)
+}
+
+fn tell_id(alloc: Global, text: &str, out: &mut String) -> Result<(), Fault> {
+    let id = Id::read(alloc, text)?;
+    let copy = id.copy(alloc)?;
+    Ok(write!(out, "{} {}", id.as_str(), copy.as_str())?)
+}
 
 /// As many letters.
-fn text_of(alloc: Global, bytes: usize) -> Result<String, AllocError> {
+fn letters(alloc: Global, count: u64) -> Result<String, AllocError> {
     let mut text = String::new(alloc);
-    for _ in 0..bytes {
+    for _ in 0..count {
         text.push_str("a")?;
     }
     Ok(text)
 }
 
-/// Whether the copy of an application has that name.
-fn app_copies_as(alloc: Global, app: &App, name: &str) -> Result<bool, Fault> {
-    let copy = app.copy(alloc)?;
-    Ok(copy.as_str() == name)
+fn tell_app_length(alloc: Global, count: u64, out: &mut String) -> Result<(), Fault> {
+    let text = letters(alloc, count)?;
+    let app = App::read(alloc, text.as_str())?;
+    Ok(write!(out, "{}", app.as_str().len())?)
 }
 
-/// Whether an application is read as that name, and so is its copy.
-fn app_reads_as(alloc: Global, text: &str, name: &str) -> Result<bool, Fault> {
-    let app = App::read(alloc, text)?;
-    let reads = app.as_str() == name;
-    let copies = app_copies_as(alloc, &app, name);
-    drop(app);
-    Ok(copies? && reads)
+fn tell_id_length(alloc: Global, count: u64, out: &mut String) -> Result<(), Fault> {
+    let text = letters(alloc, count)?;
+    let id = Id::read(alloc, text.as_str())?;
+    Ok(write!(out, "{}", id.as_str().len())?)
 }
 
-/// The length of an application that is read from as many letters.
-fn app_length(alloc: Global, bytes: usize) -> Result<usize, Fault> {
-    let text = text_of(alloc, bytes)?;
-    let app = App::read(alloc, text.as_str());
-    drop(text);
-    Ok(app?.as_str().len())
+/// Tells how two values stand to each other.
+fn tell_order<T: PartialOrd>(one: &T, other: &T, out: &mut String) -> Result<(), AllocError> {
+    let (less, greater, same) = (one < other, one > other, one == other);
+    write!(out, "{less} {greater} {same}")
 }
+
+fn read_key(alloc: Global, text: &str) -> Result<Key, Fault> {
+    let (app, id) = text.split_once('/').ok_or(Fault::BadValue)?;
+    key_of(alloc, app, id)
+}
+
+fn tell_keys(alloc: Global, text: &str, out: &mut String) -> Result<(), Fault> {
+    let (one, other) = two(text)?;
+    let one = read_key(alloc, one)?;
+    let other = read_key(alloc, other)?;
+    Ok(tell_order(&one, &other, out)?)
+}
+
+fn tell_key_copy(alloc: Global, text: &str, out: &mut String) -> Result<(), Fault> {
+    let key = read_key(alloc, text)?;
+    let copy = key.copy(alloc)?;
+    Ok(tell_order(&key, &copy, out)?)
+}
+
+fn tell_apps(alloc: Global, text: &str, out: &mut String) -> Result<(), Fault> {
+    let (one, other) = two(text)?;
+    let one = App::read(alloc, one)?;
+    let other = App::read(alloc, other)?;
+    Ok(tell_order(&one, &other, out)?)
+}
+
+fn tell_ids(alloc: Global, text: &str, out: &mut String) -> Result<(), Fault> {
+    let (one, other) = two(text)?;
+    let one = Id::read(alloc, one)?;
+    let other = Id::read(alloc, other)?;
+    Ok(tell_order(&one, &other, out)?)
+}
+
+impl Told for Names {
+    fn tell(&mut self, alloc: Global, said: &str, out: &mut String) -> Result<(), Fault> {
+        let (word, text) = two(said)?;
+        match word {
+            "app" => tell_app(alloc, text, out),
+            "id" => tell_id(alloc, text, out),
+            "apps" => tell_app_length(alloc, number_of(text)?, out),
+            "ids" => tell_id_length(alloc, number_of(text)?, out),
+            "keys" => tell_keys(alloc, text, out),
+            "key-copy" => tell_key_copy(alloc, text, out),
+            "app-order" => tell_apps(alloc, text, out),
+            "id-order" => tell_ids(alloc, text, out),
+            _ => Err(Fault::BadValue),
+        }
+    }
+}
+
+const APPLICATIONS: &str = "app my-aPp_é1 = MY-APP_é1 MY-APP_é1
+app  = Empty
+apps 255 = 255
+apps 256 = TooLong";
+
+const IDS: &str = "id Host:a:8080 = Host:a:8080 Host:a:8080
+id  = Empty
+ids 256 = TooLong";
+
+const ORDERS: &str = "keys a/z B/Y = true false false
+keys B/Y b/a = true false false
+key-copy b/a = false false true
+app-order a B = true false false
+id-order z Y = false true false";
 
 #[test]
 fn applications_are_read_in_capitals(rt: HostRuntime) {
-    assert!(rt; app_reads_as(rt.alloc(), "my-aPp_é1", "MY-APP_é1") == Ok(true));
-    assert!(rt; app_reads_as(rt.alloc(), "", "") == Err(Fault::Empty));
-    assert!(rt; app_length(rt.alloc(), 255) == Ok(255));
-    assert!(rt; app_length(rt.alloc(), 256) == Err(Fault::TooLong));
-}
-
-/// Whether the copy of an id is that text.
-fn id_copies_as(alloc: Global, id: &Id, text: &str) -> Result<bool, Fault> {
-    let copy = id.copy(alloc)?;
-    Ok(copy.as_str() == text)
-}
-
-/// Whether an id is read as given, and so is its copy.
-fn id_reads_as_given(alloc: Global, text: &str) -> Result<bool, Fault> {
-    let id = Id::read(alloc, text)?;
-    let reads = id.as_str() == text;
-    let copies = id_copies_as(alloc, &id, text);
-    drop(id);
-    Ok(copies? && reads)
-}
-
-/// The length of an id that is read from as many letters.
-fn id_length(alloc: Global, bytes: usize) -> Result<usize, Fault> {
-    let text = text_of(alloc, bytes)?;
-    let id = Id::read(alloc, text.as_str());
-    drop(text);
-    Ok(id?.as_str().len())
+    assert_eq!(rt; first_wrong(rt.alloc(), &mut Names, APPLICATIONS), None);
 }
 
 #[test]
 fn ids_are_read_as_given(rt: HostRuntime) {
-    assert!(rt; id_reads_as_given(rt.alloc(), "Host:a:8080") == Ok(true));
-    assert!(rt; id_reads_as_given(rt.alloc(), "") == Err(Fault::Empty));
-    assert!(rt; id_length(rt.alloc(), 256) == Err(Fault::TooLong));
-}
-
-/// Whether a key is less than that one, and isn't equal to it.
-fn is_before(alloc: Global, first: &Key, app: &str, id: &str) -> Result<bool, Fault> {
-    let second = key_of(alloc, app, id)?;
-    let before = *first < second && *first != second;
-    drop(second);
-    Ok(before)
-}
-
-/// Whether two keys, each an application and an id, are in order.
-fn are_in_order(alloc: Global, first: (&str, &str), second: (&str, &str)) -> Result<bool, Fault> {
-    let key = key_of(alloc, first.0, first.1)?;
-    let before = is_before(alloc, &key, second.0, second.1);
-    drop(key);
-    before
-}
-
-/// Whether a key is equal to its copy.
-fn is_copied(alloc: Global, key: &Key) -> Result<bool, Fault> {
-    let copy = key.copy(alloc)?;
-    Ok(*key == copy)
-}
-
-/// Whether that key is equal to its copy.
-fn is_key_copied(alloc: Global, app: &str, id: &str) -> Result<bool, Fault> {
-    let key = key_of(alloc, app, id)?;
-    let copied = is_copied(alloc, &key);
-    drop(key);
-    copied
-}
-
-/// Whether an application is less than that one, and how it compares.
-fn app_order(alloc: Global, first: &App, text: &str) -> Result<(bool, Option<Ordering>), Fault> {
-    let second = App::read(alloc, text)?;
-    Ok((*first < second, first.partial_cmp(&second)))
-}
-
-/// Whether the first application is less than the second.
-fn are_apps_in_order(alloc: Global, first: &str, second: &str) -> Result<bool, Fault> {
-    let app = App::read(alloc, first)?;
-    let order = app_order(alloc, &app, second);
-    drop(app);
-    Ok(order? == (true, Some(Ordering::Less)))
-}
-
-/// Whether an id is greater than that one, and how it compares.
-fn id_order(alloc: Global, first: &Id, text: &str) -> Result<(bool, Option<Ordering>), Fault> {
-    let second = Id::read(alloc, text)?;
-    Ok((*first > second, first.partial_cmp(&second)))
-}
-
-/// Whether the first id is greater than the second.
-fn are_ids_in_reverse(alloc: Global, first: &str, second: &str) -> Result<bool, Fault> {
-    let id = Id::read(alloc, first)?;
-    let order = id_order(alloc, &id, second);
-    drop(id);
-    Ok(order? == (true, Some(Ordering::Greater)))
+    assert_eq!(rt; first_wrong(rt.alloc(), &mut Names, IDS), None);
 }
 
 #[test]
 fn keys_are_ordered_by_application_first(rt: HostRuntime) {
-    assert!(rt; are_in_order(rt.alloc(), ("a", "z"), ("B", "Y")) == Ok(true));
-    assert!(rt; are_in_order(rt.alloc(), ("B", "Y"), ("b", "a")) == Ok(true));
-    assert!(rt; is_key_copied(rt.alloc(), "b", "a") == Ok(true));
-    assert!(rt; are_apps_in_order(rt.alloc(), "a", "B") == Ok(true));
-    assert!(rt; are_ids_in_reverse(rt.alloc(), "z", "Y") == Ok(true));
+    assert_eq!(rt; first_wrong(rt.alloc(), &mut Names, ORDERS), None);
 }
 
 #[test]
@@ -188,15 +173,26 @@ fn are_held(preservation: bool, percent: u32, interval: u32, evict_ms: u32) -> R
 
 #[test]
 fn settings_have_limits(rt: HostRuntime) {
-    assert!(rt; are_held(true, 85, 30, 60_000) == Ok(true));
-    assert!(rt; are_held(false, 0, 1, 0) == Ok(true));
-    assert!(rt; are_held(false, 100, 3600, u32::MAX) == Ok(true));
-    assert!(rt; are_held(true, 101, 0, 0) == Err(Fault::BadPercent));
-    assert!(rt; are_held(true, 100, 0, 0) == Err(Fault::BadInterval));
-    assert!(rt; are_held(true, 100, 3601, 0) == Err(Fault::BadInterval));
+    for (preservation, percent, interval, evict_ms, held) in [
+        (true, 85, 30, 60_000, Ok(true)),
+        (false, 0, 1, 0, Ok(true)),
+        (false, 100, 3600, u32::MAX, Ok(true)),
+        (true, 101, 0, 0, Err(Fault::BadPercent)),
+        (true, 100, 0, 0, Err(Fault::BadInterval)),
+        (true, 100, 3601, 0, Err(Fault::BadInterval)),
+    ] {
+        let told = are_held(preservation, percent, interval, evict_ms);
+        assert!(rt; told == held, "at {percent}, {interval}, {evict_ms}");
+    }
 }
 
-fn instance(alloc: Global, overridden: Status) -> Result<Instance, Fault> {
+/// Values that are compared or copied. It is told whether two of them are the same: `instances STATUS STATUS` by their overridden status, `tasks MS MS` by when they were
+/// queued, `codes N N` by their last code. `copy STATUS` tells the copy of an instance.
+#[derive(Drop)]
+struct Plain;
+
+fn instance(alloc: Global, overridden: &str) -> Result<Instance, Fault> {
+    let overridden = Status::read(overridden.as_bytes()).ok_or(Fault::BadValue)?;
     let last_dirty = Stamp::new(7).ok_or(Fault::BadStamp)?;
     let key = key_of(alloc, "a", "i1")?;
     let rest = Rest::of_host(alloc, "i1")?;
@@ -211,79 +207,45 @@ fn instance(alloc: Global, overridden: Status) -> Result<Instance, Fault> {
     })
 }
 
-/// Whether the members of a rest are those.
-fn has_members(
-    alloc: Global,
-    rest: &Rest,
-    members: &Map<String, Value>,
-) -> Result<bool, AllocError> {
-    let own = rest.to_members(alloc)?;
-    Ok(own == *members)
+/// Tells the name, the statuses, the numbers and how many other members an instance has.
+fn tell_instance(alloc: Global, instance: &Instance, out: &mut String) -> Result<(), Fault> {
+    write!(
+        out,
+        "{} {} {} {}",
+        instance.key.app.as_str(),
+        instance.key.id.as_str(),
+        instance.status.name(),
+        instance.overridden.name(),
+    )?;
+    write!(
+        out,
+        " {} {} {}",
+        instance.last_dirty.value(),
+        instance.secs.secs(),
+        instance.interval.secs(),
+    )?;
+    let members = instance.rest.to_members(alloc)?;
+    Ok(write!(out, " {}", members.len())?)
 }
 
-/// Whether two rests have the same members.
-fn have_same_members(alloc: Global, rest: &Rest, other: &Rest) -> Result<bool, AllocError> {
-    let members = other.to_members(alloc)?;
-    let same = has_members(alloc, rest, &members);
-    drop(members);
-    same
-}
-
-/// Whether an instance has the numbers and the statuses of one that is `STARTING` and overridden as `OUT_OF_SERVICE`.
-fn is_out_of_service(instance: &Instance) -> bool {
-    instance.status == Status::Starting
-        && instance.overridden == Status::OutOfService
-        && instance.last_dirty.value() == 7
-        && instance.secs.secs() == 90
-        && instance.interval.secs() == 30
-}
-
-/// Whether the copy of an instance is that one.
-fn is_copied_out_of_service(alloc: Global, instance: &Instance) -> Result<bool, Fault> {
+fn tell_copy(alloc: Global, overridden: &str, out: &mut String) -> Result<(), Fault> {
+    let instance = instance(alloc, overridden)?;
     let copy = instance.copy(alloc)?;
-    let same = copy.key == instance.key && is_out_of_service(&copy);
-    let members = have_same_members(alloc, &copy.rest, &instance.rest);
-    drop(copy);
-    Ok(members? && same)
+    tell_instance(alloc, &copy, out)?;
+    Ok(write!(out, " {}", instance.rest.same(&copy.rest))?)
 }
 
-/// Whether such an instance is copied.
-fn is_instance_copied(alloc: Global) -> Result<bool, Fault> {
-    let instance = instance(alloc, Status::OutOfService)?;
-    let copied = is_copied_out_of_service(alloc, &instance);
-    drop(instance);
-    copied
+fn tell_instances(alloc: Global, text: &str, out: &mut String) -> Result<(), Fault> {
+    let (one, other) = two(text)?;
+    let one = instance(alloc, one)?;
+    let other = instance(alloc, other)?;
+    Ok(write!(out, "{}", one.same(&other))?)
 }
 
-#[test]
-fn an_instance_is_copied(rt: HostRuntime) {
-    assert!(rt; is_instance_copied(rt.alloc()) == Ok(true));
-}
-
-/// Whether an instance is the one that is overridden so.
-fn is_overridden_so(alloc: Global, first: &Instance, overridden: Status) -> Result<bool, Fault> {
-    let second = instance(alloc, overridden)?;
-    Ok(first.same(&second))
-}
-
-/// Whether the instance that is overridden as `DOWN` is the one that is overridden so.
-fn is_same_instance(alloc: Global, overridden: Status) -> Result<bool, Fault> {
-    let first = instance(alloc, Status::Down)?;
-    let same = is_overridden_so(alloc, &first, overridden);
-    drop(first);
-    same
-}
-
-#[test]
-fn instances_are_compared(rt: HostRuntime) {
-    assert!(rt; is_same_instance(rt.alloc(), Status::Down) == Ok(true));
-    assert!(rt; is_same_instance(rt.alloc(), Status::Unknown) == Ok(false));
-}
-
-fn task(alloc: Global, queued: u64) -> Result<Task, Fault> {
-    let queued = Moment::new(queued).ok_or(Fault::Exhausted)?;
+fn task(alloc: Global, queued: &str) -> Result<Task, Fault> {
+    let queued = moment(number_of(queued)?)?;
     let key = key_of(alloc, "a", "i1")?;
-    let instance = instance(alloc, Status::Up)?;
+    let instance = instance(alloc, "UP")?;
     Ok(Task {
         action: Action::StatusUpdate,
         key,
@@ -293,49 +255,49 @@ fn task(alloc: Global, queued: u64) -> Result<Task, Fault> {
     })
 }
 
-/// Whether a task is the one that is queued then.
-fn is_queued_then(alloc: Global, first: &Task, queued: u64) -> Result<bool, Fault> {
-    let second = task(alloc, queued)?;
-    Ok(first.same(&second))
+fn tell_tasks(alloc: Global, text: &str, out: &mut String) -> Result<(), Fault> {
+    let (one, other) = two(text)?;
+    let one = task(alloc, one)?;
+    let other = task(alloc, other)?;
+    Ok(write!(out, "{}", one.same(&other))?)
 }
 
-/// Whether the task that is queued at 5 is the one that is queued then.
-fn is_same_task(alloc: Global, queued: u64) -> Result<bool, Fault> {
-    let first = task(alloc, 5)?;
-    let same = is_queued_then(alloc, &first, queued);
-    drop(first);
-    same
+fn codes(alloc: Global, last: &str) -> Result<Codes, Fault> {
+    let last = u16::try_from(number_of(last)?).map_err(|_| Fault::BadValue)?;
+    Ok(Codes::new(vec![in alloc; 200, last]?))
 }
+
+fn tell_codes(alloc: Global, text: &str, out: &mut String) -> Result<(), Fault> {
+    let (one, other) = two(text)?;
+    let one = codes(alloc, one)?;
+    let other = codes(alloc, other)?;
+    Ok(write!(out, "{}", one.same(&other))?)
+}
+
+impl Told for Plain {
+    fn tell(&mut self, alloc: Global, said: &str, out: &mut String) -> Result<(), Fault> {
+        let (word, text) = two(said)?;
+        match word {
+            "copy" => tell_copy(alloc, text, out),
+            "instances" => tell_instances(alloc, text, out),
+            "tasks" => tell_tasks(alloc, text, out),
+            "codes" => tell_codes(alloc, text, out),
+            _ => Err(Fault::BadValue),
+        }
+    }
+}
+
+const PLAIN: &str = "copy OUT_OF_SERVICE = A i1 STARTING OUT_OF_SERVICE 7 90 30 3 true
+instances DOWN DOWN = true
+instances DOWN UNKNOWN = false
+tasks 5 5 = true
+tasks 5 6 = false
+codes 404 404 = true
+codes 404 409 = false";
 
 #[test]
-fn tasks_are_compared(rt: HostRuntime) {
-    assert!(rt; is_same_task(rt.alloc(), 5) == Ok(true));
-    assert!(rt; is_same_task(rt.alloc(), 6) == Ok(false));
-}
-
-fn codes(alloc: Global, last: u16) -> Result<Codes, AllocError> {
-    let codes = vec![in alloc; 200, last]?;
-    Ok(Codes::new(codes))
-}
-
-/// Whether codes are 200 and that one.
-fn are_codes(alloc: Global, first: &Codes, last: u16) -> Result<bool, AllocError> {
-    let second = codes(alloc, last)?;
-    Ok(first.same(&second))
-}
-
-/// Whether 200 and 404 are the same codes as 200 and that one.
-fn are_same_codes(alloc: Global, last: u16) -> Result<bool, AllocError> {
-    let first = codes(alloc, 404)?;
-    let same = are_codes(alloc, &first, last);
-    drop(first);
-    same
-}
-
-#[test]
-fn codes_are_compared(rt: HostRuntime) {
-    assert!(rt; are_same_codes(rt.alloc(), 404) == Ok(true));
-    assert!(rt; are_same_codes(rt.alloc(), 409) == Ok(false));
+fn values_are_copied_and_compared(rt: HostRuntime) {
+    assert_eq!(rt; first_wrong(rt.alloc(), &mut Plain, PLAIN), None);
 }
 
 /// Whether a fault is told so.
@@ -355,14 +317,6 @@ fn faults_have_numbers(rt: HostRuntime) {
         assert_eq!(rt; fault.number(), number);
     }
     assert!(rt; is_told(rt.alloc(), Fault::Full, "the registry is full") == Ok(true));
-}
-
-/// The rest of a text; none where it isn't JSON, or no object of whole numbers.
-fn rest(alloc: Global, text: &str) -> Option<Rest> {
-    match Value::from_str(alloc, text) {
-        Ok(value) => Rest::new(alloc, value).ok()?,
-        Err(_) => None,
-    }
 }
 
 /// Whether a text is JSON, and if so, whether it is a rest.
@@ -395,19 +349,24 @@ fn a_rest_is_an_object_of_whole_numbers(rt: HostRuntime) {
     }
 }
 
-/// Whether a rest is that of a text, if it is one.
-fn is_rest_of(alloc: Global, first: &Rest, text: &str) -> Option<bool> {
-    let second = rest(alloc, text)?;
-    Some(first.same(&second))
+/// The rest of a text, or of the host that `host ` stands before. None where it isn't JSON, or no object of whole numbers.
+fn rest(alloc: Global, text: &str) -> Option<Rest> {
+    if let Some(host) = text.strip_prefix("host ") {
+        return Rest::of_host(alloc, host).ok();
+    }
+    let value = Value::from_str(alloc, text).ok()?;
+    Rest::new(alloc, value).ok()?
 }
 
-/// Whether two texts are the same rest, if they are rests.
-fn are_same_rests(alloc: Global, text: &str, other: &str) -> Option<bool> {
-    let first = rest(alloc, text)?;
-    let same = is_rest_of(alloc, &first, other);
-    drop(first);
-    same
+/// Whether two texts are the same rest, and the other way round, if they are rests.
+fn compared(alloc: Global, one: &str, other: &str) -> Option<(bool, bool)> {
+    let one = rest(alloc, one)?;
+    let other = rest(alloc, other)?;
+    Some((one.same(&other), other.same(&one)))
 }
+
+/// What a host's rest holds.
+const HOST: &str = r#"{"hostName":"h","ipAddr":"0.0.0.0","dataCenterInfo":{"name":"MyOwn"}}"#;
 
 #[test]
 fn rests_are_compared(rt: HostRuntime) {
@@ -424,43 +383,12 @@ fn rests_are_compared(rt: HostRuntime) {
         ),
         (r#"{"a":[1,-2,{}]}"#, r#"{"a":[1,-2]}"#, false),
         (r#"{"a":[true,false]}"#, r#"{"a":[false,true]}"#, false),
+        (HOST, "host h", true),
+        (HOST, "host i", false),
+        ("host h", "host i", false),
     ];
-    for (text, other, same) in cases {
-        assert!(rt;
-            are_same_rests(rt.alloc(), text, other) == Some(same),
-            "at {text} and {other}"
-        );
+    for (one, other, same) in cases {
+        let told = compared(rt.alloc(), one, other);
+        assert!(rt; told == Some((same, same)), "at {one} and {other}");
     }
-}
-
-/// What a host's rest holds.
-const HOST: &str = r#"{"hostName":"h","ipAddr":"0.0.0.0","dataCenterInfo":{"name":"MyOwn"}}"#;
-
-/// Whether a rest is the same as that of a host, and the other way round.
-fn compared_with_host(alloc: Global, first: &Rest, host: &str) -> Result<(bool, bool), AllocError> {
-    let second = Rest::of_host(alloc, host)?;
-    Ok((first.same(&second), second.same(first)))
-}
-
-/// The same of the rest above.
-fn compared_with_text(alloc: Global, host: &str) -> Option<(bool, bool)> {
-    let kept = rest(alloc, HOST)?;
-    let compared = compared_with_host(alloc, &kept, host);
-    drop(kept);
-    compared.ok()
-}
-
-/// The same of the rest of the host h.
-fn is_same_host(alloc: Global, host: &str) -> Result<(bool, bool), AllocError> {
-    let first = Rest::of_host(alloc, "h")?;
-    let compared = compared_with_host(alloc, &first, host);
-    drop(first);
-    compared
-}
-
-#[test]
-fn a_hosts_rest_is_compared(rt: HostRuntime) {
-    assert!(rt; compared_with_text(rt.alloc(), "h") == Some((true, true)));
-    assert!(rt; compared_with_text(rt.alloc(), "i") == Some((false, false)));
-    assert!(rt; is_same_host(rt.alloc(), "i") == Ok((false, false)));
 }

@@ -1,43 +1,267 @@
-//! Lists of keys and of leases.
-use eu_base::{
-    Action, App, BoxedInstance, Config, Fault, Id, Key, Keys, Moment, Stamp, Status, Task, Tasks,
+//! Commands, replies and lists: how they are copied, compared and counted.
+use eu_base::{Action, BoxedInstance, Config, Fault, Id, Key, Keys, Status, Task, Tasks};
+use eu_fixtures::{
+    Told, first_wrong, instance, key, key_of, moment, number_of, read_command, settings, two,
 };
-use eu_fixtures::{instance, key, settings};
 use eu_model::{Command, Listed, Listing, OverrideRows, Reply, Tally, Times};
-use std::alloc::Global;
+use std::alloc::{AllocError, Global};
 
-/// The list of that key.
-fn keys(alloc: Global, id: &str) -> Result<Keys, Fault> {
-    let key = key(alloc, id)?;
+fn times() -> Times {
+    Times {
+        registered: 1,
+        updated: 1,
+        up: 1,
+    }
+}
+
+/// The keys that are told as `APP/ID APP/ID`.
+fn keys(alloc: Global, words: &str) -> Result<Keys, Fault> {
     let mut list = Vec::new(alloc);
-    list.push(key)?;
+    for word in words.split(' ') {
+        let (app, id) = word.split_once('/').ok_or(Fault::BadValue)?;
+        list.push(key_of(alloc, app, id)?)?;
+    }
     Ok(Keys::new(list))
 }
 
-/// Whether a list of a key shows it.
-fn shows_a_key(alloc: Global) -> Result<bool, Fault> {
-    let keys = keys(alloc, "i1")?;
-    Ok(match keys.as_slice() {
-        [key] => key.app.as_str() == "A",
-        _ => false,
+/// A task of i1 that is queued at 5, with that status.
+fn task(alloc: Global, status: &str) -> Result<Task, Fault> {
+    let status = Status::read(status.as_bytes()).ok_or(Fault::BadValue)?;
+    let queued = moment(5)?;
+    Ok(Task {
+        action: Action::StatusUpdate,
+        key: key(alloc, "i1")?,
+        status: Some(status),
+        instance: None,
+        queued,
     })
 }
 
-#[test]
-fn keys_are_shown(rt: HostRuntime) {
-    assert!(rt; shows_a_key(rt.alloc()) == Ok(true));
+fn tasks(alloc: Global, status: &str) -> Result<Tasks, Fault> {
+    let mut list = Vec::new(alloc);
+    list.push(task(alloc, status)?)?;
+    Ok(Tasks::new(list))
 }
 
+/// A conflict with an instance of that stamp.
+fn conflict(alloc: Global, stamp: &str) -> Result<Reply, Fault> {
+    let held = instance(alloc, "i1", number_of(stamp)?, 90)?;
+    Ok(Reply::Conflict(BoxedInstance::new(alloc, held)?))
+}
+
+/// A reply, told as a word and what it has: `conflict STAMP`, `evicted APP/ID ..`, `batch STATUS` of one task.
+fn reply(alloc: Global, words: &str) -> Result<Reply, Fault> {
+    let (word, rest) = words.split_once(' ').unwrap_or((words, ""));
+    match word {
+        "fresh" => Ok(Reply::Registered { fresh: true }),
+        "done" => Ok(Reply::Done),
+        "missing" => Ok(Reply::NotFound),
+        "stale" => Ok(Reply::Stale),
+        "last" => Ok(Reply::Last(number_of(rest)?)),
+        "expected" => Ok(Reply::Expected(number_of(rest)?)),
+        "conflict" => conflict(alloc, rest),
+        "evicted" => Ok(Reply::Evicted(keys(alloc, rest)?)),
+        "batch" => Ok(Reply::Batch(tasks(alloc, rest)?)),
+        _ => Err(Fault::BadValue),
+    }
+}
+
+fn tell_keys(keys: &[Key], out: &mut String) -> Result<(), AllocError> {
+    for key in keys {
+        write!(out, " {}/{}", key.app.as_str(), key.id.as_str())?;
+    }
+    Ok(())
+}
+
+fn tell_tasks(tasks: &[Task], out: &mut String) -> Result<(), AllocError> {
+    for task in tasks {
+        let status = task.status.map(|status| status.name()).unwrap_or("-");
+        let ms = task.queued.ms();
+        write!(out, " {} {status} {ms}", task.key.id.as_str())?;
+    }
+    Ok(())
+}
+
+/// Tells a reply by the words that it is read from.
+fn tell_reply(reply: &Reply, out: &mut String) -> Result<(), AllocError> {
+    match reply {
+        Reply::Registered { fresh: true } => out.push_str("fresh"),
+        Reply::Last(renewals) => write!(out, "last {renewals}"),
+        Reply::Conflict(held) => write!(out, "conflict {}", held.last_dirty.value()),
+        Reply::Evicted(victims) => {
+            out.push_str("evicted")?;
+            tell_keys(victims.as_slice(), out)
+        }
+        Reply::Batch(tasks) => {
+            out.push_str("batch")?;
+            tell_tasks(tasks.as_slice(), out)
+        }
+        _ => out.push_str("another"),
+    }
+}
+
+/// Tells a renewal and a registration by what they bring.
+fn tell_command(command: &Command, out: &mut String) -> Result<(), AllocError> {
+    match command {
+        Command::Renew {
+            key,
+            last_dirty: Some(stamp),
+            overridden: Some(status),
+            replicated,
+        } => {
+            let (id, stamp) = (key.id.as_str(), stamp.value());
+            write!(out, "renew {id} {stamp} {} {replicated}", status.name())
+        }
+        Command::Register {
+            instance,
+            replicated,
+        } => {
+            let (id, secs) = (instance.key.id.as_str(), instance.secs.secs());
+            write!(out, "register {id} {secs} {replicated}")
+        }
+        Command::Reconfigure { config } => {
+            let (percent, secs) = (config.percent.value(), config.interval.secs());
+            let (preservation, ms) = (config.preservation, config.evict_ms);
+            write!(out, "config {preservation} {percent} {secs} {ms}")
+        }
+        _ => out.push_str("another"),
+    }
+}
+
+/// Values of the machine. The copy is told of `copy-reply REPLY` and of `copy LINE`, and whether it is the same. Of `replies REPLY, REPLY` and `commands LINE, LINE` it is told
+/// whether they are the same; of `tally LINE, REPLY` the steps, the counted renewals, and the leases added and removed.
+#[derive(Drop)]
+struct Machine;
+
+/// The two parts of a text.
+fn parts(text: &str) -> Result<(&str, &str), Fault> {
+    text.split_once(", ").ok_or(Fault::BadValue)
+}
+
+fn tell_reply_copy(alloc: Global, words: &str, out: &mut String) -> Result<(), Fault> {
+    let reply = reply(alloc, words)?;
+    let copy = reply.copy(alloc)?;
+    tell_reply(&copy, out)?;
+    Ok(write!(out, " {}", copy.same(&reply))?)
+}
+
+fn tell_copy(alloc: Global, words: &str, out: &mut String) -> Result<(), Fault> {
+    let command = read_command(alloc, words)?;
+    let copy = command.copy(alloc)?;
+    tell_command(&copy, out)?;
+    Ok(write!(out, " {}", copy.same(&command))?)
+}
+
+fn tell_replies(alloc: Global, text: &str, out: &mut String) -> Result<(), Fault> {
+    let (one, other) = parts(text)?;
+    let one = reply(alloc, one)?;
+    let other = reply(alloc, other)?;
+    Ok(write!(out, "{}", one.same(&other))?)
+}
+
+fn tell_commands(alloc: Global, text: &str, out: &mut String) -> Result<(), Fault> {
+    let (one, other) = parts(text)?;
+    let one = read_command(alloc, one)?;
+    let other = read_command(alloc, other)?;
+    Ok(write!(out, "{}", one.same(&other))?)
+}
+
+fn tell_tally(alloc: Global, text: &str, out: &mut String) -> Result<(), Fault> {
+    let (line, words) = parts(text)?;
+    let command = read_command(alloc, line)?;
+    let reply = reply(alloc, words)?;
+    let Tally {
+        steps,
+        counted,
+        added,
+        removed,
+    } = Tally::of(&command, &reply);
+    Ok(write!(out, "{steps} {counted} {added} {removed}")?)
+}
+
+impl Told for Machine {
+    fn tell(&mut self, alloc: Global, said: &str, out: &mut String) -> Result<(), Fault> {
+        let (word, text) = two(said)?;
+        match word {
+            "copy-reply" => tell_reply_copy(alloc, text, out),
+            "copy" => tell_copy(alloc, text, out),
+            "replies" => tell_replies(alloc, text, out),
+            "commands" => tell_commands(alloc, text, out),
+            "tally" => tell_tally(alloc, text, out),
+            _ => Err(Fault::BadValue),
+        }
+    }
+}
+
+const REPLIES: &str = "copy-reply conflict 7 = conflict 7 true
+copy-reply evicted A/i1 B/i2 = evicted A/i1 B/i2 true
+copy-reply batch UP = batch i1 UP 5 true
+copy-reply fresh = fresh true
+copy-reply last 4 = last 4 true
+replies evicted A/i1, evicted A/i1 = true
+replies evicted A/i1, evicted A/i2 = false
+replies last 4, expected 4 = false";
+
+const TASKS: &str = "replies batch UP, batch UP = true
+replies batch UP, batch DOWN = false";
+
+const COMMANDS: &str = "copy renew 0 A i1 9 DOWN r = renew i1 9 DOWN true true
+copy register 0 A i1 90 UP UNKNOWN 7 c = register i1 90 false true
+copy config 0 on 85 30 60000 = config true 85 30 60000 true
+commands renew 0 A i1 9 DOWN r, renew 0 A i1 9 DOWN r = true
+commands renew 0 A i1 9 DOWN r, renew 0 A i1 9 DOWN c = false
+commands drain 0 1, lost 0 1 = false";
+
+const CHANGES: &str = "commands config 0 on 85 30 60000, config 0 on 85 30 60000 = true
+commands config 0 on 85 30 60000, config 0 off 85 30 60000 = false
+commands config 0 on 85 30 60000, config 0 on 84 30 60000 = false
+commands config 0 on 85 30 60000, config 0 on 85 31 60000 = false
+commands config 0 on 85 30 60000, config 0 on 85 30 60001 = false";
+
+const TALLIES: &str = "tally evict 0, evicted A/i1 = 1 0 0 1
+tally renew 0 A i1 - - c, stale = 1 1 0 0
+tally renew 0 A i1 - - c, missing = 1 0 0 0
+tally config 0 on 85 30 60000, done = 1 0 0 0";
+
+#[test]
+fn replies_are_copied_and_compared(rt: HostRuntime) {
+    assert_eq!(rt; first_wrong(rt.alloc(), &mut Machine, REPLIES), None);
+}
+
+#[test]
+fn tasks_are_compared(rt: HostRuntime) {
+    assert_eq!(rt; first_wrong(rt.alloc(), &mut Machine, TASKS), None);
+}
+
+#[test]
+fn commands_are_copied_and_compared(rt: HostRuntime) {
+    assert_eq!(rt; first_wrong(rt.alloc(), &mut Machine, COMMANDS), None);
+}
+
+#[test]
+fn changes_of_settings_are_compared(rt: HostRuntime) {
+    assert_eq!(rt; first_wrong(rt.alloc(), &mut Machine, CHANGES), None);
+    for (percent, same) in [(85, true), (84, false)] {
+        let other = Config::new(true, percent, 30, 60_000);
+        assert!(rt;
+            settings().and_then(|config| other.map(|other| config.same(&other))) == Ok(same)
+        );
+    }
+}
+
+#[test]
+fn what_is_done_is_counted(rt: HostRuntime) {
+    assert_eq!(rt; first_wrong(rt.alloc(), &mut Machine, TALLIES), None);
+    assert!(rt; Tally::nothing().steps == 0);
+}
+
+/// The list of one lease.
 fn listing(alloc: Global) -> Result<Listing, Fault> {
     let instance = instance(alloc, "i1", 7, 90)?;
     let mut leases = Vec::new(alloc);
     leases.push(Listed {
         instance,
-        times: Times {
-            registered: 1,
-            updated: 1,
-            up: 1,
-        },
+        times: times(),
     })?;
     Ok(Listing::new(leases))
 }
@@ -51,433 +275,30 @@ fn shows_a_lease(alloc: Global) -> Result<bool, Fault> {
     })
 }
 
-#[test]
-fn listings_are_shown(rt: HostRuntime) {
-    assert!(rt; shows_a_lease(rt.alloc()) == Ok(true));
-}
-
-fn overrides(alloc: Global) -> Result<OverrideRows, Fault> {
-    let id = Id::read(alloc, "i1")?;
-    let mut list = Vec::new(alloc);
-    list.push((id, Status::Down))?;
-    Ok(OverrideRows::new(list))
-}
-
-/// Whether a list of a row shows it.
+/// Whether a list of an override shows it.
 fn shows_a_row(alloc: Global) -> Result<bool, Fault> {
-    let overrides = overrides(alloc)?;
-    Ok(match overrides.as_slice() {
+    let mut list = Vec::new(alloc);
+    list.push((Id::read(alloc, "i1")?, Status::Down))?;
+    Ok(match OverrideRows::new(list).as_slice() {
         [(id, status)] => id.as_str() == "i1" && status.name() == "DOWN",
         _ => false,
     })
 }
 
 #[test]
-fn rows_are_shown(rt: HostRuntime) {
+fn lists_show_what_they_hold(rt: HostRuntime) {
+    assert!(rt; shows_a_lease(rt.alloc()) == Ok(true));
     assert!(rt; shows_a_row(rt.alloc()) == Ok(true));
 }
 
-/// The keys i1 of A and i2 of B.
-fn two_keys(alloc: Global) -> Result<Keys, Fault> {
-    let mut list = Vec::new(alloc);
-    for (app, id) in [("a", "i1"), ("b", "i2")] {
-        let app = App::read(alloc, app)?;
-        let id = Id::read(alloc, id)?;
-        list.push(Key { app, id })?;
-    }
-    Ok(Keys::new(list))
-}
-
-/// Whether the copy is the keys i1 of A and i2 of B.
-fn are_copied(alloc: Global, keys: &Keys) -> Result<bool, Fault> {
-    let copy = keys.copy(alloc)?;
-    Ok(match copy.as_slice() {
-        [first, second] => first.app.as_str() == "A" && second.id.as_str() == "i2",
-        _ => false,
-    })
-}
-
-/// Whether two keys are copied.
-fn are_two_copied(alloc: Global) -> Result<bool, Fault> {
-    let keys = two_keys(alloc)?;
-    let copied = are_copied(alloc, &keys);
-    drop(keys);
-    copied
-}
-
-#[test]
-fn keys_are_copied(rt: HostRuntime) {
-    assert!(rt; are_two_copied(rt.alloc()) == Ok(true));
-}
-
-/// A reply as a word and a number: of a conflict the stamp of its instance.
-fn in_short(reply: &Reply) -> (&'static str, u64) {
-    match reply {
-        Reply::Conflict(held) => ("conflict", held.last_dirty.value()),
-        Reply::Registered { fresh: true } => ("fresh", 0),
-        Reply::Last(renewals) => ("last", *renewals),
-        _ => ("other", 0),
-    }
-}
-
-/// Whether the copy of a reply is that one.
-fn is_reply_copied(alloc: Global, reply: &Reply, short: (&str, u64)) -> Result<bool, Fault> {
-    let copy = reply.copy(alloc)?;
-    let copied = in_short(&copy) == short;
-    drop(copy);
-    Ok(copied)
-}
-
-/// Whether a conflict is copied, with an instance of that stamp.
-fn is_conflict_copied(alloc: Global, last_dirty: u64) -> Result<bool, Fault> {
-    let conflict = Reply::Conflict(BoxedInstance::new(alloc, instance(alloc, "i1", 7, 90)?)?);
-    let copied = is_reply_copied(alloc, &conflict, ("conflict", last_dirty));
-    drop(conflict);
-    copied
-}
-
-/// Whether the copy of a reply is the same.
-fn is_same_copy(alloc: Global, reply: &Reply) -> Result<bool, Fault> {
-    let copy = reply.copy(alloc)?;
-    let same = copy.same(reply);
-    drop(copy);
-    Ok(same)
-}
-
-/// Whether that is so of an eviction that took a lease out.
-fn is_pass_copied(alloc: Global) -> Result<bool, Fault> {
-    let pass = Reply::Evicted(two_keys(alloc)?);
-    let copied = is_same_copy(alloc, &pass);
-    drop(pass);
-    copied
-}
-
-/// Whether that is so of a batch.
-fn is_batch_copied(alloc: Global) -> Result<bool, Fault> {
-    let batch = Reply::Batch(tasks(alloc, Status::Up)?);
-    let copied = is_same_copy(alloc, &batch);
-    drop(batch);
-    copied
-}
-
-#[test]
-fn replies_are_copied(rt: HostRuntime) {
-    assert!(rt; is_conflict_copied(rt.alloc(), 7) == Ok(true));
-    assert!(rt; is_pass_copied(rt.alloc()) == Ok(true));
-    assert!(rt; is_batch_copied(rt.alloc()) == Ok(true));
-    let fresh = is_reply_copied(rt.alloc(), &Reply::Registered { fresh: true }, ("fresh", 0));
-    assert!(rt; fresh == Ok(true));
-    let last = is_reply_copied(rt.alloc(), &Reply::Last(4), ("last", 4));
-    assert!(rt; last == Ok(true));
-}
-
-/// A renewal of i1 as DOWN with the stamp 9.
-fn renewal(alloc: Global, replicated: bool) -> Result<Command, Fault> {
-    let key = key(alloc, "i1")?;
-    Ok(Command::Renew {
-        key,
-        last_dirty: Stamp::new(9),
-        overridden: Some(Status::Down),
-        replicated,
-    })
-}
-
-/// The stamp of a renewal as DOWN by a peer; 0 of any other command.
-fn renewed_stamp(command: &Command) -> u64 {
-    match command {
-        Command::Renew {
-            key: _,
-            last_dirty: Some(stamp),
-            overridden: Some(Status::Down),
-            replicated: true,
-        } => stamp.value(),
-        _ => 0,
-    }
-}
-
-/// The stamp of the copy of a renewal.
-fn copied_stamp(alloc: Global, renewal: &Command) -> Result<u64, Fault> {
-    let copy = renewal.copy(alloc)?;
-    let stamp = renewed_stamp(&copy);
-    drop(copy);
-    Ok(stamp)
-}
-
-/// The same of a renewal by a peer.
-fn stamp_of_copy(alloc: Global) -> Result<u64, Fault> {
-    let renewal = renewal(alloc, true)?;
-    let stamp = copied_stamp(alloc, &renewal);
-    drop(renewal);
-    stamp
-}
-
-#[test]
-fn renewals_are_copied(rt: HostRuntime) {
-    assert!(rt; stamp_of_copy(rt.alloc()) == Ok(9));
-}
-
-/// A registration by a client.
-fn registration(alloc: Global) -> Result<Command, Fault> {
-    let instance = instance(alloc, "i1", 7, 90)?;
-    Ok(Command::Register {
-        instance: BoxedInstance::new(alloc, instance)?,
-        replicated: false,
-    })
-}
-
-/// The duration of what a client registers; 0 of any other command.
-fn registered_secs(command: &Command) -> u32 {
-    match command {
-        Command::Register {
-            instance,
-            replicated: false,
-        } => instance.secs.secs(),
-        _ => 0,
-    }
-}
-
-/// The duration in the copy of a registration.
-fn copied_secs(alloc: Global, registration: &Command) -> Result<u32, Fault> {
-    let copy = registration.copy(alloc)?;
-    let secs = registered_secs(&copy);
-    drop(copy);
-    Ok(secs)
-}
-
-/// The same of a registration by a client.
-fn secs_of_copy(alloc: Global) -> Result<u32, Fault> {
-    let registration = registration(alloc)?;
-    let secs = copied_secs(alloc, &registration);
-    drop(registration);
-    secs
-}
-
-#[test]
-fn registrations_are_copied(rt: HostRuntime) {
-    assert!(rt; secs_of_copy(rt.alloc()) == Ok(90));
-}
-
-/// The durations of an instance that is taken from the heap, and of its copy.
+/// The durations of an instance that lies on the heap, and of its copy.
 fn boxed_secs(alloc: Global) -> Result<(u32, u32), Fault> {
     let boxed = BoxedInstance::new(alloc, instance(alloc, "i1", 7, 90)?)?;
     let copy = boxed.copy_boxed(alloc)?;
-    let copied = copy.secs.secs();
-    drop(copy);
-    let secs = boxed.secs.secs();
-    drop(boxed);
-    Ok((secs, copied))
+    Ok((boxed.secs.secs(), copy.secs.secs()))
 }
 
 #[test]
 fn instances_lie_on_the_heap(rt: HostRuntime) {
     assert!(rt; boxed_secs(rt.alloc()) == Ok((90, 90)));
-}
-
-/// What an eviction did that took out one lease.
-fn eviction_tally(alloc: Global) -> Result<Tally, Fault> {
-    let victims = Reply::Evicted(keys(alloc, "i1")?);
-    let tally = Tally::of(&Command::Evict, &victims);
-    drop(victims);
-    Ok(tally)
-}
-
-/// What a renewal did that was answered so.
-fn renewal_tally(alloc: Global, reply: &Reply) -> Result<Tally, Fault> {
-    let key = key(alloc, "i1")?;
-    let renewal = Command::Renew {
-        key,
-        last_dirty: None,
-        overridden: None,
-        replicated: false,
-    };
-    let tally = Tally::of(&renewal, reply);
-    drop(renewal);
-    Ok(tally)
-}
-
-/// What a change of the settings did.
-fn change_tally() -> Result<Tally, Fault> {
-    let change = Command::Reconfigure {
-        config: settings()?,
-    };
-    let tally = Tally::of(&change, &Reply::Done);
-    drop(change);
-    Ok(tally)
-}
-
-fn tally(counted: u64, removed: u64) -> Tally {
-    Tally {
-        steps: 1,
-        counted,
-        added: 0,
-        removed,
-    }
-}
-
-#[test]
-fn what_is_done_is_counted(rt: HostRuntime) {
-    assert!(rt; eviction_tally(rt.alloc()) == Ok(tally(0, 1)));
-    assert!(rt; renewal_tally(rt.alloc(), &Reply::Stale) == Ok(tally(1, 0)));
-    assert!(rt; renewal_tally(rt.alloc(), &Reply::NotFound) == Ok(tally(0, 0)));
-    assert!(rt; change_tally() == Ok(tally(0, 0)));
-    assert!(rt; Tally::nothing().steps == 0);
-}
-
-/// Whether they are the list of that key.
-fn is_key(alloc: Global, keys: &Keys, id: &str) -> Result<bool, Fault> {
-    let other = self::keys(alloc, id)?;
-    Ok(keys.same(&other))
-}
-
-fn are_same_keys(alloc: Global, id: &str) -> Result<bool, Fault> {
-    let keys = keys(alloc, "i1")?;
-    let same = is_key(alloc, &keys, id);
-    drop(keys);
-    same
-}
-
-#[test]
-fn keys_are_compared(rt: HostRuntime) {
-    assert!(rt; are_same_keys(rt.alloc(), "i1") == Ok(true));
-    assert!(rt; are_same_keys(rt.alloc(), "i2") == Ok(false));
-}
-
-/// A task of i1 with that status, that is queued at 5.
-fn task(alloc: Global, status: Status) -> Result<Task, Fault> {
-    let queued = Moment::new(5).ok_or(Fault::Exhausted)?;
-    let key = key(alloc, "i1")?;
-    Ok(Task {
-        action: Action::StatusUpdate,
-        key,
-        status: Some(status),
-        instance: None,
-        queued,
-    })
-}
-
-fn tasks(alloc: Global, status: Status) -> Result<Tasks, Fault> {
-    let task = task(alloc, status)?;
-    let mut list = Vec::new(alloc);
-    list.push(task)?;
-    Ok(Tasks::new(list))
-}
-
-/// Whether they are the list of that task.
-fn is_task(alloc: Global, tasks: &Tasks, status: Status) -> Result<bool, Fault> {
-    let other = self::tasks(alloc, status)?;
-    Ok(tasks.same(&other))
-}
-
-fn are_same_tasks(alloc: Global, status: Status) -> Result<bool, Fault> {
-    let tasks = tasks(alloc, Status::Up)?;
-    let same = is_task(alloc, &tasks, status);
-    drop(tasks);
-    same
-}
-
-#[test]
-fn tasks_are_compared(rt: HostRuntime) {
-    assert!(rt; are_same_tasks(rt.alloc(), Status::Up) == Ok(true));
-    assert!(rt; are_same_tasks(rt.alloc(), Status::Down) == Ok(false));
-}
-
-/// Whether a renewal by a peer is that command.
-fn is_renewal(alloc: Global, command: &Command) -> Result<bool, Fault> {
-    let renewal = renewal(alloc, true)?;
-    let same = renewal.same(command);
-    drop(renewal);
-    Ok(same)
-}
-
-fn is_same_renewal(alloc: Global, replicated: bool) -> Result<bool, Fault> {
-    let renewal = renewal(alloc, replicated)?;
-    let same = is_renewal(alloc, &renewal);
-    drop(renewal);
-    same
-}
-
-/// Whether a command is the loss of a peer's batch.
-fn is_loss(command: &Command, peer: u32) -> bool {
-    let lost = Command::Lost { peer };
-    let same = command.same(&lost);
-    drop(lost);
-    same
-}
-
-fn is_drain_a_loss(peer: u32) -> bool {
-    let drain = Command::Drain { peer };
-    let same = is_loss(&drain, peer);
-    drop(drain);
-    same
-}
-
-#[test]
-fn commands_are_compared(rt: HostRuntime) {
-    assert!(rt; is_same_renewal(rt.alloc(), true) == Ok(true));
-    assert!(rt; is_same_renewal(rt.alloc(), false) == Ok(false));
-    assert!(rt; !is_drain_a_loss(1));
-}
-
-/// Whether a change to those settings is that to these.
-fn is_change_to(config: Config) -> Result<bool, Fault> {
-    let change = Command::Reconfigure {
-        config: settings()?,
-    };
-    let other = Command::Reconfigure { config };
-    let same = change.same(&other) && settings()?.same(&config);
-    drop(change);
-    drop(other);
-    Ok(same)
-}
-
-/// Whether the copy of a change to those settings is the same.
-fn is_change_copied(alloc: Global) -> Result<bool, Fault> {
-    let change = Command::Reconfigure {
-        config: settings()?,
-    };
-    let copy = change.copy(alloc)?;
-    let same = copy.same(&change);
-    drop(copy);
-    drop(change);
-    Ok(same)
-}
-
-/// Settings, and whether they are those.
-const CHANGES: [(bool, u32, u32, u32, bool); 5] = [
-    (true, 85, 30, 60_000, true),
-    (false, 85, 30, 60_000, false),
-    (true, 84, 30, 60_000, false),
-    (true, 85, 31, 60_000, false),
-    (true, 85, 30, 60_001, false),
-];
-
-#[test]
-fn changes_of_settings_are_compared_and_copied(rt: HostRuntime) {
-    for (preservation, percent, interval, evict_ms, same) in CHANGES {
-        let change = Config::new(preservation, percent, interval, evict_ms).and_then(is_change_to);
-        assert!(rt; change == Ok(same), "at {percent}, {interval}, {evict_ms}");
-    }
-    assert!(rt; is_change_copied(rt.alloc()) == Ok(true));
-}
-
-/// Whether an eviction that took i1 out is answered so.
-fn is_evict(alloc: Global, reply: &Reply) -> Result<bool, Fault> {
-    let pass = Reply::Evicted(keys(alloc, "i1")?);
-    let same = pass.same(reply);
-    drop(pass);
-    Ok(same)
-}
-
-fn is_same_pass(alloc: Global, id: &str) -> Result<bool, Fault> {
-    let pass = Reply::Evicted(keys(alloc, id)?);
-    let same = is_evict(alloc, &pass);
-    drop(pass);
-    same
-}
-
-#[test]
-fn replies_are_compared(rt: HostRuntime) {
-    assert!(rt; is_same_pass(rt.alloc(), "i1") == Ok(true));
-    assert!(rt; is_same_pass(rt.alloc(), "i2") == Ok(false));
-    assert!(rt; !Reply::Last(4).same(&Reply::Expected(4)));
 }

@@ -1,23 +1,8 @@
 //! Values from the rules of Eureka's batches, worked out by hand.
 use eu_base::{Action, Fault, Moment, Status, Task, Tasks};
-use eu_fixtures::{key, moment};
+use eu_fixtures::{key, moment, number_of, two};
 use eu_outbox::Outbox;
 use std::alloc::{AllocError, Global};
-
-/// A call of an outbox.
-#[derive(Clone, Copy)]
-enum Call {
-    Put(Action, &'static str),
-    Drain,
-    Landed(&'static [u16]),
-    Lost,
-}
-
-const BEAT_A: Call = Call::Put(Action::Heartbeat, "a");
-
-const BEAT_B: Call = Call::Put(Action::Heartbeat, "b");
-
-const BEAT_C: Call = Call::Put(Action::Heartbeat, "c");
 
 /// A task with the status UP. Each application is A.
 fn task(alloc: Global, action: Action, id: &str, queued: Moment) -> Result<Task, Fault> {
@@ -58,34 +43,19 @@ fn fill(
     Ok(())
 }
 
-fn word(fault: Fault) -> &'static str {
-    match fault {
-        Fault::Busy => "busy ",
-        Fault::EmptyBatch => "empty ",
-        Fault::NoFlight => "no-flight ",
-        Fault::CountDiffers => "differs ",
-        _ => "other ",
-    }
-}
-
-/// Writes an answer as a word.
+/// Writes an answer: `done`, or the fault.
 fn tell(out: &mut String, answer: Result<(), Fault>) -> Result<(), AllocError> {
     match answer {
         Ok(()) => out.push_str("done "),
-        Err(fault) => out.push_str(word(fault)),
+        Err(fault) => write!(out, "{fault:?} "),
     }
 }
 
 /// Writes a task as its action, its id, whether it has a status, and when it was queued.
 fn tell_task(out: &mut String, task: &Task) -> Result<(), AllocError> {
-    out.push_str(task.action.name())?;
-    out.push_str("-")?;
-    out.push_str(task.key.id.as_str())?;
-    if task.status.is_some() {
-        out.push_str("+")?;
-    }
-    let ms = task.queued.ms();
-    write!(out, "@{ms} ")
+    let sign = if task.status.is_some() { "+" } else { "" };
+    let (action, id, ms) = (task.action.name(), task.key.id.as_str(), task.queued.ms());
+    write!(out, "{action}-{id}{sign}@{ms} ")
 }
 
 fn tell_tasks(out: &mut String, tasks: &[Task]) -> Result<(), AllocError> {
@@ -111,235 +81,181 @@ fn drain(
 ) -> Result<(), AllocError> {
     match outbox.drain(alloc, now, 1) {
         Ok(batches) => tell_tasks(out, first_of(batches.as_slice())),
-        Err(fault) => out.push_str(word(fault)),
+        Err(fault) => tell(out, Err(fault)),
     }
 }
 
-fn step(
+/// Writes how many tasks the next batch has, and the ids of the first and of the last.
+fn drain_ends(
     alloc: Global,
     outbox: &mut Outbox,
     out: &mut String,
-    call: Call,
     now: Moment,
 ) -> Result<(), Fault> {
-    match call {
-        Call::Put(action, id) => put(alloc, outbox, action, id, now)?,
-        Call::Drain => drain(alloc, outbox, out, now)?,
-        Call::Landed(codes) => tell(out, outbox.landed(codes, now))?,
-        Call::Lost => tell(out, outbox.lost(now))?,
+    let batches = outbox.drain(alloc, now, 1)?;
+    let tasks = first_of(batches.as_slice());
+    if let (Some(first), Some(last)) = (tasks.first(), tasks.last()) {
+        let (count, first, last) = (tasks.len(), first.key.id.as_str(), last.key.id.as_str());
+        write!(out, "{count}: {first} to {last} ")?;
     }
     Ok(())
 }
 
-/// Makes the calls, each at its moment, and gives what they tell.
-fn play(alloc: Global, outbox: &mut Outbox, calls: &[(u64, Call)]) -> Result<String, Fault> {
+/// The batch has landed, with these codes, or with as many of 200 as a batch has.
+fn land(
+    alloc: Global,
+    outbox: &mut Outbox,
+    out: &mut String,
+    codes: &str,
+    now: Moment,
+) -> Result<(), Fault> {
+    if codes == "all" {
+        return Ok(tell(out, outbox.landed([200; 250].as_slice(), now))?);
+    }
+    let mut list = Vec::new(alloc);
+    for code in codes.split_whitespace() {
+        list.push(u16::try_from(number_of(code)?).map_err(|_| Fault::BadValue)?)?;
+    }
+    let answer = outbox.landed(list.as_slice(), now);
+    Ok(tell(out, answer)?)
+}
+
+/// Writes what would refuse a drain, a landing of one task and a loss.
+fn tell_refusals(outbox: &Outbox, out: &mut String, now: Moment) -> Result<(), AllocError> {
+    let drain = outbox.drain_refusal(now);
+    let landed = outbox.landed_refusal([200].as_slice());
+    write!(out, "{drain:?} {landed:?} {:?}; ", outbox.lost_refusal())
+}
+
+/// Writes how many batches come of what waits, where so many are asked for.
+fn tell_batches(
+    alloc: Global,
+    outbox: &mut Outbox,
+    out: &mut String,
+    copies: &str,
+    now: Moment,
+) -> Result<(), Fault> {
+    outbox.reserve()?;
+    let copies = u32::try_from(number_of(copies)?).map_err(|_| Fault::BadValue)?;
+    let batches = outbox.drain(alloc, now, copies)?;
+    Ok(write!(out, "{}", batches.len())?)
+}
+
+fn fill_between(
+    alloc: Global,
+    outbox: &mut Outbox,
+    numbers: &str,
+    now: Moment,
+) -> Result<(), Fault> {
+    let (first, end) = two(numbers)?;
+    fill(alloc, outbox, number_of(first)?, number_of(end)?, now)
+}
+
+/// The action of a word.
+fn action_of(word: &str) -> Result<Action, Fault> {
+    match word {
+        "beat" => Ok(Action::Heartbeat),
+        "cancel" => Ok(Action::Cancel),
+        "register" => Ok(Action::Register),
+        _ => Err(Fault::BadValue),
+    }
+}
+
+/// Makes a call, which is told as `MS WORD ..`. `ACTION ID` puts a task, and `fill FROM TO` heartbeats of as many ids. `drain`, `lost` and `landed CODE ..` are what they say; `ends` is
+/// a drain of which less is told, and `batches N` one for so many. `refusals` tells what would be refused.
+fn step(alloc: Global, outbox: &mut Outbox, out: &mut String, call: &str) -> Result<(), Fault> {
+    let (ms, said) = two(call)?;
+    let now = moment(number_of(ms)?)?;
+    let (word, rest) = said.split_once(' ').unwrap_or((said, ""));
+    match word {
+        "drain" => Ok(drain(alloc, outbox, out, now)?),
+        "ends" => drain_ends(alloc, outbox, out, now),
+        "batches" => tell_batches(alloc, outbox, out, rest, now),
+        "lost" => Ok(tell(out, outbox.lost(now))?),
+        "landed" => land(alloc, outbox, out, rest, now),
+        "refusals" => Ok(tell_refusals(outbox, out, now)?),
+        "fill" => fill_between(alloc, outbox, rest, now),
+        _ => put(alloc, outbox, action_of(word)?, rest, now),
+    }
+}
+
+/// What a new outbox tells, to which these calls are made.
+fn told(alloc: Global, calls: &str) -> Result<String, Fault> {
+    let mut outbox = Outbox::new(alloc);
     let mut out = String::new(alloc);
-    for (ms, call) in calls {
-        step(alloc, outbox, &mut out, *call, moment(*ms)?)?;
+    for call in calls.split(", ") {
+        step(alloc, &mut outbox, &mut out, call)?;
     }
     Ok(out)
 }
 
-/// Whether there are so many tasks, with the ids of the first and of the last.
-fn are_between(tasks: &[Task], count: usize, first: &str, last: &str) -> bool {
-    match (tasks.first(), tasks.last()) {
-        (Some(head), Some(end)) => tasks.len() == count
-            && head.key.id.as_str() == first
-            && end.key.id.as_str() == last,
-        _ => false,
-    }
-}
-
-/// The same of the next batch.
-fn is_next(
-    alloc: Global,
-    outbox: &mut Outbox,
-    ms: u64,
-    count: usize,
-    ends: (&str, &str),
-) -> Result<bool, Fault> {
-    let batches = outbox.drain(alloc, moment(ms)?, 1)?;
-    Ok(are_between(first_of(batches.as_slice()), count, ends.0, ends.1))
-}
-
-/// Puts one more heartbeat than may wait. Whether the first is dropped.
-fn put_too_many(alloc: Global, outbox: &mut Outbox) -> Result<bool, Fault> {
-    fill(alloc, outbox, 0, 10_001, moment(0)?)?;
-    is_next(alloc, outbox, 1, 250, ("1", "250"))
-}
-
-/// Loses the batch in flight, where so many wait as may. Whether it is dropped.
-fn lose_too_many(alloc: Global, outbox: &mut Outbox) -> Result<bool, Fault> {
-    fill(alloc, outbox, 20_000, 20_250, moment(0)?)?;
-    outbox.lost(moment(1)?)?;
-    is_next(alloc, outbox, 1, 250, ("251", "500"))
-}
-
-/// Puts more than one batch. Whether the first batch has the first of them.
-fn put_many(alloc: Global, outbox: &mut Outbox) -> Result<bool, Fault> {
-    fill(alloc, outbox, 0, 300, moment(0)?)?;
-    is_next(alloc, outbox, 1, 250, ("0", "249"))
-}
-
-/// Puts some that wait, and one that is in flight. Whether they come in that order.
-fn put_some_again(alloc: Global, outbox: &mut Outbox) -> Result<bool, Fault> {
-    fill(alloc, outbox, 250, 252, moment(2)?)?;
-    fill(alloc, outbox, 0, 1, moment(2)?)?;
-    outbox.landed([200; 250].as_slice(), moment(3)?)?;
-    is_next(alloc, outbox, 30_001, 3, ("250", "0"))
-}
-
-/// How many batches there are of one task, where so many are asked for.
-fn batches(alloc: Global, outbox: &mut Outbox, copies: u32) -> Result<usize, Fault> {
-    outbox.reserve()?;
-    fill(alloc, outbox, 0, 1, moment(0)?)?;
-    let batches = outbox.drain(alloc, moment(0)?, copies)?;
-    Ok(batches.len())
-}
-
 /// Whether a new outbox tells that.
-fn tells(alloc: Global, calls: &[(u64, Call)], text: &str) -> Result<bool, Fault> {
-    let mut outbox = Outbox::new(alloc);
-    let told = play(alloc, &mut outbox, calls);
-    drop(outbox);
-    Ok(told?.as_str() == text)
+fn tells(alloc: Global, calls: &str, text: &str) -> Result<bool, Fault> {
+    Ok(told(alloc, calls)?.as_str().trim_end() == text)
 }
 
-#[test]
-fn one_of_a_name_waits(rt: HostRuntime) {
-    let calls = [
-        (0, BEAT_A),
-        (1, BEAT_B),
-        (2, BEAT_A),
-        (3, Call::Put(Action::Cancel, "a")),
-        (4, Call::Drain),
-    ];
-    let text = "Heartbeat-a+@2 Heartbeat-b+@1 Cancel-a+@3 ";
-    assert!(rt; tells(rt.alloc(), calls.as_slice(), text) == Ok(true));
-}
-
-#[test]
-fn tasks_expire_after_half_a_minute(rt: HostRuntime) {
-    let late = [(0, BEAT_A), (1, BEAT_B), (30_001, Call::Drain)];
-    assert!(rt; tells(rt.alloc(), late.as_slice(), "Heartbeat-b+@1 ") == Ok(true));
-    let just = [(0, BEAT_A), (1, BEAT_B), (30_000, Call::Drain)];
-    let text = "Heartbeat-a+@0 Heartbeat-b+@1 ";
-    assert!(rt; tells(rt.alloc(), just.as_slice(), text) == Ok(true));
-    let none = [(0, BEAT_A), (30_001, Call::Drain)];
-    assert!(rt; tells(rt.alloc(), none.as_slice(), "empty ") == Ok(true));
-}
-
-#[test]
-fn refusals_change_nothing(rt: HostRuntime) {
-    let calls = [
-        (0, Call::Drain),
-        (0, Call::Landed(&[])),
-        (0, Call::Lost),
-        (0, BEAT_A),
-        (0, Call::Drain),
-        (0, BEAT_B),
-        (0, Call::Drain),
-        (0, Call::Landed(&[404, 404])),
-        (0, Call::Landed(&[200])),
-        (0, Call::Drain),
-    ];
-    let text = "empty no-flight no-flight Heartbeat-a+@0 busy differs done Heartbeat-b+@0 ";
-    assert!(rt; tells(rt.alloc(), calls.as_slice(), text) == Ok(true));
-}
-
-/// What would refuse a drain, a landing of one task and a loss, before a task is put, with it waiting, and with it in flight.
-type Refusals = (Option<Fault>, Option<Fault>, Option<Fault>);
-
-fn refusals(outbox: &Outbox, now: Moment) -> Refusals {
+/// Calls to an outbox, and what it tells: of a batch the tasks, each with its action, its id, a sign where it has a status, and when it was queued.
+const ROWS: [(&str, &str, &str); 11] = [
     (
-        outbox.drain_refusal(now),
-        outbox.landed_refusal([200].as_slice()),
-        outbox.lost_refusal(),
-    )
-}
-
-fn all_refusals(
-    alloc: Global,
-    outbox: &mut Outbox,
-) -> Result<(Refusals, Refusals, Refusals), Fault> {
-    let now = moment(0)?;
-    let none = refusals(outbox, now);
-    put(alloc, outbox, Action::Heartbeat, "a", now)?;
-    let waits = refusals(outbox, now);
-    drop(outbox.drain(alloc, now, 1)?);
-    Ok((none, waits, refusals(outbox, now)))
-}
-
-#[test]
-fn refusals_are_told_before(rt: HostRuntime) {
-    let mut outbox = Outbox::new(rt.alloc());
-    let told = all_refusals(rt.alloc(), &mut outbox);
-    drop(outbox);
-    let gone = Some(Fault::NoFlight);
-    let none = (Some(Fault::EmptyBatch), gone, gone);
-    assert!(rt; told == Ok((none, (None, gone, gone), (Some(Fault::Busy), None, None))));
-}
-
-#[test]
-fn heartbeats_of_no_lease_are_registrations(rt: HostRuntime) {
-    let calls = [
-        (0, BEAT_A),
-        (0, BEAT_B),
-        (0, BEAT_C),
-        (0, Call::Put(Action::Cancel, "d")),
-        (1, Call::Drain),
-        (2, Call::Put(Action::Register, "b")),
-        (2, BEAT_A),
-        (3, Call::Landed(&[404, 404, 200, 404])),
-        (4, Call::Drain),
-    ];
-    let text =
-        "Heartbeat-a+@0 Heartbeat-b+@0 Heartbeat-c+@0 Cancel-d+@0 done Register-b+@2 Heartbeat-a+@2 Register-a@3 ";
-    assert!(rt; tells(rt.alloc(), calls.as_slice(), text) == Ok(true));
-}
-
-#[test]
-fn lost_tasks_wait_again_in_front(rt: HostRuntime) {
-    let calls = [
-        (0, BEAT_A),
-        (1, BEAT_B),
-        (1, BEAT_C),
-        (2, Call::Put(Action::Cancel, "c")),
-        (3, Call::Drain),
-        (4, Call::Put(Action::Cancel, "b")),
-        (5, BEAT_B),
-        (30_001, Call::Lost),
-        (30_001, Call::Drain),
-    ];
-    let text =
-        "Heartbeat-a+@0 Heartbeat-b+@1 Heartbeat-c+@1 Cancel-c+@2 done Heartbeat-c+@1 Cancel-c+@2 Cancel-b+@4 Heartbeat-b+@5 ";
-    assert!(rt; tells(rt.alloc(), calls.as_slice(), text) == Ok(true));
-}
+        "one of a name waits",
+        "0 beat a, 1 beat b, 2 beat a, 3 cancel a, 4 drain",
+        "Heartbeat-a+@2 Heartbeat-b+@1 Cancel-a+@3",
+    ),
+    (
+        "a task expires after half a minute",
+        "0 beat a, 1 beat b, 30001 drain",
+        "Heartbeat-b+@1",
+    ),
+    (
+        "and not before",
+        "0 beat a, 1 beat b, 30000 drain",
+        "Heartbeat-a+@0 Heartbeat-b+@1",
+    ),
+    (
+        "where all have expired there is no batch",
+        "0 beat a, 30001 drain",
+        "EmptyBatch",
+    ),
+    (
+        "refusals change nothing",
+        "0 drain, 0 landed, 0 lost, 0 beat a, 0 drain, 0 beat b, 0 drain, 0 landed 404 404, 0 landed 200, 0 drain",
+        "EmptyBatch NoFlight NoFlight Heartbeat-a+@0 Busy CountDiffers done Heartbeat-b+@0",
+    ),
+    (
+        "heartbeats of no lease become registrations, unless one waits",
+        "0 beat a, 0 beat b, 0 beat c, 0 cancel d, 1 drain, 2 register b, 2 beat a, 3 landed 404 404 200 404, 4 drain",
+        "Heartbeat-a+@0 Heartbeat-b+@0 Heartbeat-c+@0 Cancel-d+@0 done Register-b+@2 Heartbeat-a+@2 Register-a@3",
+    ),
+    (
+        "lost tasks wait again in front",
+        "0 beat a, 1 beat b, 1 beat c, 2 cancel c, 3 drain, 4 cancel b, 5 beat b, 30001 lost, 30001 drain",
+        "Heartbeat-a+@0 Heartbeat-b+@1 Heartbeat-c+@1 Cancel-c+@2 done Heartbeat-c+@1 Cancel-c+@2 Cancel-b+@4 Heartbeat-b+@5",
+    ),
+    (
+        "refusals are told before",
+        "0 refusals, 0 beat a, 0 refusals, 0 drain, 0 refusals",
+        "Some(EmptyBatch) Some(NoFlight) Some(NoFlight); None Some(NoFlight) Some(NoFlight); Heartbeat-a+@0 Some(Busy) None None;",
+    ),
+    (
+        "the first of too many are dropped, whether put or lost",
+        "0 fill 0 10001, 1 ends, 0 fill 20000 20250, 1 lost, 1 ends",
+        "250: 1 to 250 done 250: 251 to 500",
+    ),
+    (
+        "order is kept, and what is in flight waits once more",
+        "0 fill 0 300, 1 ends, 2 fill 250 252, 2 fill 0 1, 3 landed all, 30001 ends",
+        "250: 0 to 249 done 3: 250 to 0",
+    ),
+    (
+        "there are as many batches as are asked for",
+        "0 fill 0 1, 0 batches 3",
+        "3",
+    ),
+];
 
 #[test]
-fn the_first_of_too_many_are_dropped(rt: HostRuntime) {
-    let mut outbox = Outbox::new(rt.alloc());
-    let put = put_too_many(rt.alloc(), &mut outbox);
-    let lost = lose_too_many(rt.alloc(), &mut outbox);
-    drop(outbox);
-    assert!(rt; put == Ok(true));
-    assert!(rt; lost == Ok(true));
-}
-
-#[test]
-fn order_is_kept(rt: HostRuntime) {
-    let mut outbox = Outbox::new(rt.alloc());
-    let put = put_many(rt.alloc(), &mut outbox);
-    let again = put_some_again(rt.alloc(), &mut outbox);
-    drop(outbox);
-    assert!(rt; put == Ok(true));
-    assert!(rt; again == Ok(true));
-}
-
-#[test]
-fn as_many_batches_as_are_asked_for(rt: HostRuntime) {
-    let mut outbox = Outbox::new(rt.alloc());
-    let count = batches(rt.alloc(), &mut outbox, 3);
-    drop(outbox);
-    assert!(rt; count == Ok(3));
+fn batches_are_eurekas(rt: HostRuntime) {
+    for (name, calls, text) in ROWS {
+        assert!(rt; tells(rt.alloc(), calls, text) == Ok(true), "{name}");
+    }
 }

@@ -1,22 +1,16 @@
 //! Hash codes and status pages, with what they say worked out by hand.
-use eu_base::{Fault, Instance, Status};
+use eu_base::{Fault, Status};
 use eu_fixtures::instance;
 use eu_model::{Counts, Listed, StatusCounts, Times};
 use eu_page::{hash_code, page_of, status_page};
 use std::alloc::Global;
 
-/// An instance with that status.
-fn instance_of(alloc: Global, status: Status) -> Result<Instance, Fault> {
-    let mut instance = instance(alloc, "i1", 0, 90)?;
-    instance.status = status;
-    Ok(instance)
-}
-
 /// Leases with these statuses.
 fn listed(alloc: Global, statuses: &[Status]) -> Result<Vec<Listed>, Fault> {
     let mut held = Vec::new(alloc);
     for status in statuses {
-        let instance = instance_of(alloc, *status)?;
+        let mut instance = instance(alloc, "i1", 0, 90)?;
+        instance.status = *status;
         held.push(Listed {
             instance,
             times: Times {
@@ -44,8 +38,8 @@ fn has_code(alloc: Global, statuses: &[Status], code: &str) -> Result<bool, Faul
 }
 
 #[test]
-fn statuses_stand_in_the_order_of_their_bytes(rt: HostRuntime) {
-    let statuses = [
+fn statuses_stand_in_the_order_of_their_bytes_where_somebody_has_them(rt: HostRuntime) {
+    let all = [
         Status::Up,
         Status::Unknown,
         Status::Up,
@@ -54,16 +48,20 @@ fn statuses_stand_in_the_order_of_their_bytes(rt: HostRuntime) {
         Status::Down,
         Status::Up,
     ];
-    let code = "DOWN_1_OUT_OF_SERVICE_1_STARTING_1_UNKNOWN_1_UP_3_";
-    assert!(rt; has_code(rt.alloc(), statuses.as_slice(), code) == Ok(true));
-}
-
-#[test]
-fn a_status_that_nobody_has_is_left_out(rt: HostRuntime) {
-    let statuses = [Status::OutOfService; 12];
-    let code = has_code(rt.alloc(), statuses.as_slice(), "OUT_OF_SERVICE_12_");
-    assert!(rt; code == Ok(true));
-    assert!(rt; has_code(rt.alloc(), &[], "") == Ok(true));
+    let one = [Status::OutOfService; 12];
+    for (statuses, code) in [
+        (
+            all.as_slice(),
+            "DOWN_1_OUT_OF_SERVICE_1_STARTING_1_UNKNOWN_1_UP_3_",
+        ),
+        (one.as_slice(), "OUT_OF_SERVICE_12_"),
+        ([].as_slice(), ""),
+    ] {
+        assert!(rt;
+            has_code(rt.alloc(), statuses, code) == Ok(true),
+            "at {code}"
+        );
+    }
 }
 
 /// Whether the page of leases with these statuses is that text.
@@ -75,8 +73,8 @@ fn is_page(alloc: Global, counts: &Counts, statuses: &[Status], text: &str) -> R
 }
 
 #[test]
-fn a_page_has_seven_lines(rt: HostRuntime) {
-    let counts = Counts {
+fn a_page_has_seven_lines_of_which_the_last_may_end_with_a_space(rt: HostRuntime) {
+    let few = Counts {
         held: 1,
         expected: 2,
         threshold: 3,
@@ -84,14 +82,7 @@ fn a_page_has_seven_lines(rt: HostRuntime) {
         permitted: false,
         preservation: true,
     };
-    let text =
-        "held 1\nexpected 2\nthreshold 3\nlast 0\npreservation on\npermitted no\nstatuses UP_1_\n";
-    assert!(rt; is_page(rt.alloc(), &counts, &[Status::Up], text) == Ok(true));
-}
-
-#[test]
-fn the_page_of_nothing_ends_with_a_space(rt: HostRuntime) {
-    let counts = Counts {
+    let many = Counts {
         held: 0,
         expected: 18_446_744_073_709_551_615,
         threshold: 0,
@@ -99,9 +90,20 @@ fn the_page_of_nothing_ends_with_a_space(rt: HostRuntime) {
         permitted: true,
         preservation: false,
     };
-    let text =
-        "held 0\nexpected 18446744073709551615\nthreshold 0\nlast 7\npreservation off\npermitted yes\nstatuses \n";
-    assert!(rt; is_page(rt.alloc(), &counts, &[], text) == Ok(true));
+    for (counts, statuses, text) in [
+        (
+            few,
+            [Status::Up].as_slice(),
+            "held 1\nexpected 2\nthreshold 3\nlast 0\npreservation on\npermitted no\nstatuses UP_1_\n",
+        ),
+        (
+            many,
+            [].as_slice(),
+            "held 0\nexpected 18446744073709551615\nthreshold 0\nlast 7\npreservation off\npermitted yes\nstatuses \n",
+        ),
+    ] {
+        assert!(rt; is_page(rt.alloc(), &counts, statuses, text) == Ok(true));
+    }
 }
 
 #[test]

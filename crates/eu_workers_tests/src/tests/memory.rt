@@ -1,18 +1,27 @@
 //! Want of memory. In a usual run no allocation is refused; `tools/sweep_memory.sh` refuses one after another.
-use crate::tests::turns::{Pair, cancel, clock, held, opened_pair, replicated, seen};
-use eu_base::{Fault, Status};
+use crate::tests::turns::{Pair, clock, held, opened_pair, tell_first};
+use eu_base::Fault;
 use eu_book::Book;
 use eu_clock::FirstChooser;
-use eu_fixtures::{at, registration, renewal};
-use eu_model::{Command, State};
+use eu_fixtures::{at, read_command};
+use eu_model::State;
 use eu_peer::{Turn, replicate_turn};
 use std::alloc::Global;
 
-/// Tells a book a command at 0.
-fn tell(alloc: Global, book: &mut Book, command: Result<Command, Fault>) -> Result<(), Fault> {
-    let receipt = book.apply(alloc, 0, command?, at(0), &mut FirstChooser)?;
+/// Tells a book at 0 what a script's words say.
+fn tell(alloc: Global, book: &mut Book, words: &str) -> Result<(), Fault> {
+    let command = read_command(alloc, words)?;
+    let receipt = book.apply(alloc, 0, command, at(0), &mut FirstChooser)?;
     drop(receipt);
     Ok(())
+}
+
+/// The same once more, where the first finds no memory.
+fn tell_twice(alloc: Global, book: &mut Book, words: &str) -> Result<(), Fault> {
+    match tell(alloc, book, words) {
+        Err(Fault::OutOfMemory) => tell(alloc, book, words),
+        answer => answer,
+    }
 }
 
 /// A turn at 0.
@@ -62,49 +71,28 @@ fn send_all(alloc: Global, pair: &mut Pair) -> Result<bool, Fault> {
     Ok(false)
 }
 
-fn register(alloc: Global, pair: &mut Pair) -> Result<(), Fault> {
-    match tell(alloc, &mut pair.here, registration(alloc, "i1")) {
-        Err(Fault::OutOfMemory) => tell(alloc, &mut pair.here, registration(alloc, "i1")),
-        answer => answer,
-    }
-}
-
-fn renew(alloc: Global, pair: &mut Pair) -> Result<(), Fault> {
-    match tell(alloc, &mut pair.here, renewal(alloc, "i1")) {
-        Err(Fault::OutOfMemory) => tell(alloc, &mut pair.here, renewal(alloc, "i1")),
-        answer => answer,
-    }
-}
-
-fn lose(alloc: Global, pair: &mut Pair) -> Result<(), Fault> {
-    match tell(alloc, &mut pair.there.desk, cancel(alloc)) {
-        Err(Fault::OutOfMemory) => tell(alloc, &mut pair.there.desk, cancel(alloc)),
-        answer => answer,
-    }
-}
-
 /// A heartbeat, and what it brings. What a peer answers for want of memory isn't sent again: the next heartbeat brings it.
 fn beat(alloc: Global, pair: &mut Pair) -> Result<bool, Fault> {
-    renew(alloc, pair)?;
+    tell_twice(alloc, &mut pair.here, "renew 0 A i1 - - c")?;
     send_all(alloc, pair)
 }
 
-/// How many leases the peer holds, at the second try where the first finds no memory.
-fn held_there(alloc: Global, pair: &Pair) -> Option<u64> {
+/// Whether the peer holds so many leases, at the second try where the first finds no memory.
+fn holds(alloc: Global, pair: &Pair, count: u64) -> bool {
     match held(alloc, &pair.there.desk) {
-        None => held(alloc, &pair.there.desk),
-        some => some,
+        Err(Fault::OutOfMemory) => held(alloc, &pair.there.desk) == Ok(count),
+        answer => answer == Ok(count),
     }
 }
 
 /// A client registers, and the peer is told; the peer loses the lease, and is told again by a heartbeat.
 fn play(alloc: Global, pair: &mut Pair) -> Result<bool, Fault> {
-    register(alloc, pair)?;
-    let told = send_all(alloc, pair)? && beat(alloc, pair)? && held_there(alloc, pair) == Some(1);
-    lose(alloc, pair)?;
-    let lost = held_there(alloc, pair) == Some(0);
+    tell_twice(alloc, &mut pair.here, "register 0 A i1 90 UP UNKNOWN 5 c")?;
+    let told = send_all(alloc, pair)? && beat(alloc, pair)? && holds(alloc, pair, 1);
+    tell_twice(alloc, &mut pair.there.desk, "cancel 0 A i1 r")?;
+    let lost = holds(alloc, pair, 0);
     let again = beat(alloc, pair)? && beat(alloc, pair)?;
-    Ok(told && lost && again && held_there(alloc, pair) == Some(1))
+    Ok(told && lost && again && holds(alloc, pair, 1))
 }
 
 fn opened(alloc: Global) -> Result<Pair, Fault> {
@@ -114,28 +102,27 @@ fn opened(alloc: Global) -> Result<Pair, Fault> {
     }
 }
 
-/// Tells a book of i1 with this stamp, as a peer does.
-fn tell_of(alloc: Global, book: &mut Book, last_dirty: u64) -> Result<(), Fault> {
-    match tell(alloc, book, replicated(alloc, "i1", last_dirty)) {
-        Err(Fault::OutOfMemory) => tell(alloc, book, replicated(alloc, "i1", last_dirty)),
-        answer => answer,
-    }
-}
-
-/// How a book holds i1, at the second try where the first finds no memory.
-fn seen_there(alloc: Global, book: &Book) -> Option<(u64, Status)> {
-    match seen(alloc, book) {
-        None => seen(alloc, book),
-        some => some,
-    }
+/// Whether a book shows i1 so.
+fn shows(alloc: Global, book: &Book, wanted: &str) -> Result<bool, Fault> {
+    let mut out = String::new(alloc);
+    tell_first(alloc, book, &mut out)?;
+    Ok(out.as_str() == wanted)
 }
 
 /// The peer holds a newer instance, of which a heartbeat is told, and which is adopted; where there is no memory for that, after another heartbeat.
 fn adopt(alloc: Global, pair: &mut Pair) -> Result<bool, Fault> {
-    tell_of(alloc, &mut pair.here, 5)?;
-    tell_of(alloc, &mut pair.there.desk, 9)?;
+    tell_twice(alloc, &mut pair.here, "register 0 A i1 90 UP UNKNOWN 5 r")?;
+    tell_twice(
+        alloc,
+        &mut pair.there.desk,
+        "register 0 A i1 90 UP UNKNOWN 9 r",
+    )?;
     let told = beat(alloc, pair)? && beat(alloc, pair)?;
-    Ok(told && seen_there(alloc, &pair.here) == Some((9, Status::Up)))
+    let shown = match shows(alloc, &pair.here, "9 UP UNKNOWN") {
+        Err(Fault::OutOfMemory) => shows(alloc, &pair.here, "9 UP UNKNOWN"),
+        answer => answer,
+    };
+    Ok(told && shown?)
 }
 
 fn is_played(alloc: Global) -> Result<bool, Fault> {

@@ -1,19 +1,18 @@
 //! A replicator, over a book of another server.
 ghost use Rattle.std.specs.Prelude.{◌≡◌};
 
-use crate::tests::servers::leases;
-use crate::tests::turns::is_accepted;
+use crate::tests::turns::{done, held, is_accepted};
 use eu_base::{Config, Fault, Moment, Task};
 use eu_book::Book;
 use eu_clock::{FirstChooser, ListClock};
 use eu_fixtures::{registration, settings};
 use eu_in_process::InProcess;
-use eu_model::{Command, Query};
+use eu_model::Command;
 use eu_peer::{ItemAnswer, Lost, Peer};
 use eu_routes::Routes;
 use eu_shared::{Blanks, Label, Pass, Shared};
 use eu_workers::{Ended, Gate, Go, Point, Site, run_replicator};
-use std::alloc::{AllocError, Global};
+use std::alloc::Global;
 use std::marker::Brand;
 use std::sync::Wait;
 use std::test::Fail;
@@ -60,21 +59,6 @@ fn drains<K: Label, R: Wait>(
     is_accepted(pass.ask(rt, shared, alloc, command, moment, &mut FirstChooser))
 }
 
-/// How many leases a book holds.
-fn held(alloc: Global, book: &Book) -> u64 {
-    let Some(moment) = Moment::new(0) else {
-        return 0;
-    };
-    match book.read(alloc, &Query::Counts, moment) {
-        Ok(view) => {
-            let held = leases(&view);
-            drop(view);
-            held
-        }
-        Err(_) => 0,
-    }
-}
-
 /// A server at which nothing is held.
 pub fn server(alloc: Global, config: Config) -> Result<InProcess<Book, ListClock>, Fault> {
     let desk = Book::open(alloc, config, 0, 0)?;
@@ -118,7 +102,7 @@ fn reach<K: Label, R: Wait>(
     let ended = replicate(site, number, &mut peer);
     let held = held(site.alloc, &peer.desk);
     drop(peer);
-    Ok((ended?, held))
+    Ok((ended?, held?))
 }
 
 /// The same for a book that is shared.
@@ -197,18 +181,6 @@ struct TakenForLost<'a, K: Label, R: Wait> {
     batches: u64,
 }
 
-/// An answer for each task: done.
-fn all_done(alloc: Global, batch: &[Task]) -> Result<Vec<ItemAnswer>, AllocError> {
-    let mut answers = Vec::with_capacity(alloc, batch.len())?;
-    for _task in batch {
-        answers.push(ItemAnswer {
-            code: 200,
-            instance: None,
-        })?;
-    }
-    Ok(answers)
-}
-
 impl<K: Label, R: Wait> Peer for TakenForLost<'_, K, R> {
     ghost submits = { λ _ _ _ _. Unit {0} };
 
@@ -223,10 +195,7 @@ impl<K: Label, R: Wait> Peer for TakenForLost<'_, K, R> {
                 .ask(self.rt, self.shared, alloc, command, moment, chooser);
             drop(lost);
         }
-        match all_done(alloc, batch) {
-            Ok(answers) => Ok(answers),
-            Err(_) => Err(Lost),
-        }
+        done(alloc, batch.len()).map_err(|_| Lost)
     }
 }
 

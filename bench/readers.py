@@ -6,7 +6,8 @@
 Each is run as `PROGRAM serve` with four workers, and filled with so many instances (1,000, 20,000 and 60,000 where none are told) of
 thirteen members. For each number it tells
 
-- the processor time of a listing, of one application and of one instance, and its ratio to the other's; five turns of both, medians;
+- the processor time of a listing, of one application, of one instance, of a heartbeat and of a registration, and its ratio to the other's; five turns of
+  both, medians;
 - how many heartbeats a client sends one by one, and how long they wait: alone, and while another client asks for one instance, for the status page
   or for all, without pause, or registers an instance again before each time that it asks for all. Each client is a process of its own;
 - the bytes that a lease takes: after each was registered, what each takes more that is registered again (its journal's entries, and the text that
@@ -147,8 +148,11 @@ def tell_readers(name, server):
 
 
 def tell_reads(servers, leases):
-    for what, path, times in ("a listing", "apps", max(5, 200_000 // leases)), ("one application", "apps/APP1", 2000), ("one instance", "apps/APP1/i1", 5000):
-        turns = [[server.time_of(get(path), times) for server in servers] for _ in range(5)]
+    for what, request, times in (
+        ("a listing", get("apps"), max(5, 200_000 // leases)), ("one application", get("apps/APP1"), 2000), ("one instance", get("apps/APP1/i1"), 5000),
+        ("a heartbeat", heartbeat(1), 5000), ("a registration", registration(1), 2000),
+    ):
+        turns = [[server.time_of(request, times) for server in servers] for _ in range(5)]
         ours, other = (statistics.median(turn[side] for turn in turns) for side in (0, 1))
         ratio = statistics.median(turn[0] / turn[1] for turn in turns)
         print(f"  {what}: {ours * 1e3:.4f} ms of processor time, the other's {other * 1e3:.4f}; {ratio:.2f} of it", flush=True)

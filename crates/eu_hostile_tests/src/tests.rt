@@ -6,5 +6,6 @@ mod ends;
 mod failures;
 mod fakes;
 mod long;
+mod rows;
 mod smuggling;
 mod tables;

@@ -1,6 +1,9 @@
 //! The tests, by what they are of.
+mod client;
 mod files;
-mod idle;
+mod fits;
 mod journals;
+mod machine;
 mod options;
 mod runs;
+mod servers;

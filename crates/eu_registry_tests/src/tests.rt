@@ -1,8 +1,10 @@
-//! The tests, by what they are of.
+//! The tests, by what they are of, and the lines in which their tables are told.
 mod deadlines;
+mod desk;
 mod eviction;
 mod index;
 mod lease;
+mod lines;
 mod memory;
 mod meter;
 mod registry;
@@ -10,3 +12,4 @@ mod steps;
 mod store;
 mod store_memory;
 mod texts;
+mod twins;

@@ -1,7 +1,9 @@
 //! The tests, by what they are of.
 mod batches;
+mod books;
+mod calls;
 mod memory;
 mod served;
 mod sessions;
 mod settings;
-mod texts;
+mod told;

@@ -1,150 +1,76 @@
 //! Requests whose lines end with a bare LF: each is answered at its last byte, and no later.
-use eu_base::Fault;
+use crate::tests::rows::{Way, first_wrong, word_of};
 use eu_fixtures::{Parts, Torn};
 use eu_framing::{EMPTY_ROOM, read_request};
 use eu_stream::Source;
 use std::alloc::Global;
 use std::io::ErrorKind;
 
-/// A text that ends with the last byte of a request, or of a fault, and the fault.
-pub type End = (&'static [u8], Option<Fault>);
-
-const HEADS: [End; 9] = [
-    (b"GET /a HTTP/1.1\nHost: x\n\n", None),
-    (b"\nGET /a HTTP/1.1\nHost: x\n\n", None),
-    (b"\r\n\n\nGET /a HTTP/1.1\r\nHost: x\nX: y\n\r\n", None),
-    (b"GET /a HTTP/1.1\nHost: x\r\n\n", None),
-    (b"GET /a HTTP/1.0\n\n", None),
-    (
-        b"POST /a HTTP/1.1\nHost: x\nContent-Length: 5\n\nhello",
-        None,
-    ),
-    (b"GET /a HTTP/1.1\n\n", Some(Fault::BadHead)),
-    (b"GET /a\n\n", Some(Fault::BadHead)),
-    (
-        b"POST /a HTTP/1.1\nHost: x\nContent-Length: x\n\n",
-        Some(Fault::BadLength),
-    ),
+const HEADS: [&str; 9] = [
+    "GET /a HTTP/1.1\nHost: x\n\n => taken",
+    "\nGET /a HTTP/1.1\nHost: x\n\n => taken",
+    "\r\n\n\nGET /a HTTP/1.1\r\nHost: x\nX: y\n\r\n => taken",
+    "GET /a HTTP/1.1\nHost: x\r\n\n => taken",
+    "GET /a HTTP/1.0\n\n => taken",
+    "POST /a HTTP/1.1\nHost: x\nContent-Length: 5\n\nhello => taken",
+    "GET /a HTTP/1.1\n\n => 400 (32)",
+    "GET /a\n\n => 400 (32)",
+    "POST /a HTTP/1.1\nHost: x\nContent-Length: x\n\n => 400 (35)",
 ];
 
-const CHUNK_LINES: [End; 5] = [
-    (
-        b"POST /a HTTP/1.1\nHost: x\nTransfer-Encoding: chunked\n\n5\n",
-        Some(Fault::BadChunk),
-    ),
-    (
-        b"POST /a HTTP/1.1\nHost: x\nTransfer-Encoding: chunked\n\n5;a=b\n",
-        Some(Fault::BadChunk),
-    ),
-    (
-        b"POST /a HTTP/1.1\nHost: x\nTransfer-Encoding: chunked\n\n\n",
-        Some(Fault::BadChunk),
-    ),
-    (
-        b"POST /a HTTP/1.1\nHost: x\nTransfer-Encoding: chunked\n\n5\r\nhello\r\n3\n",
-        Some(Fault::BadChunk),
-    ),
-    (
-        b"POST /a HTTP/1.1\nHost: x\nTransfer-Encoding: chunked\n\n5\r\nhello\r\n0\n",
-        Some(Fault::BadChunk),
-    ),
+const CHUNK_LINES: [&str; 5] = [
+    "POST /a HTTP/1.1\nHost: x\nTransfer-Encoding: chunked\n\n5\n => 400 (36)",
+    "POST /a HTTP/1.1\nHost: x\nTransfer-Encoding: chunked\n\n5;a=b\n => 400 (36)",
+    "POST /a HTTP/1.1\nHost: x\nTransfer-Encoding: chunked\n\n\n => 400 (36)",
+    "POST /a HTTP/1.1\nHost: x\nTransfer-Encoding: chunked\n\n5\r\nhello\r\n3\n => 400 (36)",
+    "POST /a HTTP/1.1\nHost: x\nTransfer-Encoding: chunked\n\n5\r\nhello\r\n0\n => 400 (36)",
 ];
 
-const TRAILERS: [End; 7] = [
-    (
-        b"POST /a HTTP/1.1\nHost: x\nTransfer-Encoding: chunked\n\n5\r\nhello\r\n0\r\n\n",
-        None,
-    ),
-    (
-        b"POST /a HTTP/1.1\nHost: x\nTransfer-Encoding: chunked\n\n0\r\nX: y\n\n",
-        None,
-    ),
-    (
-        b"POST /a HTTP/1.1\nHost: x\nTransfer-Encoding: chunked\n\n0\r\nX: y\r\nZ: w\n\r\n",
-        None,
-    ),
-    (
-        b"POST /a HTTP/1.1\nHost: x\nTransfer-Encoding: chunked\n\n0\r\nX: y\r\n\n",
-        None,
-    ),
-    (
-        b"POST /a HTTP/1.1\nHost: x\nTransfer-Encoding: chunked\n\n0\r\nX : y\n\n",
-        Some(Fault::BadChunk),
-    ),
-    (
-        b"POST /a HTTP/1.1\nHost: x\nTransfer-Encoding: chunked\n\n0\r\nX: y\n z\n\n",
-        Some(Fault::BadChunk),
-    ),
-    (
-        b"POST /a HTTP/1.1\nHost: x\nTransfer-Encoding: chunked\n\n0\r\nX\n\n",
-        Some(Fault::BadChunk),
-    ),
+const TRAILERS: [&str; 7] = [
+    "POST /a HTTP/1.1\nHost: x\nTransfer-Encoding: chunked\n\n5\r\nhello\r\n0\r\n\n => taken",
+    "POST /a HTTP/1.1\nHost: x\nTransfer-Encoding: chunked\n\n0\r\nX: y\n\n => taken",
+    "POST /a HTTP/1.1\nHost: x\nTransfer-Encoding: chunked\n\n0\r\nX: y\r\nZ: w\n\r\n => taken",
+    "POST /a HTTP/1.1\nHost: x\nTransfer-Encoding: chunked\n\n0\r\nX: y\r\n\n => taken",
+    "POST /a HTTP/1.1\nHost: x\nTransfer-Encoding: chunked\n\n0\r\nX : y\n\n => 400 (36)",
+    "POST /a HTTP/1.1\nHost: x\nTransfer-Encoding: chunked\n\n0\r\nX: y\n z\n\n => 400 (36)",
+    "POST /a HTTP/1.1\nHost: x\nTransfer-Encoding: chunked\n\n0\r\nX\n\n => 400 (36)",
 ];
 
-/// The fault of the first request of a reader.
-fn fault_by<R: Source + Drop>(alloc: Global, mut reader: R) -> Option<Fault> {
+/// The word for the fault of the first request of a reader, or for none.
+fn word_by<R: Source>(alloc: Global, reader: &mut R) -> &'static str {
     let mut buffer = Vec::new(alloc);
     let mut room = EMPTY_ROOM;
-    match read_request(alloc, &mut reader, &mut buffer, &mut room) {
-        Err(fault) => Some(fault),
-        _ => None,
+    match read_request(alloc, reader, &mut buffer, &mut room) {
+        Err(fault) => word_of(fault),
+        _ => "taken",
     }
 }
 
-/// The fault of the first request of so many bytes of a text, one by one, where the read behind them fails.
-fn fault_of(alloc: Global, text: &[u8], count: usize) -> Option<Fault> {
-    let (first, _) = text.split_at_checked(count)?;
-    fault_by(alloc, Torn::new(first, 1, count, ErrorKind::Other))
-}
-
-/// Whether nothing is answered before the last byte of a text.
-fn waits(alloc: Global, text: &[u8]) -> bool {
+/// Whether the first request of a text, which ends with it, is answered at its last byte, and no later: where it comes byte by byte, and where
+/// it is cut; the read behind its bytes fails.
+pub fn ends(alloc: Global, text: &[u8], word: &str) -> bool {
     for count in 0..text.len() {
-        if fault_of(alloc, text, count) != Some(Fault::Read) {
+        let (first, second) = (&text[..count], &text[count..]);
+        let before = word_by(alloc, &mut Torn::new(first, 1, count, ErrorKind::Other));
+        let behind = word_by(alloc, &mut Parts::failing(first, second));
+        if before != "failed" || behind != word {
             return false;
         }
     }
-    true
-}
-
-/// The fault of the first request of a text that is cut, where the read behind it fails.
-fn fault_by_cut(alloc: Global, text: &[u8], cut: usize) -> Option<Fault> {
-    let (first, second) = text.split_at_checked(cut)?;
-    fault_by(alloc, Parts::failing(first, second))
-}
-
-/// Whether a text is answered with its last byte, wherever it is cut.
-fn is_answered_by_any_cut(alloc: Global, text: &[u8], fault: Option<Fault>) -> bool {
-    for cut in 0..text.len() {
-        if fault_by_cut(alloc, text, cut) != fault {
-            return false;
-        }
-    }
-    true
-}
-
-/// Whether each of these texts is answered at its last byte, and no later.
-pub fn end_each(alloc: Global, ends: &[End]) -> bool {
-    for (text, fault) in ends {
-        let ends = waits(alloc, text) && fault_of(alloc, text, text.len()) == *fault;
-        if !ends || !is_answered_by_any_cut(alloc, text, *fault) {
-            return false;
-        }
-    }
-    true
+    word_by(alloc, &mut Torn::new(text, 1, text.len(), ErrorKind::Other)) == word
 }
 
 #[test]
 fn heads_end_with_their_empty_line(rt: HostRuntime) {
-    assert!(rt; end_each(rt.alloc(), &HEADS));
+    assert_eq!(rt; first_wrong(rt.alloc(), Way::End, &HEADS), None);
 }
 
 #[test]
 fn chunk_lines_end_with_their_line_end(rt: HostRuntime) {
-    assert!(rt; end_each(rt.alloc(), &CHUNK_LINES));
+    assert_eq!(rt; first_wrong(rt.alloc(), Way::End, &CHUNK_LINES), None);
 }
 
 #[test]
 fn trailers_end_with_their_empty_line(rt: HostRuntime) {
-    assert!(rt; end_each(rt.alloc(), &TRAILERS));
+    assert_eq!(rt; first_wrong(rt.alloc(), Way::End, &TRAILERS), None);
 }

@@ -1,83 +1,37 @@
 //! A session of three requests with one read, or one write, that fails.
-use crate::tests::fakes::{CHUNKED, DELTA, LOOK, Noting, SIZED, registration, serve};
+use crate::tests::fakes::{CHUNKED, Came, SIZED, came_of, told};
 use eu_base::Fault;
-use eu_fixtures::{Brittle, FORBIDDEN, REGISTERED, Torn, joined, looked};
-use eu_routes::Routes;
-use std::alloc::{AllocError, Global};
+use eu_fixtures::{Brittle, Torn};
+use std::alloc::Global;
 use std::io::ErrorKind;
-use std::test::Fail;
 
-/// A session: its requests, and what the second is answered.
-#[derive(Drop)]
-struct Play {
-    routes: Routes,
-    text: String,
-    /// How many bytes the first request has, and the first two.
-    ends: (usize, usize),
-    looked: String,
-}
+/// A session: its requests, and how many bytes the first of them has, the first two, and all.
+type Play = (&'static str, [usize; 3]);
 
-fn three_requests(alloc: Global, around: &[&str; 3]) -> Result<Play, Fault> {
-    let first = registration(alloc, around)?;
-    let one = first.len();
-    let text = joined(alloc, &[&first, LOOK, DELTA])?;
-    let looked = looked(alloc)?;
-    Ok(Play {
-        routes: Routes::new(alloc)?,
-        text,
-        ends: (one, one.saturating_add(LOOK.len())),
-        looked,
-    })
-}
+const SIZED_PLAY: Play = (SIZED, [215, 258, 302]);
 
-/// All that the desk is asked in it.
-const ASKS: &str = "register 5 at 1000;look i1 at 1001;";
+const CHUNKED_PLAY: Play = (CHUNKED, [233, 276, 320]);
 
-/// What is written and asked by so many bytes: that of the requests that are whole.
-fn answers(alloc: Global, play: &Play, bytes: usize) -> Result<(String, &'static str), AllocError> {
-    if bytes < play.ends.0 {
-        Ok((String::new(alloc), ""))
-    } else if bytes < play.ends.1 {
-        Ok((joined(alloc, &[REGISTERED])?, "register 5 at 1000;"))
-    } else if bytes < play.text.len() {
-        Ok((joined(alloc, &[REGISTERED, &play.looked])?, ASKS))
+/// What is told where a read fails before the first request is whole, the second and the third, and behind all.
+const FAILED: [&str; 4] = [
+    "fault 40 next 1000 ",
+    "fault 40 next 1001 HTTP/1.1 204 No Content\r\n\r\nregister 5 at 1000;",
+    "fault 40 next 1002 HTTP/1.1 204 No Content\r\n\r\nHTTP/1.1 200 OK\r\nContent-Type: application/json\r\nContent-Length: 345\r\n\r\n{\"instance\":{\"app\":\"A\",\"dataCenterInfo\":{\"name\":\"MyOwn\"},\"hostName\":\"h\",\"instanceId\":\"i1\",\"ipAddr\":\"10.0.0.1\",\"lastDirtyTimestamp\":\"5\",\"leaseInfo\":{\"durationInSecs\":90,\"evictionTimestamp\":0,\"lastRenewalTimestamp\":1000,\"registrationTimestamp\":1000,\"renewalIntervalInSecs\":30,\"serviceUpTimestamp\":1000},\"overriddenStatus\":\"UNKNOWN\",\"status\":\"UP\"}}register 5 at 1000;look i1 at 1001;",
+    "fault 40 next 1003 HTTP/1.1 204 No Content\r\n\r\nHTTP/1.1 200 OK\r\nContent-Type: application/json\r\nContent-Length: 345\r\n\r\n{\"instance\":{\"app\":\"A\",\"dataCenterInfo\":{\"name\":\"MyOwn\"},\"hostName\":\"h\",\"instanceId\":\"i1\",\"ipAddr\":\"10.0.0.1\",\"lastDirtyTimestamp\":\"5\",\"leaseInfo\":{\"durationInSecs\":90,\"evictionTimestamp\":0,\"lastRenewalTimestamp\":1000,\"registrationTimestamp\":1000,\"renewalIntervalInSecs\":30,\"serviceUpTimestamp\":1000},\"overriddenStatus\":\"UNKNOWN\",\"status\":\"UP\"}}HTTP/1.1 403 Forbidden\r\nContent-Length: 0\r\n\r\nregister 5 at 1000;look i1 at 1001;",
+];
+
+/// What is told where a read fails that has so many bytes before it.
+fn told_behind(play: &Play, bytes: usize) -> &'static str {
+    let [first, second, third] = play.1;
+    if bytes < first {
+        FAILED[0]
+    } else if bytes < second {
+        FAILED[1]
+    } else if bytes < third {
+        FAILED[2]
     } else {
-        Ok((joined(alloc, &[REGISTERED, &play.looked, FORBIDDEN])?, ASKS))
+        FAILED[3]
     }
-}
-
-/// What came of a session: its end, what was written, and what was asked.
-#[derive(Drop)]
-struct Came {
-    end: Result<u32, u8>,
-    desk: Noting,
-    writer: Brittle,
-}
-
-/// What comes of a session that is read in pieces of a size, where one read fails.
-fn came_of_reads(alloc: Global, play: &Play, size: usize, fails_at: usize) -> Result<Came, Fault> {
-    let mut desk = Noting::new(alloc);
-    let mut writer = Brittle::steady(alloc);
-    let mut reader = Torn::new(play.text.as_bytes(), size, fails_at, ErrorKind::Other);
-    let (end, _) = serve(alloc, &play.routes, &mut desk, &mut reader, &mut writer)?;
-    Ok(Came { end, desk, writer })
-}
-
-/// Whether exactly the requests before a failed read were answered.
-fn is_answered_before(
-    alloc: Global,
-    play: &Play,
-    size: usize,
-    fails_at: usize,
-) -> Result<bool, Fault> {
-    let bytes = size.saturating_mul(fails_at);
-    let (written, asks) = answers(alloc, play, bytes)?;
-    let came = came_of_reads(alloc, play, size, fails_at)?;
-    let is_so = came.end == Err(40)
-        && came.writer.text() == written.as_str()
-        && came.desk.asked() == asks;
-    drop(came);
-    Ok(is_so)
 }
 
 /// The first read that fails otherwise, where pieces have a size; the last one is that behind all bytes.
@@ -88,140 +42,96 @@ fn wrong_read(
     reads: usize,
 ) -> Result<Option<usize>, Fault> {
     for fails_at in 0..reads {
-        if !is_answered_before(alloc, play, size, fails_at)? {
+        let mut reader = Torn::new(play.0.as_bytes(), size, fails_at, ErrorKind::Other);
+        let told = told(alloc, &mut reader)?;
+        if told.as_str() != told_behind(play, size.saturating_mul(fails_at)) {
             return Ok(Some(fails_at));
         }
     }
     Ok(None)
-}
-
-/// The same of a session whose registration has its body between these.
-fn wrong_read_of(
-    alloc: Global,
-    around: &[&str; 3],
-    size: usize,
-    reads: usize,
-) -> Result<Option<usize>, Fault> {
-    let play = three_requests(alloc, around)?;
-    let wrong = wrong_read(alloc, &play, size, reads);
-    drop(play);
-    wrong
 }
 
 /// How many bytes are read at once, with the number of the reads that a session with a length then makes.
 const SIZED_READS: [(usize, usize); 3] = [(1, 303), (100, 5), (1000, 2)];
 
+#[test]
+fn what_stands_before_a_failed_read_is_answered(rt: HostRuntime) {
+    for (size, reads) in SIZED_READS {
+        let wrong = wrong_read(rt.alloc(), &SIZED_PLAY, size, reads);
+        assert_eq!(rt; wrong, Ok(None), "by {size}");
+    }
+}
+
 /// The same of one in chunks.
 const CHUNKED_READS: [(usize, usize); 3] = [(5, 65), (100, 5), (1000, 2)];
 
 #[test]
-fn what_stands_before_a_failed_read_is_answered(rt: HostRuntime) -> Result<(), Fail> {
-    for (size, reads) in &SIZED_READS {
-        assert!(rt;
-            wrong_read_of(rt.alloc(), &SIZED, *size, *reads)?.is_none(),
-            "by {size}"
-        );
+fn what_stands_in_chunks_before_a_failed_read_is_answered(rt: HostRuntime) {
+    for (size, reads) in CHUNKED_READS {
+        let wrong = wrong_read(rt.alloc(), &CHUNKED_PLAY, size, reads);
+        assert_eq!(rt; wrong, Ok(None), "by {size}");
     }
-    Ok(())
 }
 
-#[test]
-fn what_stands_in_chunks_before_a_failed_read_is_answered(rt: HostRuntime) -> Result<(), Fail> {
-    for (size, reads) in &CHUNKED_READS {
-        assert!(rt;
-            wrong_read_of(rt.alloc(), &CHUNKED, *size, *reads)?.is_none(),
-            "by {size}"
-        );
-    }
-    Ok(())
-}
+/// All that the desk is asked in it.
+const ASKS: &str = "register 5 at 1000;look i1 at 1001;";
 
-/// What comes of a session whose writer takes so many bytes at once, where one write or flush fails.
-fn came_of_writes(alloc: Global, play: &Play, size: usize, fails_at: usize) -> Result<Came, Fault> {
-    let mut desk = Noting::new(alloc);
-    let mut writer = Brittle::new(alloc, size, fails_at, None);
-    let mut reader = play.text.as_bytes();
-    let (end, _) = serve(alloc, &play.routes, &mut desk, &mut reader, &mut writer)?;
-    Ok(Came { end, desk, writer })
-}
+/// All that is written.
+const WRITTEN: &str =
+    "HTTP/1.1 204 No Content\r\n\r\nHTTP/1.1 200 OK\r\nContent-Type: application/json\r\nContent-Length: 345\r\n\r\n{\"instance\":{\"app\":\"A\",\"dataCenterInfo\":{\"name\":\"MyOwn\"},\"hostName\":\"h\",\"instanceId\":\"i1\",\"ipAddr\":\"10.0.0.1\",\"lastDirtyTimestamp\":\"5\",\"leaseInfo\":{\"durationInSecs\":90,\"evictionTimestamp\":0,\"lastRenewalTimestamp\":1000,\"registrationTimestamp\":1000,\"renewalIntervalInSecs\":30,\"serviceUpTimestamp\":1000},\"overriddenStatus\":\"UNKNOWN\",\"status\":\"UP\"}}HTTP/1.1 403 Forbidden\r\nContent-Length: 0\r\n\r\n";
 
 /// Whether a session ended at a failed write: nothing was written behind it, and nothing was asked twice.
-fn is_cut(came: &Came, written: &str, fails_at: usize) -> bool {
+fn is_cut(came: &Came, fails_at: usize) -> bool {
     came.end == Err(41)
         && came.writer.calls == fails_at.saturating_add(1)
-        && written.starts_with(came.writer.text())
-        && ASKS.starts_with(came.desk.asked())
-        && came.desk.count() >= 1
+        && WRITTEN.starts_with(came.writer.text())
+        && ASKS.starts_with(came.desk.asked.as_str())
+        && !came.desk.asked.is_empty()
 }
 
 /// Whether a session with all its writes was answered whole, by so many of them.
-fn is_whole(came: &Came, written: &str, calls: usize) -> bool {
+fn is_whole(came: &Came, calls: usize) -> bool {
     came.end == Ok(3)
-        && came.writer.calls == calls
-        && came.writer.text() == written
-        && came.desk.asked() == ASKS
+        && came.writer.is(calls, WRITTEN.as_bytes())
+        && came.desk.asked.as_str() == ASKS
 }
 
-/// Whether a session ends at the write or flush of that number; whether none fails, where there are only so many.
-fn ends_at(
-    alloc: Global,
-    play: &Play,
-    written: &str,
-    size: usize,
-    calls: usize,
-    fails_at: usize,
-) -> Result<bool, Fault> {
-    let came = came_of_writes(alloc, play, size, fails_at)?;
-    let ends = if fails_at < calls {
-        is_cut(&came, written, fails_at)
-    } else {
-        is_whole(&came, written, calls)
-    };
-    drop(came);
-    Ok(ends)
-}
-
-/// The first write or flush whose failure ends a session otherwise, of so many.
+/// The first write or flush whose failure ends a session otherwise, where its writer takes so many bytes at once; none fails where there are
+/// only so many.
 fn wrong_write(
     alloc: Global,
-    play: &Play,
+    text: &str,
     size: usize,
     calls: usize,
 ) -> Result<Option<usize>, Fault> {
-    let (written, _) = answers(alloc, play, usize::MAX)?;
     for fails_at in 0..=calls {
-        if !ends_at(alloc, play, &written, size, calls, fails_at)? {
+        let writer = Brittle::new(alloc, size, fails_at, None);
+        let came = came_of(alloc, &mut text.as_bytes(), writer)?;
+        let is_right = if fails_at < calls {
+            is_cut(&came, fails_at)
+        } else {
+            is_whole(&came, calls)
+        };
+        if !is_right {
             return Ok(Some(fails_at));
         }
     }
     Ok(None)
 }
 
-/// The same of a session whose registration has its body between these.
-fn wrong_write_of(
-    alloc: Global,
-    around: &[&str; 3],
-    size: usize,
-    calls: usize,
-) -> Result<Option<usize>, Fault> {
-    let play = three_requests(alloc, around)?;
-    let wrong = wrong_write(alloc, &play, size, calls);
-    drop(play);
-    wrong
-}
-
 /// How many bytes the writer takes at once, with the number of writes and flushes of a session: the responses have 27, 417 and 45 bytes,
 /// and each is flushed.
-const WRITES: [(usize, usize); 3] = [(1, 492), (100, 10), (1000, 6)];
+const WRITES: [(&str, usize, usize); 4] = [
+    (SIZED, 1, 492),
+    (SIZED, 100, 10),
+    (SIZED, 1000, 6),
+    (CHUNKED, 100, 10),
+];
 
 #[test]
-fn a_failed_write_ends_the_session(rt: HostRuntime) -> Result<(), Fail> {
-    for (size, calls) in &WRITES {
-        assert!(rt;
-            wrong_write_of(rt.alloc(), &SIZED, *size, *calls)?.is_none(),
-            "by {size}"
-        );
+fn a_failed_write_ends_the_session(rt: HostRuntime) {
+    for (text, size, calls) in WRITES {
+        let wrong = wrong_write(rt.alloc(), text, size, calls);
+        assert_eq!(rt; wrong, Ok(None), "by {size}");
     }
-    assert!(rt; wrong_write_of(rt.alloc(), &CHUNKED, 100, 10)?.is_none());
-    Ok(())
 }

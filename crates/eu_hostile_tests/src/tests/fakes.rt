@@ -1,7 +1,7 @@
 //! Requests and a desk for sessions, and what a session over them tells.
 use eu_base::{App, Fault, Moment};
 use eu_clock::Clock;
-use eu_fixtures::{Brittle, REGISTRATION, clock, done, joined};
+use eu_fixtures::{Brittle, REGISTRATION, clock, done};
 use eu_json::read_instance;
 use eu_model::{Answer, Ask, Command, Desk, Listed, Query, Times, View};
 use eu_routes::Routes;
@@ -9,61 +9,24 @@ use eu_session::serve_session;
 use eu_stream::{Sink, Source};
 use std::alloc::{AllocError, Global};
 
-/// The heads of a registration, with a length and with chunks, and what stands before and behind the body.
-pub const SIZED: [&str; 3] = [
-    "POST /eureka/v2/apps/a HTTP/1.1\r\nHost: x\r\nContent-Length: 150\r\n\r\n",
-    "",
-    "",
-];
+/// A registration whose body has a length, with 215 bytes; a look at its lease; and what is never given.
+pub const SIZED: &str =
+    "POST /eureka/v2/apps/a HTTP/1.1\r\nHost: x\r\nContent-Length: 150\r\n\r\n{\"instance\":{\"instanceId\":\"i1\",\"hostName\":\"h\",\"app\":\"a\",\"ipAddr\":\"10.0.0.1\",\"status\":\"UP\",\"lastDirtyTimestamp\":\"5\",\"dataCenterInfo\":{\"name\":\"MyOwn\"}}}GET /eureka/apps/A/i1 HTTP/1.1\r\nHost: x\r\n\r\nGET /eureka/apps/delta HTTP/1.1\r\nHost: x\r\n\r\n";
 
-pub const CHUNKED: [&str; 3] = [
-    "POST /eureka/v2/apps/a HTTP/1.1\r\nHost: x\r\nTransfer-Encoding: chunked\r\n\r\n",
-    "96\r\n",
-    "\r\n0\r\n\r\n",
-];
-
-/// A look at the lease of the client, and what is never given.
-pub const LOOK: &str = "GET /eureka/apps/A/i1 HTTP/1.1\r\nHost: x\r\n\r\n";
-
-pub const DELTA: &str = "GET /eureka/apps/delta HTTP/1.1\r\nHost: x\r\n\r\n";
-
-/// A registration whose body stands between these.
-pub fn registration(alloc: Global, around: &[&str; 3]) -> Result<String, AllocError> {
-    let [head, before, behind] = around;
-    joined(alloc, &[head, before, REGISTRATION, behind])
-}
+/// The same with chunks, with 233 bytes.
+pub const CHUNKED: &str =
+    "POST /eureka/v2/apps/a HTTP/1.1\r\nHost: x\r\nTransfer-Encoding: chunked\r\n\r\n96\r\n{\"instance\":{\"instanceId\":\"i1\",\"hostName\":\"h\",\"app\":\"a\",\"ipAddr\":\"10.0.0.1\",\"status\":\"UP\",\"lastDirtyTimestamp\":\"5\",\"dataCenterInfo\":{\"name\":\"MyOwn\"}}}\r\n0\r\n\r\nGET /eureka/apps/A/i1 HTTP/1.1\r\nHost: x\r\n\r\nGET /eureka/apps/delta HTTP/1.1\r\nHost: x\r\n\r\n";
 
 /// Has the lease of the client and finds all done, and writes what it is asked.
 #[derive(Drop)]
 pub struct Noting {
-    asked: String,
-    count: u64,
-}
-
-impl Noting {
-    pub fn new(alloc: Global) -> Noting {
-        Noting {
-            asked: String::new(alloc),
-            count: 0,
-        }
-    }
-
-    /// What it was asked, with the moments.
-    pub fn asked(&self) -> &str {
-        self.asked.as_str()
-    }
-
-    /// How often it was asked.
-    pub fn count(&self) -> u64 {
-        self.count
-    }
+    pub asked: String,
 }
 
 impl Desk for Noting {
     ghost asked = { λ _ _ _ _ _. Unit {0} };
 
     fn ask(&mut self, alloc: Global, ask: Ask, moment: Moment) -> Result<Answer, Fault> {
-        self.count = self.count.saturating_add(1);
         let reply = done(&ask);
         let noted = note(&mut self.asked, &ask, moment);
         drop(ask);
@@ -106,61 +69,60 @@ fn note(out: &mut String, ask: &Ask, moment: Moment) -> Result<(), AllocError> {
     }
 }
 
-/// Serves a session at the moments 1000, 1001 and 1002. Tells the requests or the fault of the session, and the moment that the clock tells
-/// next, which tells how often it was asked.
-pub fn serve<R: Source, W: Sink>(
+/// How a session ended, at which requests or by which fault, and the moment that the clock tells then; and what was asked and written.
+#[derive(Drop)]
+pub struct Came {
+    pub end: Result<u32, u8>,
+    pub next: u64,
+    pub desk: Noting,
+    pub writer: Brittle,
+}
+
+/// Serves a session at the moments 1000, 1001, 1002 and 1003.
+fn serve<R: Source, W: Sink>(
     alloc: Global,
-    routes: &Routes,
     desk: &mut Noting,
     reader: &mut R,
     writer: &mut W,
 ) -> Result<(Result<u32, u8>, u64), Fault> {
     let mut clock = clock(alloc, &[1000, 1001, 1002, 1003])?;
-    let served = serve_session(alloc, routes, desk, &mut clock, reader, writer);
+    let routes = Routes::new(alloc)?;
+    let served = serve_session(alloc, &routes, desk, &mut clock, reader, writer);
     let next = clock.now().ms();
-    drop(clock);
+    drop((clock, routes));
     match served {
         Ok(count) => Ok((Ok(count), next)),
         Err(fault) => Ok((Err(fault.fault().number()), next)),
     }
 }
 
-/// Writes what a session came to, and what its desk was asked.
-fn tell(out: &mut String, served: (Result<u32, u8>, u64), desk: &Noting) -> Result<(), AllocError> {
-    let (count, next) = (desk.count(), served.1);
-    match served.0 {
-        Ok(requests) => write!(out, "requests {requests} asks {count} next {next} "),
-        Err(fault) => write!(out, "fault {fault} asks {count} next {next} "),
-    }
-}
-
-/// What a session of a reader tells: its requests or its fault, how often the desk was asked, the moment that the clock tells next, and what
-/// was written.
-fn told_by<R: Source + Drop>(
+/// What comes of a session of a reader that answers to a writer.
+pub fn came_of<R: Source>(
     alloc: Global,
-    routes: &Routes,
-    mut reader: R,
-) -> Result<String, Fault> {
-    let mut desk = Noting::new(alloc);
-    let mut writer = Brittle::steady(alloc);
-    let served = serve(alloc, routes, &mut desk, &mut reader, &mut writer)?;
-    let mut out = String::new(alloc);
-    tell(&mut out, served, &desk)?;
-    out.push_str(writer.text())?;
-    Ok(out)
+    reader: &mut R,
+    mut writer: Brittle,
+) -> Result<Came, Fault> {
+    let mut desk = Noting {
+        asked: String::new(alloc),
+    };
+    let (end, next) = serve(alloc, &mut desk, reader, &mut writer)?;
+    Ok(Came {
+        end,
+        next,
+        desk,
+        writer,
+    })
 }
 
-/// The same by routes of its own.
-pub fn told<R: Source + Drop>(alloc: Global, reader: R) -> Result<String, Fault> {
-    match Routes::new(alloc) {
-        Ok(routes) => {
-            let told = told_by(alloc, &routes, reader);
-            drop(routes);
-            told
-        }
-        Err(_error) => {
-            drop(reader);
-            Err(Fault::OutOfMemory)
-        }
-    }
+/// What a session of a reader tells: its requests or its fault, the moment that the clock tells next, what was written, and what was asked.
+pub fn told<R: Source>(alloc: Global, reader: &mut R) -> Result<String, Fault> {
+    let came = came_of(alloc, reader, Brittle::steady(alloc))?;
+    let (word, number) = match came.end {
+        Ok(count) => ("requests", count),
+        Err(fault) => ("fault", u32::from(fault)),
+    };
+    let (next, written, asked) = (came.next, came.writer.text(), came.desk.asked.as_str());
+    let told = format!(in alloc; "{word} {number} next {next} {written}{asked}");
+    drop(came);
+    Ok(told?)
 }

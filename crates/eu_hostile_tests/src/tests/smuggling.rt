@@ -1,32 +1,21 @@
 //! Messages on which readers of HTTP are known to differ: what is made of each, request by request and by a session.
-use crate::tests::fakes::{Noting, serve, told};
+use crate::tests::fakes::{came_of, told};
+use crate::tests::rows::{Way, first_wrong, response_of, word_of};
 use crate::tests::tables::{
-    CHUNKS, CODINGS, CONNECTIONS, DIFFERENCES, FIELDS, LENGTHS, LINES, Row, TARGETS,
+    CHUNKS, CODINGS, CONNECTIONS, DIFFERENCES, FIELDS, LENGTHS, LINES, TARGETS,
 };
 use eu_base::Fault;
-use eu_fixtures::{Brittle, LAST_MISSING, MISSING, Torn, joined, push_each};
+use eu_fixtures::{Brittle, LAST_MISSING, MISSING, Torn, push_each};
 use eu_framing::{EMPTY_ROOM, Request, Room, read_request};
-use eu_routes::Routes;
 use eu_stream::Source;
 use std::alloc::{AllocError, Global};
 use std::io::ErrorKind;
-use std::test::Fail;
 
 /// What is made of a message, in words, and what a session of it is to write.
 #[derive(Drop)]
 struct Made {
     words: String,
     responses: String,
-}
-
-/// The status of a fault, and its phrase.
-pub fn status_of(fault: Fault) -> (&'static str, &'static str) {
-    match fault {
-        Fault::HeadTooLong => ("431", "Request Header Fields Too Large"),
-        Fault::BodyTooLong => ("413", "Payload Too Large"),
-        Fault::BadEncoding => ("415", "Unsupported Media Type"),
-        _ => ("400", "Bad Request"),
-    }
 }
 
 /// Adds a request.
@@ -51,25 +40,6 @@ fn add_request(made: &mut Made, request: &Request) -> Result<(), AllocError> {
     })
 }
 
-/// Adds a fault.
-fn add_fault(made: &mut Made, fault: Fault) -> Result<(), AllocError> {
-    let (code, phrase) = status_of(fault);
-    let number = fault.number();
-    write!(made.words, "{code} ({number})")?;
-    push_each(
-        &mut made.responses,
-        &[
-            "HTTP/1.1 ",
-            code,
-            " ",
-            phrase,
-            "\r\nContent-Type: application/json\r\nContent-Length: 12\r\nConnection: close\r\n\r\n{\"fault\":",
-        ],
-    )?;
-    write!(made.responses, "{number}")?;
-    made.responses.push_str("}")
-}
-
 /// Adds the next request of a reader, or why there is none; whether another may follow.
 fn add_next<R: Source>(
     alloc: Global,
@@ -91,60 +61,41 @@ fn add_next<R: Source>(
             Ok(false)
         }
         Err(fault) => {
-            add_fault(made, fault)?;
+            made.words.push_str(word_of(fault))?;
+            made.responses.push_str(response_of(word_of(fault)))?;
             Ok(false)
         }
     }
 }
 
-/// Adds all requests of a reader, of which no message has more than eight.
-fn add_all<R: Source>(alloc: Global, reader: &mut R, made: &mut Made) -> Result<(), AllocError> {
-    let mut buffer = Vec::new(alloc);
-    let mut room = EMPTY_ROOM;
-    for _ in 0..9 {
-        if !add_next(alloc, reader, &mut buffer, &mut room, made)? {
-            return Ok(());
-        }
-    }
-    Ok(())
-}
-
-/// What is made of the bytes of a reader.
-fn made_of<R: Source + Drop>(alloc: Global, mut reader: R) -> Result<Made, AllocError> {
+/// What is made of the bytes of a reader, of which no message has more than eight requests.
+fn made_of<R: Source>(alloc: Global, reader: &mut R) -> Result<Made, AllocError> {
     let mut made = Made {
         words: String::new(alloc),
         responses: String::new(alloc),
     };
-    add_all(alloc, &mut reader, &mut made)?;
+    let mut buffer = Vec::new(alloc);
+    let mut room = EMPTY_ROOM;
+    for _ in 0..9 {
+        if !add_next(alloc, reader, &mut buffer, &mut room, &mut made)? {
+            break;
+        }
+    }
     Ok(made)
 }
 
-/// Whether a session of a message writes that, and asks nothing.
-fn is_served(
-    alloc: Global,
-    routes: &Routes,
-    message: &[u8],
-    responses: &str,
-) -> Result<bool, Fault> {
-    let mut desk = Noting::new(alloc);
-    let mut writer = Brittle::steady(alloc);
+/// Whether that is made of a message, read by pieces of a size, and a session of it answers so and asks nothing.
+fn is_made(alloc: Global, message: &[u8], size: usize, words: &str) -> Result<bool, Fault> {
+    let made = made_of(alloc, &mut Torn::steady(message, size))?;
     let mut reader = message;
-    let (end, _) = serve(alloc, routes, &mut desk, &mut reader, &mut writer)?;
-    let is_served = end.is_ok() && writer.text() == responses && desk.count() == 0;
-    Ok(is_served)
+    let came = came_of(alloc, &mut reader, Brittle::steady(alloc))?;
+    let is_answered = came.end.is_ok() && came.writer.text() == made.responses.as_str();
+    Ok(is_answered && came.desk.asked.is_empty() && made.words.as_str() == words)
 }
 
-/// Whether that is made of a message, read at once and one byte at a time, and answered by a session.
-fn is_made(alloc: Global, routes: &Routes, message: &[u8], words: &str) -> Result<bool, Fault> {
-    let at_once = made_of(alloc, message)?;
-    let singly = made_of(alloc, Torn::steady(message, 1))?;
-    let is_so = at_once.words.as_str() == words && singly.words.as_str() == words;
-    Ok(is_so && is_served(alloc, routes, message, &at_once.responses)?)
-}
-
-/// Whether what is made of a message is one of the answers that the standard leaves: each is told by how it begins.
-fn is_left(ours: &str, asked: &[&str]) -> bool {
-    for answer in asked {
+/// Whether an answer is one of those that the standard leaves.
+fn is_left(ours: &str, left: &str) -> bool {
+    for answer in left.split(" | ") {
         if ours.starts_with(answer) {
             return true;
         }
@@ -152,151 +103,96 @@ fn is_left(ours: &str, asked: &[&str]) -> bool {
     false
 }
 
-/// Adds what is made of a message where that isn't what its row says.
-fn check_row(
+/// Whether a message is read as its row says, at once and byte by byte, and as the standard asks, or otherwise.
+pub fn is_read(
     alloc: Global,
-    routes: &Routes,
-    wrong: &mut String,
-    row: &Row,
-    differs: bool,
-) -> Result<(), Fault> {
-    let (message, asked, ours) = *row;
-    if !is_made(alloc, routes, message, ours)? {
-        let made = made_of(alloc, message)?;
-        push_each(wrong, &["\n", ours, " is made: ", &made.words])?;
+    message: &[u8],
+    answers: &str,
+    is_standard: bool,
+) -> Result<bool, Fault> {
+    let (left, ours) = answers.split_once(" => ").ok_or(Fault::BadValue)?;
+    let is_made = is_made(alloc, message, usize::MAX, ours)? && is_made(alloc, message, 1, ours)?;
+    Ok(is_made && is_left(ours, left) == is_standard)
+}
+
+#[test]
+fn messages_are_read_as_the_standard_asks(rt: HostRuntime) {
+    let tables = [
+        ("request lines", LINES.as_slice()),
+        ("targets and hosts", TARGETS.as_slice()),
+        ("fields", FIELDS.as_slice()),
+        ("connections", CONNECTIONS.as_slice()),
+        ("lengths", LENGTHS.as_slice()),
+        ("codings", CODINGS.as_slice()),
+        ("chunks", CHUNKS.as_slice()),
+    ];
+    for (name, rows) in tables {
+        assert_eq!(rt;
+            first_wrong(rt.alloc(), Way::Standard, rows),
+            None,
+            "{name}"
+        );
     }
-    if is_left(ours, asked) == differs {
-        push_each(wrong, &["\n", ours, " stands in the wrong table"])?;
-    }
-    Ok(())
-}
-
-/// Adds what is wrong in a table of messages.
-fn check_rows(
-    alloc: Global,
-    routes: &Routes,
-    wrong: &mut String,
-    rows: &[Row],
-    differs: bool,
-) -> Result<(), Fault> {
-    for row in rows {
-        check_row(alloc, routes, wrong, row, differs)?;
-    }
-    Ok(())
-}
-
-/// What is wrong in a table of messages.
-fn wrong_rows(alloc: Global, rows: &[Row], differs: bool) -> Result<String, Fault> {
-    let mut wrong = String::new(alloc);
-    let routes = Routes::new(alloc)?;
-    let checked = check_rows(alloc, &routes, &mut wrong, rows, differs);
-    drop(routes);
-    checked?;
-    Ok(wrong)
 }
 
 #[test]
-fn request_lines_are_read_as_the_standard_asks(rt: HostRuntime) -> Result<(), Fail> {
-    let wrong = wrong_rows(rt.alloc(), &LINES, false)?;
-    assert_eq!(rt; wrong.as_str(), "");
-    Ok(())
+fn these_are_read_otherwise_than_the_standard_asks(rt: HostRuntime) {
+    assert_eq!(rt; first_wrong(rt.alloc(), Way::Otherwise, &DIFFERENCES), None);
 }
 
-#[test]
-fn targets_and_hosts_are_read_as_the_standard_asks(rt: HostRuntime) -> Result<(), Fail> {
-    let wrong = wrong_rows(rt.alloc(), &TARGETS, false)?;
-    assert_eq!(rt; wrong.as_str(), "");
-    Ok(())
-}
+/// A message whose body is held back until the server says `100`, and how many bytes its head has.
+type HeldBack = (&'static str, usize);
 
-#[test]
-fn fields_are_read_as_the_standard_asks(rt: HostRuntime) -> Result<(), Fail> {
-    let wrong = wrong_rows(rt.alloc(), &FIELDS, false)?;
-    assert_eq!(rt; wrong.as_str(), "");
-    Ok(())
-}
-
-#[test]
-fn connections_end_as_the_standard_asks(rt: HostRuntime) -> Result<(), Fail> {
-    let wrong = wrong_rows(rt.alloc(), &CONNECTIONS, false)?;
-    assert_eq!(rt; wrong.as_str(), "");
-    Ok(())
-}
-
-#[test]
-fn lengths_are_read_as_the_standard_asks(rt: HostRuntime) -> Result<(), Fail> {
-    let wrong = wrong_rows(rt.alloc(), &LENGTHS, false)?;
-    assert_eq!(rt; wrong.as_str(), "");
-    Ok(())
-}
-
-#[test]
-fn codings_are_read_as_the_standard_asks(rt: HostRuntime) -> Result<(), Fail> {
-    let wrong = wrong_rows(rt.alloc(), &CODINGS, false)?;
-    assert_eq!(rt; wrong.as_str(), "");
-    Ok(())
-}
-
-#[test]
-fn chunks_are_read_as_the_standard_asks(rt: HostRuntime) -> Result<(), Fail> {
-    let wrong = wrong_rows(rt.alloc(), &CHUNKS, false)?;
-    assert_eq!(rt; wrong.as_str(), "");
-    Ok(())
-}
-
-#[test]
-fn these_are_read_otherwise_than_the_standard_asks(rt: HostRuntime) -> Result<(), Fail> {
-    let wrong = wrong_rows(rt.alloc(), &DIFFERENCES, true)?;
-    assert_eq!(rt; wrong.as_str(), "");
-    Ok(())
-}
-
-/// Heads whose bodies are held back until the server says `100`, with the bodies.
-const HELD_BACK: [(&str, &str); 2] = [
+const HELD_BACK: [HeldBack; 2] = [
     (
-        "POST /a HTTP/1.1\r\nHost: x\r\nExpect: 100-continue\r\nContent-Length: 5\r\n\r\n",
-        "hello",
+        "POST /a HTTP/1.1\r\nHost: x\r\nExpect: 100-continue\r\nContent-Length: 5\r\n\r\nhello",
+        70,
     ),
     (
-        "POST /a HTTP/1.1\r\nHost: x\r\nExpect: 100-continue\r\nTransfer-Encoding: chunked\r\n\r\n",
-        "5\r\nhello\r\n0\r\n\r\n",
+        "POST /a HTTP/1.1\r\nHost: x\r\nExpect: 100-continue\r\nTransfer-Encoding: chunked\r\n\r\n5\r\nhello\r\n0\r\n\r\n",
+        79,
     ),
 ];
 
-/// Whether nothing is written before a body that is held back comes, and one response once it has; the read behind each fails.
-fn is_awaited(alloc: Global, head: &str, body: &str) -> Result<bool, Fault> {
-    let text = joined(alloc, &[head, body])?;
-    let answered = joined(alloc, &["fault 40 asks 0 next 1001 ", MISSING])?;
-    let before = told(
-        alloc,
-        Torn::new(text.as_bytes(), head.len(), 1, ErrorKind::Other),
-    )?;
-    let behind = told(
-        alloc,
-        Torn::new(text.as_bytes(), head.len(), 2, ErrorKind::Other),
-    )?;
-    Ok(before.as_str() == "fault 40 asks 0 next 1000 " && behind == answered)
+/// What is told where the read behind the head fails, and the one behind the body: one response, once it has come.
+const AWAITED: [(usize, &str); 2] = [
+    (1, "fault 40 next 1000 "),
+    (
+        2,
+        "fault 40 next 1001 HTTP/1.1 404 Not Found\r\nContent-Length: 0\r\n\r\n",
+    ),
+];
+
+/// Whether that is told where such a read fails.
+fn is_awaited(alloc: Global, held_back: &HeldBack, awaited: &(usize, &str)) -> Result<bool, Fault> {
+    let ((text, size), (fails_at, wanted)) = (*held_back, *awaited);
+    let mut reader = Torn::new(text.as_bytes(), size, fails_at, ErrorKind::Other);
+    Ok(told(alloc, &mut reader)?.as_str() == wanted)
 }
 
 #[test]
-fn nothing_is_answered_before_a_body_that_is_held_back(rt: HostRuntime) -> Result<(), Fail> {
-    for (head, body) in &HELD_BACK {
-        assert!(rt; is_awaited(rt.alloc(), head, body)?, "{head}");
+fn nothing_is_answered_before_a_body_that_is_held_back(rt: HostRuntime) {
+    for held_back in &HELD_BACK {
+        assert!(rt; is_awaited(rt.alloc(), held_back, &AWAITED[0]) == Ok(true));
+        assert!(rt; is_awaited(rt.alloc(), held_back, &AWAITED[1]) == Ok(true));
     }
-    Ok(())
 }
 
-/// Whether a row is told to be wrong whose answer is another than its table says.
-fn is_told(alloc: Global, row: Row, differs: bool) -> Result<bool, Fault> {
-    let wrong = wrong_rows(alloc, &[row], differs)?;
-    Ok(!wrong.is_empty())
-}
+/// A message with an answer that isn't its, and with its own answer, which isn't the one that is left.
+const WRONG: [&str; 2] = [
+    "GET /a HTTP/1.1\r\nHost: x\r\n\r\n => 400 => 400 (32)",
+    "GET /a HTTP/1.1\r\nHost: x\r\n\r\n => 400 => GET /a ; end",
+];
 
 #[test]
-fn a_wrong_row_is_told(rt: HostRuntime) -> Result<(), Fail> {
-    let message: &[u8] = b"GET /a HTTP/1.1\r\nHost: x\r\n\r\n";
-    assert!(rt; is_told(rt.alloc(), (message, &["400"], "400 (32)"), false)?);
-    assert!(rt; is_told(rt.alloc(), (message, &["400"], "GET /a ; end"), false)?);
-    assert!(rt; !is_told(rt.alloc(), (message, &["400"], "GET /a ; end"), true)?);
-    Ok(())
+fn a_wrong_row_is_told(rt: HostRuntime) {
+    assert_eq!(rt;
+        first_wrong(rt.alloc(), Way::Standard, &WRONG[..1]),
+        Some(0)
+    );
+    assert_eq!(rt;
+        first_wrong(rt.alloc(), Way::Standard, &WRONG[1..]),
+        Some(0)
+    );
+    assert_eq!(rt; first_wrong(rt.alloc(), Way::Otherwise, &WRONG[1..]), None);
 }

@@ -1,4 +1,6 @@
 //! A file in memory, for a machine that has no other.
+use crate::tests::fits::has_each;
+use eu_fixtures::text_of;
 use std::alloc::{AllocError, Global};
 use std::fs::{Metadata, OpenFile, OpenOptions};
 use std::io::{Error, ErrorKind, Read, Seek, SeekFrom, Write};
@@ -11,34 +13,40 @@ const PATH: &str = "kept.journal";
 /// The bytes of the file. None where there is no file.
 pub type Place = Mutex<Option<Vec<u8>>>;
 
-/// Where a file is that holds this text.
-pub fn place_of(alloc: Global, text: &str) -> Result<Place, AllocError> {
+/// The lines of a file. None where there is no file.
+pub type Lines = Option<&'static [&'static str]>;
+
+/// Where a file is that has these lines.
+pub fn place_of(alloc: Global, lines: Lines) -> Result<Place, AllocError> {
+    let Some(lines) = lines else {
+        return Ok(Mutex::new(None));
+    };
+    let text = text_of(alloc, lines)?;
     let bytes = Vec::from_slice(alloc, text.as_bytes())?;
     Ok(Mutex::new(Some(bytes)))
 }
 
-/// Whether the file is there and holds just this text.
-pub fn holds(place: Place, text: &str) -> bool {
-    match place.into_inner() {
+/// Whether the file is there and has just these lines, or there is none and is to be none.
+pub fn holds(alloc: Global, place: Place, lines: Lines) -> Result<bool, AllocError> {
+    let Some(lines) = lines else {
+        return Ok(place.into_inner().is_none());
+    };
+    let text = text_of(alloc, lines)?;
+    Ok(match place.into_inner() {
         Some(bytes) => bytes.as_slice() == text.as_bytes(),
+        None => false,
+    })
+}
+
+/// Whether the file is there and each of these stands in it.
+pub fn holds_each(place: Place, parts: &[&str]) -> bool {
+    match place.into_inner() {
+        Some(bytes) => has_each(str::from_utf8(&bytes).unwrap_or(""), parts, true),
         None => false,
     }
 }
 
-/// Whether the file is there and each of these stands in it.
-pub fn holds_all(place: Place, parts: &[&str]) -> bool {
-    let Some(bytes) = place.into_inner() else {
-        return false;
-    };
-    let text = str::from_utf8(&bytes).unwrap_or("");
-    let mut holds = true;
-    for part in parts {
-        holds = holds && text.find(*part).is_some();
-    }
-    holds
-}
-
-/// The file, open, from a byte on.
+/// The file, open, from a byte on. What is written to it comes behind its last byte.
 #[derive(Drop)]
 pub struct Kept<'a> {
     place: &'a Place,
@@ -65,14 +73,6 @@ pub fn open_kept<'a>(
         *held = Some(Vec::new(alloc));
     }
     Ok(Kept { place, at: 0 })
-}
-
-/// Writes bytes over those from a place on, and behind the last.
-fn put(bytes: &mut Vec<u8>, at: usize, more: &[u8]) -> Result<(), AllocError> {
-    let start = at.min(bytes.len());
-    let over = more.len().min(bytes.len() - start);
-    bytes.as_mut_slice()[start..start + over].copy_from_slice(&more[..over]);
-    bytes.extend_from_slice(&more[over..])
 }
 
 impl Read for Kept<'_> {
@@ -102,8 +102,7 @@ impl Write for Kept<'_> {
         let Some(bytes) = held.as_mut() else {
             return Err(Error::from(ErrorKind::NotFound));
         };
-        put(bytes, self.at, buffer)?;
-        self.at = self.at.saturating_add(buffer.len());
+        bytes.extend_from_slice(buffer)?;
         Ok(buffer.len())
     }
 

@@ -1,66 +1,75 @@
 //! The index of deadlines.
+use crate::tests::lines::{Told, cut, first_wrong, leading, number};
+use eu_base::Fault;
 use eu_deadlines::Deadlines;
-use std::alloc::{AllocError, Global};
-use std::test::Fail;
+use std::alloc::Global;
 
-/// An index of these deadlines.
-fn index(alloc: Global, deadlines: &[u64]) -> Result<Deadlines, AllocError> {
-    let mut index = Deadlines::new(alloc);
-    for deadline in deadlines {
-        index.reserve()?;
-        index.push(*deadline);
-    }
-    Ok(index)
-}
-
-/// Whether these positions, in order, have deadlines before that limit, and so many deadlines were read.
-fn are_before(
+/// Writes how many deadlines were read, and the positions, in order, whose deadlines are before that limit.
+fn tell_before(
     alloc: Global,
     index: &Deadlines,
     limit: u64,
-    positions: &[usize],
-    read: u64,
-) -> Result<bool, AllocError> {
-    let mut readings = 0;
+    out: &mut String,
+) -> Result<(), Fault> {
     if index.len() > 65_536 {
-        return Ok(false);
+        return Err(Fault::Full);
     }
+    let mut readings = 0;
     let mut found = index.before(alloc, limit, &mut readings)?;
     found.sort()?;
-    Ok(found.as_slice() == positions && readings == read)
+    Ok(write!(out, "{readings} {found:?}")?)
 }
 
-/// Whether a deadline that is set goes where it belongs.
-fn is_set(alloc: Global) -> Result<bool, AllocError> {
-    let mut index = index(alloc, &[30, 10, 20])?;
-    let before = are_before(alloc, &index, 25, &[1, 2], 3)?;
-    if index.len() != 3 {
-        return Ok(false);
+/// Changes an index: `push DEADLINE` adds one, `set POSITION DEADLINE` sets one, and `remove POSITION` takes one out.
+fn change(index: &mut Deadlines, verb: &str, words: &str) -> Result<(), Fault> {
+    let (first, rest) = leading(words)?;
+    let position = first as usize;
+    match verb {
+        "push" => {
+            index.reserve()?;
+            index.push(first);
+        }
+        "set" if position < index.len() => index.set(position, number(rest)?),
+        "remove" if position < index.len() => index.swap_remove(position),
+        _ => return Err(Fault::BadValue),
     }
-    index.set(0, 5);
-    Ok(before && are_before(alloc, &index, 25, &[0, 1, 2], 3)?)
-}
-
-/// Whether the last position takes the number of one that is taken out.
-fn is_taken(alloc: Global) -> Result<bool, AllocError> {
-    let mut index = index(alloc, &[30, 10, 20])?;
-    if index.len() != 3 {
-        return Ok(false);
-    }
-    index.swap_remove(0);
-    let nothing = are_before(alloc, &index, 10, &[], 1)?;
-    let last = are_before(alloc, &index, 11, &[1], 2)?;
-    Ok(nothing && last && are_before(alloc, &index, 21, &[0, 1], 2)?)
-}
-
-#[test]
-fn a_deadline_is_set(rt: HostRuntime) -> Result<(), Fail> {
-    assert!(rt; is_set(rt.alloc())?);
     Ok(())
 }
 
+/// `before LIMIT` tells the deadlines that are before it, `new` begins with none, and another verb changes them and tells how many there are then.
+impl Told for Deadlines {
+    fn tell(&mut self, alloc: Global, said: &str, out: &mut String) -> Result<(), Fault> {
+        let (verb, rest) = cut(said);
+        match verb {
+            "before" => return tell_before(alloc, self, number(rest)?, out),
+            "new" => *self = Deadlines::new(alloc),
+            _ => change(self, verb, rest)?,
+        }
+        Ok(write!(out, "{}", self.len())?)
+    }
+}
+
+const INDEXED: &str = "
+    # A deadline is set.
+    push 30 = 1
+    push 10 = 2
+    push 20 = 3
+    before 25 = 3 [1, 2]
+    set 0 5 = 3
+    before 25 = 3 [0, 1, 2]
+    # The last position takes the number of one that is taken out.
+    new = 0
+    push 30 = 1
+    push 10 = 2
+    push 20 = 3
+    remove 0 = 2
+    before 10 = 1 []
+    before 11 = 2 [1]
+    before 21 = 2 [0, 1]
+";
+
 #[test]
-fn the_last_position_takes_the_place(rt: HostRuntime) -> Result<(), Fail> {
-    assert!(rt; is_taken(rt.alloc())?);
-    Ok(())
+fn deadlines_are_set_and_taken(rt: HostRuntime) {
+    let mut index = Deadlines::new(rt.alloc());
+    assert_eq!(rt; first_wrong(rt.alloc(), &mut index, INDEXED), None);
 }

@@ -1,157 +1,143 @@
 //! Override rows, and an eviction by given words, with what it leaves worked out by hand.
-use crate::tests::store::leases;
+use crate::tests::lines::{Told, cut, first_wrong, tell_done};
+use crate::tests::store::put_each;
+use crate::tests::texts::tell_ids;
 use eu_base::{Config, Fault, Id, Status};
 use eu_clock::ListChooser;
-use eu_eviction::{Eviction, Overrides, run_eviction};
-use eu_fixtures::{ids as list, moment};
+use eu_eviction::{Overrides, run_eviction};
+use eu_fixtures::moment;
 use eu_store::Leases;
-use std::alloc::{AllocError, Global};
+use std::alloc::Global;
 use std::test::Fail;
 
-/// Puts a row for that id, which has none.
-fn put(alloc: Global, overrides: &mut Overrides, id: &Id) -> Result<(), AllocError> {
-    let id = id.copy(alloc)?;
-    overrides.reserve()?;
-    overrides.insert(id, Status::Down);
-    Ok(())
-}
-
-/// The ids of which there are rows.
+/// Leases and override rows.
+///
+/// `new ID ID` begins with leases of 10 s, made at 0, and no row; `insert ID STATUS` puts a row of an id that has none, and `set ID STATUS` sets the
+/// row of one that may have none; `reserve` makes room for a row; and `row ID` tells one. `permitted` and `forbidden` evict at 10,001, and tell how
+/// many replies there are, how many leases are left, and whom it takes: at 50 percent half may go, which the words 3 and 0 draw.
 #[derive(Drop)]
-struct Ids {
-    second: Id,
-    third: Id,
+struct Desk {
+    leases: Leases,
+    overrides: Overrides,
 }
 
-fn read_ids(alloc: Global) -> Result<Ids, Fault> {
-    let second = Id::read(alloc, "i2")?;
-    let third = Id::read(alloc, "i3")?;
-    Ok(Ids { second, third })
-}
-
-/// Rows of both.
-fn overrides(alloc: Global, ids: &Ids) -> Result<Overrides, AllocError> {
-    let mut overrides = Overrides::new(alloc);
-    put(alloc, &mut overrides, &ids.second)?;
-    put(alloc, &mut overrides, &ids.third)?;
-    Ok(overrides)
-}
-
-/// The statuses that stand in the rows of both.
-fn statuses(overrides: &Overrides, ids: &Ids) -> (Option<Status>, Option<Status>) {
-    (overrides.get(&ids.second), overrides.get(&ids.third))
-}
-
-#[test]
-fn room_for_a_row_changes_none(rt: HostRuntime) -> Result<(), Fail> {
-    let ids = read_ids(rt.alloc())?;
-    let mut overrides = overrides(rt.alloc(), &ids)?;
-    overrides.reserve()?;
-    assert!(rt; statuses(&overrides, &ids) == (Some(Status::Down), Some(Status::Down)));
+/// Changes the row of an id.
+fn change(alloc: Global, overrides: &mut Overrides, verb: &str, words: &str) -> Result<(), Fault> {
+    let (id, word) = cut(words);
+    let status = Status::read(word.as_bytes()).ok_or(Fault::BadValue)?;
+    let id = Id::read(alloc, id)?;
+    match verb {
+        "insert" => {
+            overrides.reserve()?;
+            overrides.insert(id, status);
+        }
+        "set" => overrides.set(&id, status),
+        _ => return Err(Fault::BadValue),
+    }
     Ok(())
 }
 
-#[test]
-fn a_row_that_is_put_stands(rt: HostRuntime) -> Result<(), Fail> {
-    let ids = read_ids(rt.alloc())?;
-    let mut overrides = Overrides::new(rt.alloc());
-    put(rt.alloc(), &mut overrides, &ids.third)?;
-    assert!(rt; statuses(&overrides, &ids) == (None, Some(Status::Down)));
-    Ok(())
+impl Desk {
+    /// Leases of 10 s, made at 0, and no row.
+    fn begin(alloc: Global, ids: &str) -> Result<Desk, Fault> {
+        let mut leases = Leases::new(alloc);
+        put_each(alloc, &mut leases, ids)?;
+        Ok(Desk {
+            leases,
+            overrides: Overrides::new(alloc),
+        })
+    }
+
+    fn tell_row(&self, alloc: Global, id: &str, out: &mut String) -> Result<(), Fault> {
+        let id = Id::read(alloc, id)?;
+        Ok(write!(out, "{:?}", self.overrides.get(&id))?)
+    }
+
+    fn evict(&mut self, alloc: Global, permitted: bool, out: &mut String) -> Result<(), Fault> {
+        let config = Config::new(false, 50, 30, 60_000)?;
+        let mut chooser = ListChooser::new(Vec::from_slice(alloc, [3u64, 0].as_slice())?);
+        let eviction = run_eviction(
+            alloc,
+            &mut self.leases,
+            &mut self.overrides,
+            &config,
+            permitted,
+            moment(10_001)?,
+            0,
+            1,
+            &mut chooser,
+        )?;
+        write!(out, "{} {}", eviction.replies.len(), self.leases.len())?;
+        Ok(tell_ids(out, eviction.victims.as_slice())?)
+    }
 }
+
+impl Told for Desk {
+    fn tell(&mut self, alloc: Global, said: &str, out: &mut String) -> Result<(), Fault> {
+        let (verb, rest) = cut(said);
+        match verb {
+            "new" => {
+                *self = Desk::begin(alloc, rest)?;
+                tell_done(out, Ok(()))
+            }
+            "reserve" => {
+                self.overrides.reserve()?;
+                tell_done(out, Ok(()))
+            }
+            "permitted" => self.evict(alloc, true, out),
+            "forbidden" => self.evict(alloc, false, out),
+            "row" => self.tell_row(alloc, rest, out),
+            _ => tell_done(out, change(alloc, &mut self.overrides, verb, rest)),
+        }
+    }
+}
+
+const ROWS: &str = "
+    # Room for a row changes none.
+    insert i2 DOWN = done
+    insert i3 DOWN = done
+    reserve = done
+    row i2 = Some(Down)
+    row i3 = Some(Down)
+    # A row that is put stands.
+    new i0 = done
+    insert i3 DOWN = done
+    row i2 = None
+    row i3 = Some(Down)
+    # A row is set where one stands.
+    set i2 UP = done
+    set i3 OUT_OF_SERVICE = done
+    row i2 = None
+    row i3 = Some(OutOfService)
+";
 
 #[test]
 fn a_row_is_set_where_one_stands(rt: HostRuntime) -> Result<(), Fail> {
-    let ids = read_ids(rt.alloc())?;
-    let mut overrides = Overrides::new(rt.alloc());
-    put(rt.alloc(), &mut overrides, &ids.third)?;
-    overrides.set(&ids.second, Status::Up);
-    overrides.set(&ids.third, Status::OutOfService);
-    assert!(rt; statuses(&overrides, &ids) == (None, Some(Status::OutOfService)));
+    let mut desk = Desk::begin(rt.alloc(), "i0")?;
+    assert_eq!(rt; first_wrong(rt.alloc(), &mut desk, ROWS), None);
     Ok(())
 }
 
-/// What an eviction at 10,001 takes from leases of four ids that have expired by then, for the words 3 and 0. At 50 percent half may go.
-fn eviction(
-    alloc: Global,
-    leases: &mut Leases,
-    overrides: &mut Overrides,
-    permitted: bool,
-) -> Result<Eviction, Fault> {
-    let config = Config::new(false, 50, 30, 60_000)?;
-    let words = Vec::from_slice(alloc, [3u64, 0].as_slice())?;
-    let mut chooser = ListChooser::new(words);
-    let now = moment(10_001)?;
-    let eviction = run_eviction(
-        alloc,
-        leases,
-        overrides,
-        &config,
-        permitted,
-        now,
-        0,
-        1,
-        &mut chooser,
-    );
-    drop(chooser);
-    Ok(eviction?)
-}
-
-/// Whom it takes, how many leases are left, and whether i2 and i3 have rows then.
-#[derive(Drop)]
-struct Left {
-    victims: String,
-    replies: usize,
-    held: usize,
-    overrides: (bool, bool),
-}
-
-fn what_is_left(
-    alloc: Global,
-    leases: &mut Leases,
-    overrides: &mut Overrides,
-    permitted: bool,
-    ids: &Ids,
-) -> Result<Left, Fault> {
-    let eviction = eviction(alloc, leases, overrides, permitted)?;
-    let victims = list(alloc, &eviction.victims)?;
-    Ok(Left {
-        victims,
-        replies: eviction.replies.len(),
-        held: leases.len(),
-        overrides: (
-            overrides.get(&ids.second).is_some(),
-            overrides.get(&ids.third).is_some(),
-        ),
-    })
-}
-
-/// The same of an eviction over four leases and two rows.
-fn pass_over(alloc: Global, permitted: bool, ids: &Ids) -> Result<Left, Fault> {
-    let mut leases = leases(alloc, &["i0", "i1", "i2", "i3"])?;
-    let mut overrides = overrides(alloc, ids)?;
-    what_is_left(alloc, &mut leases, &mut overrides, permitted, ids)
-}
-
-fn pass_leaves(alloc: Global, permitted: bool) -> Result<Left, Fault> {
-    let ids = read_ids(alloc)?;
-    pass_over(alloc, permitted, &ids)
-}
+const EVICTIONS: &str = "
+    # An eviction takes half of the expired with their rows.
+    new i0 i1 i2 i3 = done
+    insert i2 DOWN = done
+    insert i3 DOWN = done
+    permitted = 1 2 i3 i1
+    row i2 = Some(Down)
+    row i3 = None
+    # One that isn't permitted takes nobody.
+    new i0 i1 i2 i3 = done
+    insert i2 DOWN = done
+    insert i3 DOWN = done
+    forbidden = 1 4
+    row i2 = Some(Down)
+    row i3 = Some(Down)
+";
 
 #[test]
 fn an_eviction_takes_half_of_the_expired_with_their_rows(rt: HostRuntime) -> Result<(), Fail> {
-    let left = pass_leaves(rt.alloc(), true)?;
-    assert!(rt; left.victims.as_str() == " i3 i1");
-    assert!(rt; left.replies == 1 && left.held == 2);
-    assert!(rt; left.overrides == (true, false));
-    Ok(())
-}
-
-#[test]
-fn an_eviction_that_is_not_permitted_takes_nobody(rt: HostRuntime) -> Result<(), Fail> {
-    let left = pass_leaves(rt.alloc(), false)?;
-    assert!(rt; left.victims.is_empty());
-    assert!(rt; left.replies == 1 && left.held == 4);
-    assert!(rt; left.overrides == (true, true));
+    let mut desk = Desk::begin(rt.alloc(), "i0")?;
+    assert_eq!(rt; first_wrong(rt.alloc(), &mut desk, EVICTIONS), None);
     Ok(())
 }

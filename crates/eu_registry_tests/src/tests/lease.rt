@@ -1,113 +1,85 @@
 //! Leases, with moments and statuses worked out by hand.
+use crate::tests::lines::{Told, cut, first_wrong, leading, number, small};
 use eu_base::{Fault, LeaseSecs, Status};
-use eu_fixtures::moment;
+use eu_fixtures::{at, moment};
 use eu_lease::{Lease, override_rule};
+use std::alloc::Global;
 
-/// A lease that is made then.
-fn fresh(ms: u64) -> Result<Lease, Fault> {
-    Ok(Lease::fresh(moment(ms)?, LeaseSecs::DEFAULT))
+/// The lease made anew at a moment, for so many seconds.
+fn anew(lease: Lease, words: &str) -> Result<Lease, Fault> {
+    let (ms, secs) = leading(words)?;
+    let secs = LeaseSecs::new(small(secs)?).ok_or(Fault::BadDuration)?;
+    Ok(lease.anew(moment(ms)?, secs))
 }
 
-/// Whether a lease has expired at that moment, with so much more time.
-fn has_expired(lease: &Lease, ms: u64, extra: u64) -> Result<bool, Fault> {
-    Ok(lease.expired(moment(ms)?, extra))
-}
-
-/// Whether a fresh lease has expired so.
-fn has_fresh_expired(ms: u64, extra: u64) -> Result<bool, Fault> {
-    has_expired(&fresh(0)?, ms, extra)
-}
-
-/// The deadline of a fresh lease, when it was registered, when it went up, and its duration.
-fn fresh_terms() -> Result<(u64, u64, u64, u32), Fault> {
-    let lease = fresh(0)?;
-    Ok((
-        lease.deadline(),
-        lease.registered(),
-        lease.up(),
-        lease.secs().secs(),
-    ))
-}
-
-#[test]
-fn a_fresh_lease_lasts_one_duration(rt: HostRuntime) {
-    for (ms, extra, expired) in [
-        (90_000, 0, false),
-        (90_001, 0, true),
-        (90_001, 1, false),
-        (90_001, u64::MAX, false),
-    ] {
-        assert!(rt;
-            has_fresh_expired(ms, extra) == Ok(expired),
-            "at {ms} and {extra}"
-        );
+/// `fresh T` makes it, for the default duration; `renew T` renews it, `up T` has its instance come up, and `anew T SECS` makes it anew. Then it is
+/// told when it was registered, when its instance came up, its last update, its deadline, and its duration. `expired T EXTRA` tells whether it has
+/// expired, and `times` its moments.
+impl Told for Lease {
+    fn tell(&mut self, _alloc: Global, said: &str, out: &mut String) -> Result<(), Fault> {
+        let (verb, rest) = cut(said);
+        match verb {
+            "fresh" => *self = Lease::fresh(moment(number(rest)?)?, LeaseSecs::DEFAULT),
+            "renew" => self.renew(moment(number(rest)?)?),
+            "up" => self.service_up(moment(number(rest)?)?),
+            "anew" => *self = anew(*self, rest)?,
+            "expired" => {
+                let (ms, extra) = leading(rest)?;
+                let expired = self.expired(moment(ms)?, number(extra)?);
+                return Ok(write!(out, "{expired}")?);
+            }
+            "times" => return Ok(write!(out, "{:?}", self.times())?),
+            _ => return Err(Fault::BadValue),
+        }
+        let (registered, up, updated) = (self.registered(), self.up(), self.updated());
+        let (deadline, secs) = (self.deadline(), self.secs().secs());
+        Ok(write!(out, "{registered} {up} {updated} {deadline} {secs}")?)
     }
-    assert!(rt; fresh_terms() == Ok((90_000, 0, 0, 90)));
 }
 
-/// A lease that is made at 0 and renewed at 30 s.
-fn renewed() -> Result<Lease, Fault> {
-    let mut lease = fresh(0)?;
-    lease.renew(moment(30_000)?);
-    Ok(lease)
-}
-
-/// The last update of a renewed lease.
-fn renewed_update() -> Result<u64, Fault> {
-    Ok(renewed()?.updated())
-}
-
-/// Whether a renewed lease has expired at that moment.
-fn has_renewed_expired(ms: u64) -> Result<bool, Fault> {
-    has_expired(&renewed()?, ms, 0)
-}
-
-#[test]
-fn a_renewed_lease_lasts_two(rt: HostRuntime) {
-    assert!(rt; renewed_update() == Ok(120_000));
-    assert!(rt; has_renewed_expired(210_000) == Ok(false));
-    assert!(rt; has_renewed_expired(210_001) == Ok(true));
-}
-
-/// A lease that is made at 5, and goes up at 7 and again at 9.
-fn upped() -> Result<Lease, Fault> {
-    let mut lease = fresh(5)?;
-    lease.service_up(moment(7)?);
-    lease.service_up(moment(9)?);
-    Ok(lease)
-}
-
-/// When such a lease went up.
-fn upped_up() -> Result<u64, Fault> {
-    Ok(upped()?.up())
-}
-
-/// When it went up if it begins anew at 11, when it was registered and updated then, and its deadline.
-fn upped_anew() -> Result<(u64, u64, u64, u64), Fault> {
-    let secs = LeaseSecs::new(30).ok_or(Fault::BadDuration)?;
-    let again = upped()?.anew(moment(11)?, secs);
-    let times = again.times();
-    Ok((
-        again.up(),
-        times.registered,
-        times.updated,
-        again.deadline(),
-    ))
-}
+/// 18446744073709551615 is 2^64 - 1.
+const LASTING: &str = "
+    # A fresh lease lasts one duration.
+    fresh 0 = 0 0 0 90000 90
+    expired 90000 0 = false
+    expired 90001 0 = true
+    expired 90001 1 = false
+    expired 90001 18446744073709551615 = false
+    # A renewed lease lasts two.
+    renew 30000 = 0 0 120000 210000 90
+    expired 210000 0 = false
+    expired 210001 0 = true
+    # The first moment up is kept, also by a lease that is made anew.
+    fresh 5 = 5 0 5 90005 90
+    up 7 = 5 7 5 90005 90
+    up 9 = 5 7 5 90005 90
+    anew 11 30 = 11 7 11 30011 30
+    times = Times { registered: 11, updated: 11, up: 7 }
+";
 
 #[test]
-fn the_first_moment_up_is_kept(rt: HostRuntime) {
-    assert!(rt; upped_up() == Ok(7));
-    assert!(rt; upped_anew() == Ok((7, 11, 11, 30_011)));
+fn a_lease_lasts_one_duration_and_a_renewed_one_two(rt: HostRuntime) {
+    let mut lease = Lease::fresh(at(0), LeaseSecs::DEFAULT);
+    assert_eq!(rt; first_wrong(rt.alloc(), &mut lease, LASTING), None);
 }
 
 #[test]
 fn the_first_rule_decides(rt: HostRuntime) {
-    let up = Status::Up;
-    let out = Status::OutOfService;
-    assert!(rt; override_rule(Status::Starting, Some(out), Some(up), false) == Status::Starting);
-    assert!(rt; override_rule(up, Some(out), Some(up), false) == out);
-    assert!(rt; override_rule(up, None, Some(out), false) == out);
-    assert!(rt; override_rule(up, None, Some(out), true) == up);
-    assert!(rt; override_rule(up, None, Some(Status::Down), false) == up);
+    let (up, out, down) = (Status::Up, Status::OutOfService, Status::Down);
+    for (own, row, held, replicated, given) in [
+        (
+            Status::Starting,
+            Some(out),
+            Some(up),
+            false,
+            Status::Starting,
+        ),
+        (up, Some(out), Some(up), false, out),
+        (up, None, Some(out), false, out),
+        (up, None, Some(out), true, up),
+        (up, None, Some(down), false, up),
+    ] {
+        let rule = override_rule(own, row, held, replicated);
+        assert!(rt; rule == given, "{own:?} {row:?} {held:?} {replicated}");
+    }
 }

@@ -1,394 +1,361 @@
-//! Leases, with what they answer worked out by hand.
-use eu_base::{App, Fault, Key, LeaseSecs, Moment, Stamp, Status};
-use eu_fixtures::{instance, key, key_of, moment};
+//! A table of leases: what is said to it, and what comes of that, worked out by hand.
+use crate::tests::lines::{Told, cut, first_wrong, number, read_app, read_said, tell_done};
+use crate::tests::texts::{tell_ids, tell_lease, tell_listing};
+use eu_base::{Fault, Instance, Key, Moment, Status};
+use eu_fixtures::{instance, key, moment};
 use eu_lease::Lease;
-use eu_model::Listed;
-use eu_store::{Amendment, HeldLease, Leases, Place, SharedInstance};
+use eu_model::Command;
+use eu_store::{Amendment, HeldLease, Leases, Place, SharedInstance, Snapshot};
+use eu_words::Line;
 use std::alloc::{AllocError, Global};
-use std::test::Fail;
 
-/// A lease of 10 s that is made at 0, of an instance that is UP.
-fn held(alloc: Global, id: &str) -> Result<HeldLease, Fault> {
-    let moment = moment(0)?;
-    let instance = instance(alloc, id, 7, 10)?;
+/// A table of leases, where one of them was found, and snapshots that were taken.
+///
+/// Of the commands of a script `register` puts a lease, or another in its place; `cancel` takes it; `renew` renews it; `set` renews it with its
+/// instance in that status and overridden by it; `unset` renews it, and its instance comes up; and `adopt` has it begin anew in these statuses.
+/// The answer is whether one was held. `by WORDS` does so where `find ID` found a lease before. `look` and `counts` are answered by the lease, and by
+/// how many are held.
+///
+/// `put ID ID` puts leases of application A, made at 0 for 10 s with the stamp 7; `new ID ID` begins anew with such, and `fill N` with so
+/// many, j0 and so on, each made at the moment of its number. `expired T` tells how many leases have expired, how many deadlines were
+/// read, and the ids. All leases are told by `list`, those of an application by `list APP`, and those of the snapshot that was taken as the Nth,
+/// from 0, by `snapshot N`. `snap` takes one.
+#[derive(Drop)]
+pub struct Desk {
+    leases: Leases,
+    found: Option<Place>,
+    snapshots: Vec<Snapshot>,
+}
+
+/// A lease of an instance, made at that moment.
+pub fn held(alloc: Global, instance: &Instance, moment: Moment) -> Result<HeldLease, AllocError> {
     let lease = Lease::fresh(moment, instance.secs);
-    let shared = SharedInstance::of(alloc, &instance, Status::Up, Status::Unknown)?;
+    let shared = SharedInstance::of(alloc, instance, instance.status, instance.overridden)?;
     Ok(HeldLease::new(shared, lease))
 }
 
-/// Puts such a lease under that key, where none is held.
-pub fn put(alloc: Global, leases: &mut Leases, key: Key, id: &str) -> Result<(), Fault> {
-    leases.reserve()?;
-    let held = held(alloc, id)?;
-    if leases.get(&key).is_none() {
-        leases.insert(key, held);
-    }
-    Ok(())
-}
-
-/// Where the lease of that key was found.
-fn place(leases: &Leases, key: &Key) -> Place {
-    leases.find(key).0
-}
-
-fn put_each(alloc: Global, leases: &mut Leases, ids: &[&str]) -> Result<(), Fault> {
-    for id in ids {
-        put(alloc, leases, key(alloc, id)?, id)?;
-    }
-    Ok(())
-}
-
-/// Leases of 10 s, made at 0, under these ids of application A.
-pub fn leases(alloc: Global, ids: &[&str]) -> Result<Leases, Fault> {
-    let mut leases = Leases::new(alloc);
-    put_each(alloc, &mut leases, ids)?;
-    Ok(leases)
-}
-
-/// Whether there is something, which is dropped.
-fn is_there<T: Drop>(found: Option<T>) -> bool {
-    found.is_some()
-}
-
-/// Whether i1 can be taken, once and again, and how many leases are left.
-fn taken_twice(alloc: Global, leases: &mut Leases) -> Result<(bool, bool, usize), Fault> {
-    let first = key(alloc, "i1")?;
-    let place = place(leases, &first);
-    let taken = is_there(leases.take(&first, place));
-    let again = is_there(leases.take(&first, place));
-    Ok((taken, again, leases.len()))
-}
-
-#[test]
-fn a_lease_is_put_and_taken(rt: HostRuntime) -> Result<(), Fail> {
-    let mut leases = leases(rt.alloc(), &["i1", "i2"])?;
-    let len = leases.len();
-    let left = taken_twice(rt.alloc(), &mut leases);
-    drop(leases);
-    assert_eq!(rt; len, 2);
-    assert!(rt; left == Ok((true, false, 1)));
-    Ok(())
-}
-
-/// Whether there is an i1 to replace.
-fn replaced(alloc: Global, leases: &mut Leases) -> Result<bool, Fault> {
-    let first = key(alloc, "i1")?;
-    let again = held(alloc, "i1")?;
-    let place = place(leases, &first);
-    Ok(leases.amend(&first, place, Amendment::Replaced(again)))
-}
-
-#[test]
-fn a_lease_is_put_again(rt: HostRuntime) -> Result<(), Fail> {
-    let mut leases = leases(rt.alloc(), &["i1"])?;
-    let replaced = replaced(rt.alloc(), &mut leases);
-    let len = leases.len();
-    drop(leases);
-    assert!(rt; replaced == Ok(true));
-    assert_eq!(rt; len, 1);
-    Ok(())
-}
-
-/// The last update of a lease.
-fn updated(leases: &Leases, key: &Key) -> Option<u64> {
-    match leases.get(key) {
-        Some(held) => Some(held.times().updated),
-        None => None,
-    }
-}
-
-/// Renews the lease of that key.
-fn renew(leases: &mut Leases, key: &Key, place: Place, moment: Moment) -> bool {
-    leases.amend(key, place, Amendment::Renewed { moment })
-}
-
-/// What renews a lease and has its instance come up.
-fn up(moment: Moment) -> Amendment {
-    Amendment::InStatuses {
-        moment,
-        status: Status::Up,
-        overridden: Status::Unknown,
-        last_dirty: None,
-        comes_up: true,
-    }
-}
-
-/// What renews a lease and puts its instance DOWN, with that stamp.
-fn down(moment: Moment, last_dirty: Option<Stamp>) -> Amendment {
-    Amendment::InStatuses {
-        moment,
-        status: Status::Down,
-        overridden: Status::Down,
-        last_dirty,
-        comes_up: false,
-    }
-}
-
-/// The last update of i1, where it is renewed and comes up at 5, and is then renewed with other statuses.
-fn renewed(alloc: Global, leases: &mut Leases) -> Result<Option<u64>, Fault> {
-    let now = moment(5)?;
-    let first = key(alloc, "i1")?;
-    let place = place(leases, &first);
-    if !renew(leases, &first, place, now) || !leases.amend(&first, place, up(now)) {
-        return Ok(None);
-    }
-    let updated = updated(leases, &first);
-    if !leases.amend(&first, place, down(now, None)) {
-        return Ok(None);
-    }
-    Ok(updated)
-}
-
-#[test]
-fn a_lease_is_renewed(rt: HostRuntime) -> Result<(), Fail> {
-    let mut leases = leases(rt.alloc(), &["i1"])?;
-    let updated = renewed(rt.alloc(), &mut leases);
-    drop(leases);
-    assert!(rt; updated == Ok(Some(10_005)));
-    Ok(())
-}
-
-/// The ids that have expired once i1 is taken and the last is renewed, each where it was found before.
-fn changed_by_old_hints(alloc: Global, leases: &mut Leases) -> Result<String, Fault> {
-    let now = moment(5)?;
-    let (first, last) = (key(alloc, "i1")?, key(alloc, "i3")?);
-    let (place, old) = (place(leases, &first), place(leases, &last));
-    let taken = is_there(leases.take(&first, place));
-    let renewed = renew(leases, &last, old, now) && renew(leases, &last, place, now);
-    if !taken || !renewed || renew(leases, &first, place, now) {
-        return Ok(String::new(alloc));
-    }
-    expired(alloc, leases, 10_001)
-}
-
-/// A taken lease's place is that of the last one then.
-#[test]
-fn a_hint_may_be_old(rt: HostRuntime) -> Result<(), Fail> {
-    let mut leases = leases(rt.alloc(), &["i1", "i2", "i3"])?;
-    let told = changed_by_old_hints(rt.alloc(), &mut leases);
-    drop(leases);
-    assert_eq!(rt; told?.as_str(), "i2,");
-    Ok(())
-}
-
-/// The stamp and the duration of a held instance.
-fn stamp(leases: &Leases, key: &Key) -> Option<(u64, u32)> {
-    match leases.get(key) {
-        Some(held) => Some((
-            held.instance().last_dirty().value(),
-            held.instance().secs().secs(),
-        )),
-        None => None,
-    }
-}
-
-/// The same of i1, when it is renewed and DOWN with that stamp.
-fn amended(
+/// Puts a lease under its key, in the place of one that is held. Tells whether one is.
+pub fn put(
     alloc: Global,
     leases: &mut Leases,
-    last_dirty: u64,
-) -> Result<Option<(u64, u32)>, Fault> {
-    let (now, stamped) = (moment(5)?, Stamp::new(last_dirty));
-    let first = key(alloc, "i1")?;
-    let place = place(leases, &first);
-    if !leases.amend(&first, place, down(now, stamped)) {
-        return Ok(None);
+    instance: &Instance,
+    moment: Moment,
+) -> Result<bool, Fault> {
+    let key = instance.key.copy(alloc)?;
+    let held = held(alloc, instance, moment)?;
+    leases.reserve()?;
+    if leases.get(&key).is_none() {
+        leases.insert(key, held);
+        return Ok(false);
     }
-    Ok(stamp(leases, &first))
+    let place = leases.find(&key).0;
+    Ok(leases.amend(&key, place, Amendment::Replaced(held)))
 }
 
-#[test]
-fn a_greater_stamp_is_taken(rt: HostRuntime) -> Result<(), Fail> {
-    let mut leases = leases(rt.alloc(), &["i1"])?;
-    let less = amended(rt.alloc(), &mut leases, 6);
-    let greater = amended(rt.alloc(), &mut leases, 8);
-    drop(leases);
-    assert!(rt; less == Ok(Some((7, 10))));
-    assert!(rt; greater == Ok(Some((8, 10))));
+/// Puts a lease of application A for 10 s with the stamp 7, made at that moment.
+fn put_one(alloc: Global, leases: &mut Leases, id: &str, ms: u64) -> Result<(), Fault> {
+    let instance = instance(alloc, id, 7, 10)?;
+    put(alloc, leases, &instance, moment(ms)?)?;
     Ok(())
 }
 
-/// The stamp and the duration of i1, when it begins anew at 4, for 30 s.
-fn rejoined(alloc: Global, leases: &mut Leases) -> Result<Option<(u64, u32)>, Fault> {
-    let secs = LeaseSecs::new(30).ok_or(Fault::BadDuration)?;
-    let lease = Lease::fresh(moment(4)?, secs);
-    let first = key(alloc, "i1")?;
-    let place = place(leases, &first);
-    let amendment = Amendment::Rejoined {
-        status: Status::OutOfService,
-        overridden: Status::Down,
-        lease,
-    };
-    let found = leases.amend(&first, place, amendment);
-    let told = stamp(leases, &first);
-    Ok(if found { told } else { None })
-}
-
-#[test]
-fn a_held_lease_begins_anew(rt: HostRuntime) -> Result<(), Fail> {
-    let mut leases = leases(rt.alloc(), &["i1"])?;
-    let told = rejoined(rt.alloc(), &mut leases);
-    drop(leases);
-    assert!(rt; told == Ok(Some((7, 30))));
-    Ok(())
-}
-
-/// The ids of the leases that have expired at a moment, each before a comma.
-pub fn expired(alloc: Global, leases: &Leases, ms: u64) -> Result<String, Fault> {
-    let keys = leases.expired_keys(alloc, moment(ms)?, 0)?;
-    let mut told = String::new(alloc);
-    for key in &keys {
-        told.push_str(key.id.as_str())?;
-        told.push_str(",")?;
+/// Puts such leases, made at 0.
+pub fn put_each(alloc: Global, leases: &mut Leases, ids: &str) -> Result<(), Fault> {
+    for id in ids.split(' ') {
+        put_one(alloc, leases, id, 0)?;
     }
-    Ok(told)
-}
-
-#[test]
-fn expired_keys_come_in_order(rt: HostRuntime) -> Result<(), Fail> {
-    let leases = leases(rt.alloc(), &["i3", "i1", "i2"])?;
-    let told = expired(rt.alloc(), &leases, 10_001);
-    drop(leases);
-    assert_eq!(rt; told?.as_str(), "i1,i2,i3,");
     Ok(())
 }
 
-#[test]
-fn none_has_expired_at_its_deadline(rt: HostRuntime) -> Result<(), Fail> {
-    let leases = leases(rt.alloc(), &["i1"])?;
-    let told = expired(rt.alloc(), &leases, 10_000);
-    drop(leases);
-    assert_eq!(rt; told?.as_str(), "");
-    Ok(())
-}
-
-/// The ids, statuses and last updates of a listing.
-pub fn told(alloc: Global, listing: &[Listed]) -> Result<String, AllocError> {
-    let mut told = String::new(alloc);
-    for listed in listing {
-        let id = listed.instance.key.id.as_str();
-        let status = listed.instance.status.name();
-        let updated = listed.times.updated;
-        write!(told, "{id} {status} {updated} ")?;
+/// The key of the lease that a command is on.
+fn key_of(command: &Command) -> Result<&Key, Fault> {
+    match command {
+        Command::Register { instance, .. } | Command::Adopt { instance } => Ok(&instance.key),
+        Command::Renew { key, .. }
+        | Command::Cancel { key, .. }
+        | Command::SetStatus { key, .. }
+        | Command::UnsetStatus { key, .. } => Ok(key),
+        _ => Err(Fault::BadValue),
     }
-    Ok(told)
 }
 
-/// Whether that is told of everything that is held.
-fn lists(alloc: Global, leases: &Leases, text: &str) -> Result<bool, Fault> {
-    let listing = leases.listed(alloc, None)?;
-    Ok(told(alloc, &listing)?.as_str() == text)
+/// What a command makes of a lease that is held.
+fn amendment(command: &Command, moment: Moment) -> Result<Amendment, Fault> {
+    match command {
+        Command::Renew { .. } => Ok(Amendment::Renewed { moment }),
+        Command::SetStatus {
+            status,
+            last_dirty,
+            ..
+        } => Ok(Amendment::InStatuses {
+            moment,
+            status: *status,
+            overridden: *status,
+            last_dirty: *last_dirty,
+            comes_up: false,
+        }),
+        Command::UnsetStatus { .. } => Ok(Amendment::InStatuses {
+            moment,
+            status: Status::Up,
+            overridden: Status::Unknown,
+            last_dirty: None,
+            comes_up: true,
+        }),
+        Command::Adopt { instance } => Ok(Amendment::Rejoined {
+            status: instance.status,
+            overridden: instance.overridden,
+            lease: Lease::fresh(moment, instance.secs),
+        }),
+        _ => Err(Fault::BadValue),
+    }
 }
 
-/// Whether that is told of what is held of that application.
-fn lists_of(alloc: Global, leases: &Leases, app: &str, text: &str) -> Result<bool, Fault> {
-    let app = App::read(alloc, app)?;
-    let listing = leases.listed(alloc, Some(&app))?;
-    Ok(told(alloc, &listing)?.as_str() == text)
+/// Does what a command says, at that place or where its lease is found. Tells whether one is held.
+fn change(
+    alloc: Global,
+    leases: &mut Leases,
+    command: &Command,
+    moment: Moment,
+    hint: Option<Place>,
+) -> Result<bool, Fault> {
+    let key = key_of(command)?;
+    let hint = hint.unwrap_or(leases.find(key).0);
+    match command {
+        Command::Register { instance, .. } => put(alloc, leases, instance, moment),
+        Command::Cancel { .. } => Ok(leases.take(key, hint).is_some()),
+        command => Ok(leases.amend(key, hint, amendment(command, moment)?)),
+    }
 }
 
-/// Renews i3 at 5, and puts it DOWN.
-fn put_down(alloc: Global, leases: &mut Leases) -> Result<bool, Fault> {
-    let now = moment(5)?;
-    let third = key(alloc, "i3")?;
-    let place = place(leases, &third);
-    Ok(leases.amend(&third, place, down(now, None)))
-}
-
-#[test]
-fn everything_is_listed_in_key_order(rt: HostRuntime) -> Result<(), Fail> {
-    let mut leases = leases(rt.alloc(), &["i3", "i1", "i10", "i2"])?;
-    let text = "i1 UP 0 i10 UP 0 i2 UP 0 i3 DOWN 10005 ";
-    let down = put_down(rt.alloc(), &mut leases);
-    let all = lists(rt.alloc(), &leases, text);
-    let of_app = lists_of(rt.alloc(), &leases, "a", text);
-    drop(leases);
-    assert!(rt; down == Ok(true));
-    assert!(rt; all == Ok(true));
-    assert!(rt; of_app == Ok(true));
-    Ok(())
-}
-
-/// Whether each application lists its own.
-fn each_lists(alloc: Global, leases: &Leases, cases: &[(&str, &str)]) -> Result<bool, Fault> {
-    for (app, text) in cases {
-        if !lists_of(alloc, leases, app, text)? {
-            return Ok(false);
+impl Desk {
+    /// No lease.
+    pub fn new(alloc: Global) -> Desk {
+        Desk {
+            leases: Leases::new(alloc),
+            found: None,
+            snapshots: Vec::new(alloc),
         }
     }
-    Ok(true)
+
+    /// Begins anew with leases that are made at 0.
+    fn begin(&mut self, alloc: Global, ids: &str) -> Result<(), Fault> {
+        *self = Desk::new(alloc);
+        put_each(alloc, &mut self.leases, ids)
+    }
+
+    /// Begins anew with so many, each made at the moment of its number.
+    fn fill(&mut self, alloc: Global, words: &str) -> Result<(), Fault> {
+        *self = Desk::new(alloc);
+        for number in 0..number(words)? {
+            let id = format!(in alloc; "j{number}")?;
+            put_one(alloc, &mut self.leases, id.as_str(), number)?;
+        }
+        Ok(())
+    }
+
+    /// Notes where a lease is found.
+    fn find(&mut self, alloc: Global, id: &str) -> Result<(), Fault> {
+        let key = key(alloc, id)?;
+        self.found = Some(self.leases.find(&key).0);
+        Ok(())
+    }
+
+    fn tell_expired(&self, alloc: Global, words: &str, out: &mut String) -> Result<(), Fault> {
+        let now = moment(number(words)?)?;
+        let (counted, read) = self.leases.expired_counted(alloc, now, 0)?;
+        write!(out, "{} {read}:", counted.len())?;
+        drop(counted);
+        let keys = self.leases.expired_keys(alloc, now, 0)?;
+        Ok(tell_ids(out, keys.as_slice())?)
+    }
+
+    fn list(&self, alloc: Global, app: &str, out: &mut String) -> Result<(), Fault> {
+        let app = read_app(alloc, app)?;
+        let leases = self.leases.listed(alloc, app.as_ref())?;
+        Ok(tell_listing(out, leases.as_slice())?)
+    }
+
+    fn snap(&mut self, alloc: Global) -> Result<(), Fault> {
+        let snapshot = self.leases.snapshot(alloc)?;
+        Ok(self.snapshots.push(snapshot)?)
+    }
+
+    fn tell_snapshot(&self, alloc: Global, words: &str, out: &mut String) -> Result<(), Fault> {
+        let Some(snapshot) = self.snapshots.get(number(words)? as usize) else {
+            return Err(Fault::BadValue);
+        };
+        let leases = snapshot.listed(alloc)?;
+        Ok(tell_listing(out, leases.as_slice())?)
+    }
+
+    /// Does what a line of a script says, at that place or where its lease is found.
+    fn say(
+        &mut self,
+        alloc: Global,
+        words: &str,
+        hint: Option<Place>,
+        out: &mut String,
+    ) -> Result<(), Fault> {
+        match read_said(alloc, words)? {
+            Line::Apply { moment, command } => {
+                let was_held = change(alloc, &mut self.leases, &command, moment, hint)?;
+                Ok(write!(out, "{was_held}")?)
+            }
+            Line::Look { moment: _, key } => match self.leases.get(&key) {
+                Some(held) => Ok(tell_lease(out, Some((held.instance(), held.times())))?),
+                None => Ok(tell_lease(out, None)?),
+            },
+            Line::Counts { .. } => Ok(write!(out, "{}", self.leases.len())?),
+            _ => Err(Fault::BadValue),
+        }
+    }
 }
+
+impl Told for Desk {
+    fn tell(&mut self, alloc: Global, said: &str, out: &mut String) -> Result<(), Fault> {
+        let (verb, rest) = cut(said);
+        match verb {
+            "new" => tell_done(out, self.begin(alloc, rest)),
+            "put" => tell_done(out, put_each(alloc, &mut self.leases, rest)),
+            "fill" => tell_done(out, self.fill(alloc, rest)),
+            "find" => tell_done(out, self.find(alloc, rest)),
+            "snap" => tell_done(out, self.snap(alloc)),
+            "by" => self.say(alloc, rest, self.found, out),
+            "expired" => self.tell_expired(alloc, rest, out),
+            "list" => self.list(alloc, rest, out),
+            "snapshot" => self.tell_snapshot(alloc, rest, out),
+            _ => self.say(alloc, said, None, out),
+        }
+    }
+}
+
+const CHANGED: &str = "
+    # A lease is put and taken, and put again.
+    new i1 i2 = done
+    counts 0 = 2
+    cancel 0 A i1 c = true
+    cancel 0 A i1 c = false
+    counts 0 = 1
+    new i1 = done
+    register 0 A i1 10 UP UNKNOWN 7 c = true
+    counts 0 = 1
+    # A lease is renewed, and its instance comes up; it is renewed with other statuses.
+    new i1 = done
+    renew 5 A i1 - - c = true
+    unset 5 A i1 UP - c = true
+    look 0 A i1 = UP 7 10 10005
+    set 5 A i1 DOWN - c = true
+    look 0 A i1 = DOWN 7 10 10005
+    # A hint may be old: a taken lease's place is that of the last one then.
+    new i1 i2 i3 = done
+    find i3 = done
+    cancel 0 A i1 c = true
+    by renew 5 A i3 - - c = true
+    renew 5 A i3 - - c = true
+    find i3 = done
+    by renew 5 A i1 - - c = false
+    expired 10001 = 1 2: i2
+    # A greater stamp is taken.
+    new i1 = done
+    set 5 A i1 DOWN 6 c = true
+    look 0 A i1 = DOWN 7 10 10005
+    set 5 A i1 DOWN 8 c = true
+    look 0 A i1 = DOWN 8 10 10005
+    # A held lease begins anew, and keeps its stamp.
+    new i1 = done
+    adopt 4 A i1 30 OUT_OF_SERVICE DOWN 0 = true
+    look 0 A i1 = OUT_OF_SERVICE 7 30 4
+";
 
 #[test]
-fn an_application_lists_its_own(rt: HostRuntime) -> Result<(), Fail> {
-    let other = key_of(rt.alloc(), "AA", "i0")?;
-    let mut leases = leases(rt.alloc(), &["i2", "i1"])?;
-    let was_put = put(rt.alloc(), &mut leases, other, "i0");
-    let cases = [("A", "i1 UP 0 i2 UP 0 "), ("aa", "i0 UP 0 "), ("B", "")];
-    let own = each_lists(rt.alloc(), &leases, &cases);
-    let all = snaps(rt.alloc(), &mut leases, "i1 UP 0 i2 UP 0 i0 UP 0 ");
-    let own_again = each_lists(rt.alloc(), &leases, &cases);
-    drop(leases);
-    assert!(rt; was_put.is_ok());
-    assert!(rt; own == Ok(true));
-    assert!(rt; all == Ok(true));
-    assert!(rt; own_again == Ok(true));
-    Ok(())
+fn leases_are_put_amended_and_taken(rt: HostRuntime) {
+    let mut desk = Desk::new(rt.alloc());
+    assert_eq!(rt; first_wrong(rt.alloc(), &mut desk, CHANGED), None);
 }
 
-/// Whether that is told of a snapshot, and of the listing that is made beside it.
-fn snaps(alloc: Global, leases: &mut Leases, text: &str) -> Result<bool, Fault> {
-    let snapshot = leases.snapshot(alloc)?;
-    let listing = snapshot.listed(alloc)?;
-    Ok(told(alloc, &listing)?.as_str() == text && lists(alloc, leases, text)?)
-}
-
-/// Whether i2 is put, and i3 renewed, and each snapshot tells so.
-fn snaps_grow(alloc: Global, leases: &mut Leases) -> Result<bool, Fault> {
-    let third = key(alloc, "i3")?;
-    let place = place(leases, &third);
-    let before = snaps(alloc, leases, "i1 UP 0 i3 UP 0 ")?;
-    put_each(alloc, leases, &["i2"])?;
-    let grown = snaps(alloc, leases, "i1 UP 0 i2 UP 0 i3 UP 0 ")?;
-    let renewed = renew(leases, &third, place, moment(5)?);
-    Ok(before && grown && renewed && snaps(alloc, leases, "i1 UP 0 i2 UP 0 i3 UP 10005 ")?)
-}
-
-/// Whether i3 is put down and i1 taken, and each snapshot tells so.
-fn snaps_shrink(alloc: Global, leases: &mut Leases) -> Result<bool, Fault> {
-    let first = key(alloc, "i1")?;
-    let place = place(leases, &first);
-    let down = put_down(alloc, leases)?;
-    let changed = snaps(alloc, leases, "i1 UP 0 i2 UP 0 i3 DOWN 10005 ")?;
-    let taken = is_there(leases.take(&first, place));
-    Ok(down && changed && taken && snaps(alloc, leases, "i2 UP 0 i3 DOWN 10005 ")?)
-}
+const EXPIRED: &str = "
+    # Expired keys come in order.
+    new i3 i1 i2 = done
+    expired 10001 = 3 3: i1 i2 i3
+    # None has expired at its deadline.
+    new i1 = done
+    expired 10000 = 0 1:
+    # Few deadlines are read.
+    fill 1000 = done
+    expired 10003 = 3 7: j0 j1 j2
+    expired 10000 = 0 1:
+    # No deadline is read twice, and none that isn't there.
+    fill 0 = done
+    expired 10003 = 0 0:
+    fill 1 = done
+    expired 10003 = 1 1: j0
+    fill 4 = done
+    expired 10003 = 3 4: j0 j1 j2
+    # What lies below a deadline that hasn't passed isn't read.
+    fill 0 = done
+    register 0 A j0 10 UP UNKNOWN 0 c = false
+    register 5000 A j1 10 UP UNKNOWN 0 c = false
+    register 1 A j2 10 UP UNKNOWN 0 c = false
+    register 6000 A j3 10 UP UNKNOWN 0 c = false
+    expired 10002 = 2 3: j0 j2
+";
 
 #[test]
-fn snapshots_follow_each_step(rt: HostRuntime) -> Result<(), Fail> {
-    let mut leases = leases(rt.alloc(), &["i3", "i1"])?;
-    let grown = snaps_grow(rt.alloc(), &mut leases);
-    let shrunk = snaps_shrink(rt.alloc(), &mut leases);
-    drop(leases);
-    assert!(rt; grown == Ok(true));
-    assert!(rt; shrunk == Ok(true));
-    Ok(())
+fn few_deadlines_are_read(rt: HostRuntime) {
+    let mut desk = Desk::new(rt.alloc());
+    assert_eq!(rt; first_wrong(rt.alloc(), &mut desk, EXPIRED), None);
 }
 
-/// What a snapshot tells after i3 was put down and a new one was taken.
-fn snapped_before(alloc: Global, leases: &mut Leases) -> Result<String, Fault> {
-    let before = leases.snapshot(alloc)?;
-    put_down(alloc, leases)?;
-    drop(leases.snapshot(alloc)?);
-    let listing = before.listed(alloc)?;
-    Ok(told(alloc, &listing)?)
-}
+const LISTED: &str = "
+    # Everything is listed in key order.
+    new i3 i1 i10 i2 = done
+    set 5 A i3 DOWN - c = true
+    list = 4 i1 UP 0 i10 UP 0 i2 UP 0 i3 DOWN 10005
+    list a = 4 i1 UP 0 i10 UP 0 i2 UP 0 i3 DOWN 10005
+    # An application lists its own, with a snapshot and without.
+    new i2 i1 = done
+    register 0 AA i0 10 UP UNKNOWN 7 c = false
+    list A = 2 i1 UP 0 i2 UP 0
+    list aa = 1 i0 UP 0
+    list B = 0
+    snap = done
+    snapshot 0 = 3 i1 UP 0 i2 UP 0 i0 UP 0
+    list = 3 i1 UP 0 i2 UP 0 i0 UP 0
+    list A = 2 i1 UP 0 i2 UP 0
+    list aa = 1 i0 UP 0
+    list B = 0
+    # Snapshots follow each step, and so does what is listed beside them.
+    new i3 i1 = done
+    snap = done
+    snapshot 0 = 2 i1 UP 0 i3 UP 0
+    list = 2 i1 UP 0 i3 UP 0
+    put i2 = done
+    snap = done
+    snapshot 1 = 3 i1 UP 0 i2 UP 0 i3 UP 0
+    list = 3 i1 UP 0 i2 UP 0 i3 UP 0
+    renew 5 A i3 - - c = true
+    snap = done
+    snapshot 2 = 3 i1 UP 0 i2 UP 0 i3 UP 10005
+    list = 3 i1 UP 0 i2 UP 0 i3 UP 10005
+    set 5 A i3 DOWN - c = true
+    snap = done
+    snapshot 3 = 3 i1 UP 0 i2 UP 0 i3 DOWN 10005
+    list = 3 i1 UP 0 i2 UP 0 i3 DOWN 10005
+    cancel 0 A i1 c = true
+    snap = done
+    snapshot 4 = 2 i2 UP 0 i3 DOWN 10005
+    list = 2 i2 UP 0 i3 DOWN 10005
+    # A snapshot stays as it was.
+    new i3 i1 = done
+    snap = done
+    set 5 A i3 DOWN - c = true
+    snap = done
+    snapshot 1 = 2 i1 UP 0 i3 DOWN 10005
+    snapshot 0 = 2 i1 UP 0 i3 UP 0
+";
 
 #[test]
-fn a_snapshot_stays_as_it_was(rt: HostRuntime) -> Result<(), Fail> {
-    let mut leases = leases(rt.alloc(), &["i3", "i1"])?;
-    let text = snapped_before(rt.alloc(), &mut leases);
-    drop(leases);
-    assert_eq!(rt; text?.as_str(), "i1 UP 0 i3 UP 0 ");
-    Ok(())
+fn snapshots_and_listings_follow_each_step(rt: HostRuntime) {
+    let mut desk = Desk::new(rt.alloc());
+    assert_eq!(rt; first_wrong(rt.alloc(), &mut desk, LISTED), None);
 }

@@ -1,12 +1,85 @@
-//! Texts put together from their parts.
-use eu_fixtures::push_number;
+//! What comes of calls, as text.
+use eu_base::{Fault, Key};
+use eu_core::{SharedInstance, Stepped};
+use eu_model::{Listed, Reply, State, Times};
 use std::alloc::AllocError;
 
-/// Writes numbers, each behind a colon.
-pub fn push_numbers(out: &mut String, numbers: &[u64]) -> Result<(), AllocError> {
-    for number in numbers {
-        out.push_str(":")?;
-        push_number(out, *number)?;
+/// Writes ids, each behind a space.
+pub fn tell_ids(out: &mut String, keys: &[Key]) -> Result<(), AllocError> {
+    for key in keys {
+        write!(out, " {}", key.id.as_str())?;
+    }
+    Ok(())
+}
+
+/// Writes a reply: of a conflict the stamp that is held, of an eviction the ids.
+fn tell_reply(out: &mut String, reply: &Reply) -> Result<(), AllocError> {
+    match reply {
+        Reply::Conflict(held) => write!(out, "Conflict {}", held.last_dirty.value()),
+        Reply::Evicted(victims) => {
+            out.push_str("Evicted")?;
+            tell_ids(out, victims.as_slice())
+        }
+        other => write!(out, "{other:?}"),
+    }
+}
+
+/// Writes what a call is answered, but for a want of memory, which stays a fault.
+pub fn tell_answer(out: &mut String, answer: Result<Reply, Fault>) -> Result<(), Fault> {
+    match answer {
+        Ok(reply) => Ok(tell_reply(out, &reply)?),
+        Err(Fault::OutOfMemory) => Err(Fault::OutOfMemory),
+        Err(fault) => Ok(write!(out, "refused {}", fault.number())?),
+    }
+}
+
+/// Writes the reply as a journal keeps it, as who asked is told it, and as their log keeps it, where they have one; and the
+/// status, the stamp and the duration of each copy.
+pub fn tell_step(out: &mut String, stepped: &Stepped) -> Result<(), AllocError> {
+    tell_reply(out, &stepped.answered.reply)?;
+    out.push_str(", ")?;
+    tell_reply(out, &stepped.answered.answer)?;
+    if let Some(logged) = &stepped.answered.logged {
+        out.push_str(", ")?;
+        tell_reply(out, logged)?;
+    }
+    for held in stepped.held.as_slice() {
+        let (last_dirty, secs) = (held.last_dirty.value(), held.secs.secs());
+        write!(out, "; {} {last_dirty} {secs}", held.status.name())?;
+    }
+    Ok(())
+}
+
+/// Writes the status, the stamp, the duration and the last update of a lease, if there is one.
+pub fn tell_lease(
+    out: &mut String,
+    lease: Option<(&SharedInstance, Times)>,
+) -> Result<(), AllocError> {
+    let Some((instance, times)) = lease else {
+        return out.push_str("none");
+    };
+    let (status, updated) = (instance.status().name(), times.updated);
+    let (last_dirty, secs) = (instance.last_dirty().value(), instance.secs().secs());
+    write!(out, "{status} {last_dirty} {secs} {updated}")
+}
+
+/// Writes how many leases there are, and the id, the status and the last update of each.
+pub fn tell_listing(out: &mut String, leases: &[Listed]) -> Result<(), AllocError> {
+    write!(out, "{}", leases.len())?;
+    for listed in leases {
+        let (id, status) = (listed.instance.key.id.as_str(), listed.instance.status);
+        write!(out, " {id} {} {}", status.name(), listed.times.updated)?;
+    }
+    Ok(())
+}
+
+/// Writes how many clients are expected, the renewals of the last minute and of this one, the leases and the rows.
+pub fn tell_plain(out: &mut String, state: &State) -> Result<(), AllocError> {
+    let (expected, last, since) = (state.expected, state.last, state.since);
+    write!(out, "{expected} {last} {since}; ")?;
+    tell_listing(out, state.leases.as_slice())?;
+    for row in state.overrides.as_slice() {
+        write!(out, " {}={}", row.0.as_str(), row.1.name())?;
     }
     Ok(())
 }

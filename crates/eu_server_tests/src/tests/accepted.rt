@@ -11,9 +11,29 @@ use std::thread::Threads;
 use std::time::{Clock, Duration, Instant};
 use std::{io, thread};
 
+/// How long a connection waits for a read and for a write, and how much longer it may, in milliseconds: the system rounds short times up to its
+/// ticks. Either may be longer than the other, and both longer than those of a server. A time of 0 counts as 1: where it counted as none, no
+/// connection could be prepared, and each would be passed over.
+const TIMEOUTS: [(u64, u64, u64); 5] = [
+    (2_000, 3_000, 0),
+    (3_000, 2_000, 0),
+    (20_000, 30_000, 0),
+    (30_000, 20_000, 0),
+    (0, 0, 20),
+];
+
+/// Whether a time is so long, or longer by so much at most.
+fn is_near(time: Option<Duration>, ms: u64, more: u64) -> bool {
+    let least = Duration::from_millis(ms);
+    time.is_some_and(|time| time >= least
+        && time <= least.saturating_add(Duration::from_millis(more)))
+}
+
 /// Whether a connection sends each response at once, and waits so long for a read and for a write.
-fn is_prepared(stream: &TcpStream, read: Duration, write: Duration) -> io::Result<bool> {
-    let waits = stream.read_timeout()? == Some(read) && stream.write_timeout()? == Some(write);
+fn is_prepared(stream: &TcpStream, timeouts: (u64, u64, u64)) -> io::Result<bool> {
+    let (read, write, more) = timeouts;
+    let waits = is_near(stream.read_timeout()?, read, more)
+        && is_near(stream.write_timeout()?, write, more);
     Ok(waits && stream.nodelay()?)
 }
 
@@ -37,57 +57,28 @@ fn next_prepared<R: Wait + Clock>(
     Ok(connections.next())
 }
 
-/// Whether both sides of a listener's next connection are prepared with such timeouts, in milliseconds.
+/// Whether both sides of a listener's next connection are prepared with such timeouts.
 fn prepares<R: Wait + Clock + Net<Listener = TcpListener, Stream = TcpStream>>(
     rt: &R,
-    read: u64,
-    write: u64,
+    timeouts: (u64, u64, u64),
 ) -> io::Result<bool> {
     let listener = TcpListener::bind(rt, "127.0.0.1:0")?;
     let client = TcpStream::connect(rt, listener.local_addr()?)?;
-    let next = next_prepared(rt, &listener, read, write)?;
+    let next = next_prepared(rt, &listener, timeouts.0, timeouts.1)?;
     drop(client);
-    let (read, write) = (Duration::from_millis(read), Duration::from_millis(write));
     match next {
         Some((reader, writer)) => {
-            Ok(is_prepared(&reader, read, write)? && is_prepared(&writer, read, write)?)
+            Ok(is_prepared(&reader, timeouts)? && is_prepared(&writer, timeouts)?)
         }
         None => Ok(false),
     }
 }
 
-/// Either timeout may be the longer one, and both may be longer than those of a server.
 #[test]
 fn a_connection_is_prepared(rt: HostRuntime) -> Result<(), Fail> {
-    assert!(rt; prepares(&rt, 2_000, 3_000)?);
-    assert!(rt; prepares(&rt, 3_000, 2_000)?);
-    assert!(rt; prepares(&rt, 20_000, 30_000)?);
-    assert!(rt; prepares(&rt, 30_000, 20_000)?);
-    Ok(())
-}
-
-/// Whether a stream has a timeout of 1 ms, as the system rounds it up to its ticks.
-fn is_short(timeout: Option<Duration>) -> bool {
-    match timeout {
-        Some(time) => time <= Duration::from_millis(20),
-        None => false,
+    for timeouts in &TIMEOUTS {
+        assert!(rt; prepares(&rt, *timeouts)?, "{timeouts:?}");
     }
-}
-
-/// Where it counted as none, no connection could be prepared, and each would be passed over.
-#[test]
-fn a_timeout_of_0_counts_as_1(rt: HostRuntime) -> Result<(), Fail> {
-    let listener = TcpListener::bind(&rt, "127.0.0.1:0")?;
-    let client = TcpStream::connect(&rt, listener.local_addr()?)?;
-    let next = next_prepared(&rt, &listener, 0, 0)?;
-    drop(client);
-    assert!(rt;
-        match next {
-            Some((reader, writer)) => is_short(reader.read_timeout()?)
-                && is_short(writer.write_timeout()?),
-            None => false,
-        }
-    );
     Ok(())
 }
 

@@ -1,12 +1,9 @@
 //! Requests whose lines end with a bare LF, each in two writes: a server answers them at their last byte.
-use crate::tests::servers::{beside, listen, plan};
+use crate::tests::client::Step;
+use crate::tests::servers::{Way, plan, plays};
 use eu_fixtures::{BAD_CHUNK, BAD_HEAD, LAST_MISSING};
-use std::alloc::Global;
-use std::io::{Read, Write};
-use std::net::{Net, SocketAddr, TcpStream};
+use std::alloc::{AllocError, Global};
 use std::test::Fail;
-use std::time::{Clock, Duration};
-use std::{io, thread};
 
 /// Requests up to the byte at which they are answered, with the answers.
 const REQUESTS: [(&str, &str); 5] = [
@@ -29,90 +26,35 @@ const REQUESTS: [(&str, &str); 5] = [
     ),
 ];
 
-/// How many connections there are: one for each cut of each request.
-fn connections() -> u32 {
-    let mut count = 0u32;
-    for (request, _) in &REQUESTS {
-        for _ in 1..request.len() {
-            count = count.saturating_add(1);
-        }
-    }
-    count
-}
-
-/// What a client reads of its connection that sends a request in two writes, and then nothing.
-fn answered_in_two<R: Clock>(
-    rt: &R,
-    alloc: Global,
-    stream: TcpStream,
-    request: (&[u8], &[u8]),
-) -> io::Result<Vec<u8>> {
-    let mut stream = stream;
-    stream.set_nodelay(true)?;
-    stream.set_read_timeout(Some(Duration::from_secs(8)))?;
-    stream.write_all(request.0)?;
-    thread::sleep(rt, Duration::from_millis(1));
-    stream.write_all(request.1)?;
-    let mut answer = Vec::new(alloc);
-    stream.read_to_end(&mut answer)?;
-    Ok(answer)
-}
-
-/// Whether a client that sends a request in two writes reads that answer.
-fn is_answered_in_two<R: Net<Stream = TcpStream> + Clock>(
-    rt: &R,
-    alloc: Global,
-    address: SocketAddr,
-    request: (&[u8], &[u8]),
-    answer: &str,
-) -> io::Result<bool> {
-    let stream = TcpStream::connect(rt, address)?;
-    let read = answered_in_two(rt, alloc, stream, request)?;
-    Ok(read.as_slice() == answer.as_bytes())
-}
-
-/// How many cuts of a request it isn't answered by.
-fn wrong_cuts<R: Net<Stream = TcpStream> + Clock>(
-    rt: &R,
-    alloc: Global,
-    address: SocketAddr,
-    request: &str,
-    answer: &str,
-) -> u32 {
-    let mut wrong = 0u32;
+/// Does that by one cut of a request after another.
+fn push_cuts(
+    steps: &mut Vec<Step<'static>>,
+    request: &'static str,
+    answer: &'static str,
+) -> Result<(), AllocError> {
     for cut in 1..request.len() {
-        let halves = request.as_bytes().split_at_checked(cut);
-        let halves = halves.unwrap_or((b"".as_slice(), b"".as_slice()));
-        let answered = is_answered_in_two(rt, alloc, address, halves, answer);
-        if !answered.unwrap_or(false) {
-            wrong = wrong.saturating_add(1);
-        }
+        let (first, second) = request.split_at_checked(cut).unwrap_or(("", ""));
+        steps.push(Step::Cut(first, second, answer))?;
     }
-    wrong
+    Ok(())
 }
 
-/// How many cuts of the requests they aren't answered by. Each cut has its connection, also behind one that isn't answered.
-fn all_wrong_cuts<R: Net<Stream = TcpStream> + Clock>(
-    rt: &R,
-    alloc: Global,
-    address: SocketAddr,
-) -> u32 {
-    let mut wrong = 0u32;
+/// All of them.
+fn cuts(alloc: Global) -> Result<Vec<Step<'static>>, AllocError> {
+    let mut steps = Vec::new(alloc);
     for (request, answer) in &REQUESTS {
-        wrong = wrong.saturating_add(wrong_cuts(rt, alloc, address, request, answer));
+        push_cuts(&mut steps, request, answer)?;
     }
-    wrong
+    Ok(steps)
 }
 
+/// A client waits for less time than the server.
 #[test]
 fn requests_are_answered_at_their_last_byte(rt: HostRuntime) -> Result<(), Fail> {
-    let (listener, address) = listen(&rt)?;
-    let plan = plan(connections(), 10_000)?;
-    let (alloc, machine) = (rt.alloc(), &rt);
-    let (out, wrong) = beside(machine, alloc, &listener, &plan, move || {
-        all_wrong_cuts(machine, alloc, address)
-    });
-    assert_eq!(rt; wrong, 0);
-    assert!(rt; out?.as_slice() == b"served 325\n".as_slice());
+    let plan = plan(325, 2, (40_000, 1_000, 100, 65_536))?;
+    let steps = cuts(rt.alloc())?;
+    assert!(rt;
+        steps.len() == 325 && plays(&rt, rt.alloc(), &plan, Way::Served, steps.as_slice())?
+    );
     Ok(())
 }

@@ -1,313 +1,67 @@
-//! Servers of a few sessions, with clients in the same process.
+//! Servers of a few sessions, with a client in the same process.
+use crate::tests::client::{Client, Step, Text};
+use crate::tests::journals::is_journal;
 use eu_accept::Timeouts;
 use eu_base::{Config, Fault, Key};
 use eu_clock::FirstChooser;
-use eu_fixtures::{LAST_MISSING, settings};
+use eu_fixtures::{LAST_MISSING, REGISTRATION as INSTANCE, settings};
 use eu_gate::Periods;
-use eu_server::{Plan, serve_book, serve_by};
+use eu_server::{Outcome, Plan, serve_book, serve_by, serve_with_journal};
 use eu_shared::Blanks;
-use std::alloc::{AllocError, Global};
-use std::io::{ErrorKind, Read, Write};
+use eu_stream::Writing;
+use std::alloc::Global;
 use std::marker::Brand;
-use std::net::{Net, SocketAddr, TcpListener, TcpStream};
+use std::net::{Net, TcpListener, TcpStream};
 use std::sync::Wait;
 use std::test::Fail;
 use std::thread::Threads;
 use std::time::{Clock, Duration, Instant};
 use std::{io, thread};
 
-/// A registration of A/i1.
-pub const REGISTRATION: &str =
-    "POST /eureka/apps/a HTTP/1.1\r\nHost: x\r\nConnection: close\r\nContent-Length: 150\r\n\r\n{\"instance\":{\"instanceId\":\"i1\",\"hostName\":\"h\",\"app\":\"a\",\"ipAddr\":\"10.0.0.1\",\"status\":\"UP\",\"lastDirtyTimestamp\":\"5\",\"dataCenterInfo\":{\"name\":\"MyOwn\"}}}";
-
-pub const REGISTERED: &str = "HTTP/1.1 204 No Content\r\nConnection: close\r\n\r\n";
-
-/// A renewal of a lease that isn't there.
-const RENEWAL: &str = "PUT /eureka/apps/A/zz HTTP/1.1\r\nHost: x\r\nConnection: close\r\n\r\n";
-
-/// A server of two workers, which gives up a silent client after so many milliseconds, and whose timers are never idle.
-pub fn plan(sessions: u32, read: u64) -> Result<Plan, Fault> {
-    Ok(Plan {
-        config: settings()?,
-        expected: 1,
-        workers: 2,
-        sessions,
-        periods: Periods {
-            evictor: 1,
-            bucket: 1,
-            threshold: 1,
-        },
-        timeouts: Timeouts {
-            read,
-            write: 1_000,
-            linger: 100,
-            linger_bytes: 65_536,
-        },
-    })
+/// What a server is to leave.
+#[derive(Clone, Copy)]
+pub enum Way {
+    /// How many connections it served.
+    Served,
+    /// That, and the journal of a registration.
+    Journal,
+    /// The book of a registration.
+    Book,
 }
 
-/// What a server writes that serves by a plan.
-fn written<R: Threads + Wait + Clock + Sync>(
+/// Whether a server by a plan writes how many connections it is to serve.
+fn serves<R: Threads + Wait + Clock + Sync>(
     rt: &R,
     alloc: Global,
     listener: &TcpListener,
     plan: &Plan,
-) -> Result<Vec<u8>, Fault> {
+) -> Result<bool, Fault> {
     let mut out = Vec::new(alloc);
     serve_by(rt, alloc, listener, plan, FirstChooser, &mut out)?;
-    Ok(out)
+    let wanted = format!(in alloc; "served {}\n", plan.sessions)?;
+    Ok(out.as_slice() == wanted.as_bytes())
 }
 
-/// What a client reads of its connection that sends a request.
-fn answered_on(alloc: Global, stream: TcpStream, request: &str) -> io::Result<Vec<u8>> {
-    let mut stream = stream;
-    stream.set_read_timeout(Some(Duration::from_secs(20)))?;
-    stream.write_all(request.as_bytes())?;
-    let mut answer = Vec::new(alloc);
-    stream.read_to_end(&mut answer)?;
-    Ok(answer)
-}
-
-/// Whether a client reads that answer of its connection, where it sends a request.
-fn is_answered_on(alloc: Global, stream: TcpStream, request: &str, answer: &str) -> bool {
-    match answered_on(alloc, stream, request) {
-        Ok(read) => read.as_slice() == answer.as_bytes(),
-        Err(_) => false,
-    }
-}
-
-/// Whether a client that sends a request reads that answer.
-pub fn is_answered<R: Net<Stream = TcpStream>>(
-    rt: &R,
-    alloc: Global,
-    address: SocketAddr,
-    request: &str,
-    answer: &str,
-) -> bool {
-    match TcpStream::connect(rt, address) {
-        Ok(stream) => is_answered_on(alloc, stream, request, answer),
-        Err(_) => false,
-    }
-}
-
-/// A listener of a free port.
-pub fn listen<R: Net<Listener = TcpListener, Stream = TcpStream>>(
-    rt: &R,
-) -> io::Result<(TcpListener, SocketAddr)> {
-    let listener = TcpListener::bind(rt, "127.0.0.1:0")?;
-    let address = listener.local_addr()?;
-    Ok((listener, address))
-}
-
-/// What a server by a plan writes, and what a client gets that runs beside it.
-pub fn beside<R: Threads + Wait + Clock + Sync, T: Send + Drop, F: FnOnce() -> T + Send + Drop>(
+/// Whether a server by a plan of one session writes so, and leaves its journal.
+fn leaves_journal<R: Threads + Wait + Clock + Sync>(
     rt: &R,
     alloc: Global,
     listener: &TcpListener,
     plan: &Plan,
-    client: F,
-) -> (Result<Vec<u8>, Fault>, T)
-    requires { F.IsAlwaysCallable client }
-{
-    thread::join(rt, || written(rt, alloc, listener, plan), client)
-}
-
-/// What a server of two sessions writes, and whether two clients at once read what they are to.
-fn serve_two<R: Threads + Wait + Clock + Sync + Net<Listener = TcpListener, Stream = TcpStream>>(
-    rt: &R,
-    alloc: Global,
-    listener: &TcpListener,
-    address: SocketAddr,
-    plan: &Plan,
-) -> (Result<Vec<u8>, Fault>, (bool, bool)) {
-    thread::join(
+) -> Result<bool, Fault> {
+    let mut journal = Vec::new(alloc);
+    let mut out = Vec::new(alloc);
+    let outcome = serve_with_journal(
         rt,
-        || written(rt, alloc, listener, plan),
-        || {
-            thread::join(
-                rt,
-                || is_answered(rt, alloc, address, REGISTRATION, REGISTERED),
-                || is_answered(rt, alloc, address, RENEWAL, LAST_MISSING),
-            )
-        },
-    )
-}
-
-#[test]
-fn two_clients_are_served(rt: HostRuntime) -> Result<(), Fail> {
-    let (listener, address) = listen(&rt)?;
-    let mut plan = plan(2, 10_000)?;
-    // Longer than a client waits: it sees the end of what is written before the server stops reading.
-    plan.timeouts.linger = 40_000;
-    let (out, answered) = serve_two(&rt, rt.alloc(), &listener, address, &plan);
-    assert!(rt; answered == (true, true));
-    assert!(rt; out?.as_slice() == b"served 2\n".as_slice());
-    Ok(())
-}
-
-/// Whether a client is answered, and soon, while two others are connected that say nothing.
-fn is_answered_among_silent<R: Net<Stream = TcpStream> + Clock>(
-    rt: &R,
-    alloc: Global,
-    address: SocketAddr,
-) -> io::Result<bool> {
-    let began = Instant::now(rt)?;
-    let _first = TcpStream::connect(rt, address)?;
-    let _second = TcpStream::connect(rt, address)?;
-    let answered = is_answered(rt, alloc, address, REGISTRATION, REGISTERED);
-    Ok(answered && began.elapsed(rt)? < Duration::from_secs(2))
-}
-
-#[test]
-fn silent_clients_are_given_up(rt: HostRuntime) -> Result<(), Fail> {
-    let (listener, address) = listen(&rt)?;
-    let plan = plan(3, 100)?;
-    let (alloc, machine) = (rt.alloc(), &rt);
-    let (out, answered) = beside(machine, alloc, &listener, &plan, move || {
-        is_answered_among_silent(machine, alloc, address)
-    });
-    assert!(rt; answered?);
-    assert!(rt; out?.as_slice() == b"served 3\n".as_slice());
-    Ok(())
-}
-
-/// Whether a client is answered at once while fifteen others are connected that say nothing until then.
-fn is_answered_beside_fifteen<R: Net<Stream = TcpStream> + Clock>(
-    rt: &R,
-    alloc: Global,
-    address: SocketAddr,
-) -> io::Result<bool> {
-    let began = Instant::now(rt)?;
-    let mut silent = Vec::new(alloc);
-    for _ in 0..15 {
-        silent.push(TcpStream::connect(rt, address)?)?;
-    }
-    let answered = is_answered(rt, alloc, address, RENEWAL, LAST_MISSING);
-    let soon = began.elapsed(rt)? < Duration::from_secs(8);
-    drop(silent);
-    Ok(answered && soon)
-}
-
-/// A silent client is waited for longer than the other one waits here.
-#[test]
-fn sixteen_workers_serve_at_once(rt: HostRuntime) -> Result<(), Fail> {
-    let (listener, address) = listen(&rt)?;
-    let plan = Plan::of_server(settings()?, 1, 16, 16);
-    let (alloc, machine) = (rt.alloc(), &rt);
-    let (out, answered) = beside(machine, alloc, &listener, &plan, move || {
-        is_answered_beside_fifteen(machine, alloc, address)
-    });
-    assert!(rt; answered?);
-    assert!(rt; out?.as_slice() == b"served 16\n".as_slice());
-    Ok(())
-}
-
-/// Whether 1,100 clients are answered, one after the other.
-fn are_all_answered<R: Net<Stream = TcpStream>>(
-    rt: &R,
-    alloc: Global,
-    address: SocketAddr,
-) -> bool {
-    for _ in 0..1_100 {
-        if !is_answered(rt, alloc, address, RENEWAL, LAST_MISSING) {
-            return false;
-        }
-    }
-    true
-}
-
-#[test]
-fn one_worker_serves_on(rt: HostRuntime) -> Result<(), Fail> {
-    let (listener, address) = listen(&rt)?;
-    let mut plan = plan(1_100, 10_000)?;
-    plan.workers = 1;
-    let (alloc, machine) = (rt.alloc(), &rt);
-    let (out, answered) = beside(machine, alloc, &listener, &plan, move || {
-        are_all_answered(machine, alloc, address)
-    });
-    assert!(rt; answered);
-    assert!(rt; out?.as_slice() == b"served 1100\n".as_slice());
-    Ok(())
-}
-
-#[test]
-fn a_server_has_a_worker_at_least(rt: HostRuntime) -> Result<(), Fail> {
-    let (listener, address) = listen(&rt)?;
-    let mut plan = plan(1, 10_000)?;
-    plan.workers = 0;
-    let (alloc, machine) = (rt.alloc(), &rt);
-    let (out, answered) = beside(machine, alloc, &listener, &plan, move || {
-        is_answered(machine, alloc, address, RENEWAL, LAST_MISSING)
-    });
-    assert!(rt; answered);
-    assert!(rt; out?.as_slice() == b"served 1\n".as_slice());
-    Ok(())
-}
-
-/// Workers that it hasn't aren't waited for.
-#[test]
-fn a_server_that_is_to_have_a_thousand_workers_ends(rt: HostRuntime) -> Result<(), Fail> {
-    let (listener, address) = listen(&rt)?;
-    let mut plan = plan(1, 10_000)?;
-    plan.workers = 1_000;
-    let (alloc, machine) = (rt.alloc(), &rt);
-    let (out, answered) = beside(machine, alloc, &listener, &plan, move || {
-        is_answered(machine, alloc, address, RENEWAL, LAST_MISSING)
-    });
-    assert!(rt; answered);
-    assert!(rt; out?.as_slice() == b"served 1\n".as_slice());
-    Ok(())
-}
-
-#[test]
-fn no_session_is_served_at_once(rt: HostRuntime) -> Result<(), Fail> {
-    let (listener, _) = listen(&rt)?;
-    let out = written(&rt, rt.alloc(), &listener, &plan(0, 10_000)?)?;
-    assert!(rt; out.as_slice() == b"served 0\n".as_slice());
-    Ok(())
-}
-
-/// A writer that takes all that it is given, and can't be flushed.
-#[derive(Drop)]
-pub struct Unflushed;
-
-impl Write for Unflushed {
-    fn write(&mut self, bytes: &[u8]) -> io::Result<usize> {
-        Ok(bytes.len())
-    }
-
-    fn flush(&mut self) -> io::Result<()> {
-        Err(io::Error::from(ErrorKind::BrokenPipe))
-    }
-}
-
-#[test]
-fn served_that_is_not_flushed_is_a_failed_write(rt: HostRuntime) -> Result<(), Fail> {
-    let (listener, _) = listen(&rt)?;
-    let plan = plan(0, 10_000)?;
-    let mut writer = Unflushed;
-    let ended = serve_by(&rt, rt.alloc(), &listener, &plan, FirstChooser, &mut writer);
-    assert!(rt; ended == Err(Fault::Write));
-    Ok(())
-}
-
-/// What is told of a book that is handed back.
-#[derive(Clone, Copy, PartialEq, Eq)]
-struct HandedBack {
-    /// How many connections were served.
-    served: u64,
-    /// Where its journal begins.
-    first: u64,
-    /// How many leases were added.
-    added: u64,
-    /// How many are held at the end.
-    held: usize,
-    /// Whether the first of these is that of A/i1.
-    is_of_the_client: bool,
-    /// How many logs there are.
-    logs: usize,
-    /// How many peers.
-    peers: usize,
+        alloc,
+        listener,
+        plan,
+        FirstChooser,
+        &mut Writing::new(&mut journal),
+        &mut out,
+    )?;
+    drop(outcome);
+    Ok(out.as_slice() == b"served 1\n".as_slice() && is_journal(&journal))
 }
 
 /// Whether a key is that of A/i1.
@@ -315,13 +69,26 @@ fn is_of_the_client(key: &Key) -> bool {
     key.app.as_str() == "A" && key.id.as_str() == "i1"
 }
 
-/// What is told of the book that a server by a plan hands back.
-fn handed_back<R: Threads + Wait + Clock + Sync>(
+/// Whether a book was served to a client that registered A/i1. Two workers and three timers have a log each, and a server has no peers.
+fn is_of_one_client(outcome: &Outcome) -> bool {
+    let closed = &outcome.closed;
+    let leases = closed.end.leases.as_slice();
+    let is_held = match leases.first() {
+        Some(lease) => is_of_the_client(&lease.instance.key),
+        None => false,
+    };
+    let is_whole = outcome.served == 1 && closed.first == 0 && closed.totals.added == 1;
+    let has_logs = closed.logs.len() == 5 && closed.end.queues.as_slice().is_empty();
+    is_held && leases.len() == 1 && is_whole && has_logs
+}
+
+/// Whether a server by a plan hands back such a book.
+fn hands_back<R: Threads + Wait + Clock + Sync>(
     rt: &R,
     alloc: Global,
     listener: &TcpListener,
     plan: &Plan,
-) -> Result<HandedBack, Fault> {
+) -> Result<bool, Fault> {
     let outcome = serve_book::<Brand, R, FirstChooser>(
         rt,
         alloc,
@@ -330,507 +97,552 @@ fn handed_back<R: Threads + Wait + Clock + Sync>(
         FirstChooser,
         Blanks::new(),
     )?;
-    let closed = &outcome.closed;
-    let leases = closed.end.leases.as_slice();
-    let first = leases.first();
-    let told = HandedBack {
-        served: outcome.served,
-        first: closed.first,
-        added: closed.totals.added,
-        held: leases.len(),
-        is_of_the_client: first.is_some_and(|lease| is_of_the_client(&lease.instance.key)),
-        logs: closed.logs.len(),
-        peers: closed.end.queues.as_slice().len(),
-    };
+    let is_so = is_of_one_client(&outcome);
     drop(outcome);
-    Ok(told)
+    Ok(is_so)
 }
 
-/// The same, and whether a client beside it registers.
-fn serve_one<R: Threads + Wait + Clock + Sync + Net<Listener = TcpListener, Stream = TcpStream>>(
+/// Whether a server by a plan leaves what it is to.
+fn leaves<R: Threads + Wait + Clock + Sync>(
     rt: &R,
     alloc: Global,
     listener: &TcpListener,
-    address: SocketAddr,
     plan: &Plan,
-) -> (Result<HandedBack, Fault>, bool) {
+    way: Way,
+) -> Result<bool, Fault> {
+    match way {
+        Way::Served => serves(rt, alloc, listener, plan),
+        Way::Journal => leaves_journal(rt, alloc, listener, plan),
+        Way::Book => hands_back(rt, alloc, listener, plan),
+    }
+}
+
+/// Whether a server by a plan leaves what it is to, and the number of the first step that goes otherwise of a client beside it.
+fn beside<R: Threads + Wait + Clock + Sync + Net<Listener = TcpListener, Stream = TcpStream>>(
+    rt: &R,
+    alloc: Global,
+    listener: &TcpListener,
+    plan: &Plan,
+    way: Way,
+    client: &mut Client<'_, R>,
+    steps: &[Step<'_>],
+) -> (Result<bool, Fault>, Option<usize>) {
     thread::join(
         rt,
-        || handed_back(rt, alloc, listener, plan),
-        || is_answered(rt, alloc, address, REGISTRATION, REGISTERED),
+        || leaves(rt, alloc, listener, plan, way),
+        || client.first_wrong(steps),
     )
 }
 
-/// Two workers and three timers have a log each, and a server has no peers.
+/// Whether a server by a plan, of a port of its own, leaves what it is to, and a client beside it reads what it is to. The connections that the
+/// client doesn't leave it has until the server has ended.
+pub fn plays<R: Threads + Wait + Clock + Sync + Net<Listener = TcpListener, Stream = TcpStream>>(
+    rt: &R,
+    alloc: Global,
+    plan: &Plan,
+    way: Way,
+    steps: &[Step<'_>],
+) -> io::Result<bool> {
+    let listener = TcpListener::bind(rt, "127.0.0.1:0")?;
+    let mut client = Client::new(rt, alloc, listener.local_addr()?)?;
+    let (left, wrong) = beside(rt, alloc, &listener, plan, way, &mut client, steps);
+    Ok(left == Ok(true) && wrong.is_none())
+}
+
+/// For how many milliseconds a server waits for a read, for a write and for all that comes after the last response, and how many bytes of
+/// that it drops.
+pub type Waits = (u64, u64, u64, usize);
+
+pub const USUAL: Waits = (10_000, 1_000, 100, 65_536);
+
+/// Longer than a client waits: a server ends before its time is up.
+const LONG: Waits = (10_000, 1_000, 40_000, 65_536);
+
+/// A plan of so many sessions and so many workers, whose timers are never idle.
+pub fn plan(sessions: u32, workers: u32, waits: Waits) -> Result<Plan, Fault> {
+    let (read, write, linger, linger_bytes) = waits;
+    Ok(Plan {
+        config: settings()?,
+        expected: 1,
+        workers,
+        sessions,
+        periods: Periods {
+            evictor: 1,
+            bucket: 1,
+            threshold: 1,
+        },
+        timeouts: Timeouts {
+            read,
+            write,
+            linger,
+            linger_bytes,
+        },
+    })
+}
+
+/// The sessions and the workers of a server, for how long it waits, and what a client does beside it.
+type Row = (u32, u32, Waits, &'static [Step<'static>]);
+
+/// The place of the first of these servers that goes otherwise.
+fn first_wrong<R: Threads + Wait + Clock + Sync + Net<Listener = TcpListener, Stream = TcpStream>>(
+    rt: &R,
+    alloc: Global,
+    rows: &[Row],
+) -> Result<Option<usize>, Fault> {
+    let mut number = 0usize;
+    for (sessions, workers, waits, steps) in rows {
+        let plan = plan(*sessions, *workers, *waits)?;
+        if !plays(rt, alloc, &plan, Way::Served, steps).unwrap_or(false) {
+            return Ok(Some(number));
+        }
+        number = number.saturating_add(1);
+    }
+    Ok(None)
+}
+
+/// A registration of A/i1.
+pub const REGISTRATION: Text<'static> = &[
+    (
+        "POST /eureka/apps/a HTTP/1.1\r\nHost: x\r\nConnection: close\r\nContent-Length: 150\r\n\r\n",
+        1,
+    ),
+    (INSTANCE, 1),
+];
+
+pub const REGISTERED: &str = "HTTP/1.1 204 No Content\r\nConnection: close\r\n\r\n";
+
+/// A renewal of a lease that isn't there.
+const RENEWAL: Text<'static> = &[(
+    "PUT /eureka/apps/A/zz HTTP/1.1\r\nHost: x\r\nConnection: close\r\n\r\n",
+    1,
+)];
+
+/// A look at the status page.
+const LOOK: Text<'static> = &[(
+    "GET /eureka/status HTTP/1.1\r\nHost: x\r\nConnection: close\r\n\r\n",
+    1,
+)];
+
+/// A registration of A/i1 with a member of half a million bytes.
+const LARGE: Text<'static> = &[
+    (
+        "POST /eureka/apps/a HTTP/1.1\r\nHost: x\r\nConnection: close\r\nContent-Length: 500157\r\n\r\n{\"instance\":{\"instanceId\":\"i1\",\"hostName\":\"h\",\"app\":\"a\",\"ipAddr\":\"10.0.0.1\",\"status\":\"UP\",\"lastDirtyTimestamp\":\"5\",\"dataCenterInfo\":{\"name\":\"MyOwn\"},\"x\":\"",
+        1,
+    ),
+    ("0123456789", 50_000),
+    ("\"}}", 1),
+];
+
+/// A hundred requests for all that is registered: what they are answered is more than the system keeps of a connection, where that is large.
+const LISTS: Text<'static> = &[("GET /eureka/apps/ HTTP/1.1\r\nHost: x\r\n\r\n", 100)];
+
+/// Servers whose workers are 2, 1, too few, too many and none that is needed.
+const SERVED: [Row; 5] = [
+    // Two clients at once.
+    (
+        2,
+        2,
+        LONG,
+        &[
+            Step::Connect(2),
+            Step::Send(0, REGISTRATION),
+            Step::Send(1, RENEWAL),
+            Step::Read(0, REGISTERED),
+            Step::Read(1, LAST_MISSING),
+            Step::Leave(2),
+        ],
+    ),
+    (1_100, 1, USUAL, &[Step::Ask(1_100, RENEWAL, LAST_MISSING)]),
+    (1, 0, USUAL, &[Step::Ask(1, RENEWAL, LAST_MISSING)]),
+    // Workers that it hasn't aren't waited for.
+    (1, 1_000, USUAL, &[Step::Ask(1, RENEWAL, LAST_MISSING)]),
+    (0, 2, USUAL, &[]),
+];
+
 #[test]
-fn a_book_is_handed_back_as_it_was_served(rt: HostRuntime) -> Result<(), Fail> {
-    let (listener, address) = listen(&rt)?;
-    let mut plan = plan(1, 10_000)?;
-    // No minute ends, so the journal doesn't begin anew.
-    plan.periods.bucket = 900_000;
-    let (told, answered) = serve_one(&rt, rt.alloc(), &listener, address, &plan);
-    assert!(rt; answered);
-    let wanted = HandedBack {
-        served: 1,
-        first: 0,
-        added: 1,
-        held: 1,
-        is_of_the_client: true,
-        logs: 5,
-        peers: 0,
-    };
-    assert!(rt; told? == wanted);
+fn clients_are_served(rt: HostRuntime) -> Result<(), Fail> {
+    assert_eq!(rt; first_wrong(&rt, rt.alloc(), SERVED.as_slice())?, None);
     Ok(())
 }
 
-/// A request for the status page, and the page of a server at which nothing is held that expects 70,007 clients (more than it may
-/// hold), each to renew every 20 s, of which half may go.
-const LOOK: &str = "GET /eureka/status HTTP/1.1\r\nHost: x\r\nConnection: close\r\n\r\n";
+/// Clients that say nothing, and one that doesn't read; another is answered soon.
+const GIVEN_UP: [Row; 2] = [
+    (
+        3,
+        2,
+        (100, 1_000, 100, 65_536),
+        &[
+            Step::Connect(2),
+            Step::Ask(1, REGISTRATION, REGISTERED),
+            Step::Within(2_000),
+        ],
+    ),
+    (
+        3,
+        1,
+        (10_000, 300, 100, 65_536),
+        &[
+            Step::Ask(1, LARGE, REGISTERED),
+            Step::Connect(1),
+            Step::Send(0, LISTS),
+            Step::Ask(1, RENEWAL, LAST_MISSING),
+            Step::Within(8_000),
+        ],
+    ),
+];
 
+#[test]
+fn clients_that_do_nothing_are_given_up(rt: HostRuntime) -> Result<(), Fail> {
+    assert_eq!(rt; first_wrong(&rt, rt.alloc(), GIVEN_UP.as_slice())?, None);
+    Ok(())
+}
+
+/// A registration with 60,000 bytes more behind it, and a client that dribbles for a second and a half, longer than a server lingers else. Bytes
+/// that come one by one count as so many, not as so many reads.
+const ANSWERED: [Row; 2] = [
+    (
+        1,
+        2,
+        USUAL,
+        &[
+            Step::Connect(1),
+            Step::Send(
+                0,
+                &[
+                    (
+                        "POST /eureka/apps/a HTTP/1.1\r\nHost: x\r\nConnection: close\r\nContent-Length: 150\r\n\r\n",
+                        1,
+                    ),
+                    (INSTANCE, 1),
+                    ("0123456789", 6_000),
+                ],
+            ),
+            Step::Read(0, REGISTERED),
+        ],
+    ),
+    (
+        1,
+        2,
+        (10_000, 1_000, 40_000, 100),
+        &[
+            Step::Connect(1),
+            Step::Send(0, RENEWAL),
+            Step::Dribble(0, &[("x", 1)], 75, 20),
+            Step::Read(0, LAST_MISSING),
+            Step::Leave(1),
+        ],
+    ),
+];
+
+#[test]
+fn a_client_that_sends_more_has_its_answer(rt: HostRuntime) -> Result<(), Fail> {
+    assert_eq!(rt; first_wrong(&rt, rt.alloc(), ANSWERED.as_slice())?, None);
+    Ok(())
+}
+
+const CUT_OFF: [Row; 4] = [
+    // It sends requests, and reads no answer.
+    (
+        1,
+        2,
+        LONG,
+        &[
+            Step::Connect(1),
+            Step::CutOff(
+                0,
+                &[(
+                    "GET /eureka/status HTTP/1.1\r\nHost: x\r\nConnection: close\r\n\r\n",
+                    1_000,
+                )],
+                2_000,
+                0,
+            ),
+        ],
+    ),
+    // Its time is up.
+    (
+        1,
+        2,
+        USUAL,
+        &[
+            Step::Connect(1),
+            Step::Send(0, RENEWAL),
+            Step::CutOff(0, &[("x", 1)], 150, 20),
+            Step::Within(1_000),
+        ],
+    ),
+    // More comes than is dropped, long before its time is up.
+    (
+        1,
+        2,
+        (10_000, 1_000, 40_000, 20),
+        &[
+            Step::Connect(1),
+            Step::Send(0, RENEWAL),
+            Step::CutOff(0, &[("x", 1)], 150, 20),
+        ],
+    ),
+    // Its time is up for bytes that come fast as well, however many may come.
+    (
+        1,
+        2,
+        (10_000, 1_000, 100, usize::MAX),
+        &[
+            Step::Connect(1),
+            Step::Send(0, RENEWAL),
+            Step::CutOff(0, &[("x", 16_384)], 100_000, 0),
+        ],
+    ),
+];
+
+#[test]
+fn a_client_that_sends_on_is_cut_off(rt: HostRuntime) -> Result<(), Fail> {
+    assert_eq!(rt; first_wrong(&rt, rt.alloc(), CUT_OFF.as_slice())?, None);
+    Ok(())
+}
+
+/// A client that has its answer, and says nothing more.
+const KEPT: [Row; 1] = [(
+    1,
+    2,
+    (20_000, 1_000, 100, 65_536),
+    &[
+        Step::Connect(1),
+        Step::Send(0, RENEWAL),
+        Step::Read(0, LAST_MISSING),
+    ],
+)];
+
+/// It is left when the time is up, which is shorter than that of a read.
+#[test]
+fn a_client_that_keeps_its_connection_is_left(rt: HostRuntime) -> Result<(), Fail> {
+    let began = Instant::now(&rt)?;
+    assert_eq!(rt; first_wrong(&rt, rt.alloc(), KEPT.as_slice())?, None);
+    assert!(rt; began.elapsed(&rt)? < Duration::from_secs(10));
+    Ok(())
+}
+
+/// Whether a server ends whose listener waits for no connection, and serves the one that there is before.
+fn ends<R: Threads + Wait + Clock + Sync + Net<Listener = TcpListener, Stream = TcpStream>>(
+    rt: &R,
+    alloc: Global,
+    listener: &TcpListener,
+    plan: &Plan,
+) -> io::Result<bool> {
+    let mut client = Client::new(rt, alloc, listener.local_addr()?)?;
+    let connected = client.first_wrong(&[Step::Connect(1)]);
+    listener.set_nonblocking(true)?;
+    let steps = [Step::Send(0, REGISTRATION), Step::Read(0, REGISTERED)];
+    let (left, wrong) = beside(
+        rt,
+        alloc,
+        listener,
+        plan,
+        Way::Served,
+        &mut client,
+        steps.as_slice(),
+    );
+    Ok(left == Err(Fault::Read) && connected.is_none() && wrong.is_none())
+}
+
+#[test]
+fn a_failed_accept_ends_the_server(rt: HostRuntime) -> Result<(), Fail> {
+    let listener = TcpListener::bind(&rt, "127.0.0.1:0")?;
+    assert!(rt; ends(&rt, rt.alloc(), &listener, &plan(2, 2, USUAL)?)?);
+    Ok(())
+}
+
+/// Whether preservation is on, the percentage, the interval and the time between evictions.
+type Settings = (bool, u32, u32, u32);
+
+fn config(settings: Settings) -> Result<Config, Fault> {
+    let (preservation, percent, interval, evict_ms) = settings;
+    Config::new(preservation, percent, interval, evict_ms)
+}
+
+/// The pages of servers at which nothing is held that expect 70,007 clients (more than one may hold), or nobody: each client renews every 20 s, and
+/// half may go.
 const PAGE: &str =
     "HTTP/1.1 200 OK\r\nContent-Type: text/plain; charset=utf-8\r\nContent-Length: 87\r\nConnection: close\r\n\r\nheld 0\nexpected 70007\nthreshold 105010\nlast 0\npreservation off\npermitted yes\nstatuses \n";
 
-/// Whether a client waits for as long as another one, which says nothing, is connected, and reads the page then.
-fn reads_the_page_in_turn<R: Net<Stream = TcpStream>>(
-    rt: &R,
-    alloc: Global,
-    address: SocketAddr,
-) -> io::Result<bool> {
-    let silent = TcpStream::connect(rt, address)?;
-    let mut stream = TcpStream::connect(rt, address)?;
-    stream.set_read_timeout(Some(Duration::from_millis(500)))?;
-    stream.write_all(LOOK.as_bytes())?;
-    let mut byte = [0u8; 1];
-    let waits = stream.read(&mut byte).is_err();
-    drop(silent);
-    Ok(waits && is_answered_on(alloc, stream, "", PAGE))
-}
-
-#[test]
-fn a_server_has_the_settings_that_it_is_given(rt: HostRuntime) -> Result<(), Fail> {
-    let (listener, address) = listen(&rt)?;
-    let plan = Plan::of_server(Config::new(false, 50, 20, 1_000)?, 70_007, 1, 2);
-    let (alloc, machine) = (rt.alloc(), &rt);
-    let (out, answered) = beside(machine, alloc, &listener, &plan, move || {
-        reads_the_page_in_turn(machine, alloc, address)
-    });
-    assert!(rt; answered?);
-    assert!(rt; out?.as_slice() == b"served 2\n".as_slice());
-    Ok(())
-}
-
-/// The page of such a server that expects nobody.
 const PAGE_OF_NOBODY: &str =
     "HTTP/1.1 200 OK\r\nContent-Type: text/plain; charset=utf-8\r\nContent-Length: 78\r\nConnection: close\r\n\r\nheld 0\nexpected 0\nthreshold 0\nlast 0\npreservation off\npermitted yes\nstatuses \n";
 
-/// Nobody is counted anew within the first quarter of an hour.
+/// The settings of an ordinary server, how many clients it expects, its workers and sessions, and what a client does.
+type Ordinary = (Settings, u32, u32, u32, &'static [Step<'static>]);
+
+const ORDINARY: [Ordinary; 3] = [
+    // Sixteen at once: a silent client is waited for longer than the other one waits here.
+    (
+        (true, 85, 30, 60_000),
+        1,
+        16,
+        16,
+        &[
+            Step::Connect(15),
+            Step::Ask(1, RENEWAL, LAST_MISSING),
+            Step::Within(8_000),
+            Step::Leave(15),
+        ],
+    ),
+    // One waits for as long as another one, which says nothing, is connected.
+    (
+        (false, 50, 20, 1_000),
+        70_007,
+        1,
+        2,
+        &[
+            Step::Connect(2),
+            Step::Send(1, LOOK),
+            Step::Silence(1),
+            Step::Leave(1),
+            Step::Read(1, PAGE),
+        ],
+    ),
+    // Nobody is counted anew within the first quarter of an hour.
+    (
+        (false, 50, 20, 1_000),
+        0,
+        1,
+        1,
+        &[Step::Ask(1, LOOK, PAGE_OF_NOBODY)],
+    ),
+];
+
 #[test]
-fn a_server_may_expect_nobody(rt: HostRuntime) -> Result<(), Fail> {
-    let (listener, address) = listen(&rt)?;
-    let plan = Plan::of_server(Config::new(false, 50, 20, 1_000)?, 0, 1, 1);
-    let (alloc, machine) = (rt.alloc(), &rt);
-    let (out, answered) = beside(machine, alloc, &listener, &plan, move || {
-        is_answered(machine, alloc, address, LOOK, PAGE_OF_NOBODY)
-    });
-    assert!(rt; answered);
-    assert!(rt; out?.as_slice() == b"served 1\n".as_slice());
+fn a_server_has_the_settings_that_it_is_given(rt: HostRuntime) -> Result<(), Fail> {
+    for (settings, expected, workers, sessions, steps) in &ORDINARY {
+        let plan = Plan::of_server(config(*settings)?, *expected, *workers, *sessions);
+        assert!(rt;
+            plays(&rt, rt.alloc(), &plan, Way::Served, steps)?,
+            "expects {expected}"
+        );
+    }
     Ok(())
 }
 
-/// A registration of A/i1 for a second, and its renewal; and the page once it was evicted, the minute of its renewal had ended, and
-/// the clients were counted anew, preservation being off.
-const FOR_A_SECOND: &str =
-    "POST /eureka/apps/a HTTP/1.1\r\nHost: x\r\nConnection: close\r\nContent-Length: 183\r\n\r\n{\"instance\":{\"instanceId\":\"i1\",\"hostName\":\"h\",\"app\":\"a\",\"ipAddr\":\"10.0.0.1\",\"status\":\"UP\",\"lastDirtyTimestamp\":\"5\",\"dataCenterInfo\":{\"name\":\"MyOwn\"},\"leaseInfo\":{\"durationInSecs\":1}}}";
+/// A registration of A/i1 for a second, its renewal, and the answer.
+const FOR_A_SECOND: Text<'static> = &[(
+    "POST /eureka/apps/a HTTP/1.1\r\nHost: x\r\nConnection: close\r\nContent-Length: 183\r\n\r\n{\"instance\":{\"instanceId\":\"i1\",\"hostName\":\"h\",\"app\":\"a\",\"ipAddr\":\"10.0.0.1\",\"status\":\"UP\",\"lastDirtyTimestamp\":\"5\",\"dataCenterInfo\":{\"name\":\"MyOwn\"},\"leaseInfo\":{\"durationInSecs\":1}}}",
+    1,
+)];
 
-const RENEWAL_OF_IT: &str =
-    "PUT /eureka/apps/A/i1 HTTP/1.1\r\nHost: x\r\nConnection: close\r\n\r\n";
+const RENEWAL_OF_IT: Text<'static> = &[(
+    "PUT /eureka/apps/A/i1 HTTP/1.1\r\nHost: x\r\nConnection: close\r\n\r\n",
+    1,
+)];
 
 const RENEWED: &str = "HTTP/1.1 200 OK\r\nContent-Length: 0\r\nConnection: close\r\n\r\n";
 
-const EVICTED: &str =
-    "HTTP/1.1 200 OK\r\nContent-Type: text/plain; charset=utf-8\r\nContent-Length: 78\r\nConnection: close\r\n\r\nheld 0\nexpected 0\nthreshold 0\nlast 1\npreservation off\npermitted yes\nstatuses \n";
+/// Settings whose interval between two evictions is some fifty days.
+const OTHER_SETTINGS: Text<'static> = &[(
+    "PUT /eureka/config?preservation=off&percent=85&interval=30&evictMs=4294967295 HTTP/1.1\r\nHost: x\r\nConnection: close\r\n\r\n",
+    1,
+)];
 
-/// The page before: the clients were counted anew, and the minute hasn't ended.
+/// The page where the clients were counted anew, and the minute hasn't ended; and where the lease was evicted, the minute of its renewal has
+/// ended, and the clients were counted anew once more.
 const COUNTED: &str =
     "HTTP/1.1 200 OK\r\nContent-Type: text/plain; charset=utf-8\r\nContent-Length: 83\r\nConnection: close\r\n\r\nheld 1\nexpected 1\nthreshold 1\nlast 0\npreservation off\npermitted yes\nstatuses UP_1_\n";
 
-/// Whether a client registers for a second and renews once, is counted soon, and then finds by a connection that was kept, after two of
-/// three workers have left, that it was evicted.
-fn is_evicted<R: Net<Stream = TcpStream> + Clock>(
-    rt: &R,
-    alloc: Global,
-    address: SocketAddr,
-) -> io::Result<bool> {
-    let registered = is_answered(rt, alloc, address, FOR_A_SECOND, REGISTERED);
-    let renewed = is_answered(rt, alloc, address, RENEWAL_OF_IT, RENEWED);
-    thread::sleep(rt, Duration::from_millis(100));
-    let counted = is_answered(rt, alloc, address, LOOK, COUNTED);
-    let last = TcpStream::connect(rt, address)?;
-    thread::sleep(rt, Duration::from_millis(6_000));
-    let evicted = is_answered_on(alloc, last, LOOK, EVICTED);
-    Ok(registered && renewed && counted && evicted)
-}
-
-#[test]
-fn timers_evict_and_count_anew(rt: HostRuntime) -> Result<(), Fail> {
-    let (listener, address) = listen(&rt)?;
-    let mut plan = plan(4, 10_000)?;
-    plan.config = Config::new(false, 85, 30, 1)?;
-    plan.expected = 7;
-    plan.workers = 3;
-    // The client looks in the middle of the second minute, which lasts as short as this.
-    plan.periods.bucket = 4_000;
-    let (alloc, machine) = (rt.alloc(), &rt);
-    let (out, evicted) = beside(machine, alloc, &listener, &plan, move || {
-        is_evicted(machine, alloc, address)
-    });
-    assert!(rt; evicted?);
-    assert!(rt; out?.as_slice() == b"served 4\n".as_slice());
-    Ok(())
-}
+const EVICTED: &str =
+    "HTTP/1.1 200 OK\r\nContent-Type: text/plain; charset=utf-8\r\nContent-Length: 78\r\nConnection: close\r\n\r\nheld 0\nexpected 0\nthreshold 0\nlast 1\npreservation off\npermitted yes\nstatuses \n";
 
 /// The page of a server that holds nothing, and expects one client: the one that registered was one more, until it was evicted.
 const EMPTY: &str =
     "HTTP/1.1 200 OK\r\nContent-Type: text/plain; charset=utf-8\r\nContent-Length: 78\r\nConnection: close\r\n\r\nheld 0\nexpected 1\nthreshold 1\nlast 0\npreservation off\npermitted yes\nstatuses \n";
 
-/// Whether a client that registers for a second between the first eviction and the second, three seconds apart, is taken by the second.
-fn is_evicted_by_the_second<R: Net<Stream = TcpStream> + Clock>(
-    rt: &R,
-    alloc: Global,
-    address: SocketAddr,
-) -> io::Result<bool> {
-    thread::sleep(rt, Duration::from_millis(3_500));
-    let registered = is_answered(rt, alloc, address, FOR_A_SECOND, REGISTERED);
-    let last = TcpStream::connect(rt, address)?;
-    thread::sleep(rt, Duration::from_millis(4_000));
-    Ok(registered && is_answered_on(alloc, last, LOOK, EMPTY))
-}
+/// The settings of a server, how many clients it expects, its sessions and workers, the milliseconds between two evictions, two ends of minutes
+/// and two counts of the clients, and what a client does.
+type Timed = (
+    Settings,
+    u32,
+    u32,
+    u32,
+    (u64, u64, u64),
+    &'static [Step<'static>],
+);
 
-/// An eviction that comes in time, by the settings, grants no lease any time. (Where it granted what lies between two evictions, the
-/// lease would be there until the third.)
-#[test]
-fn an_eviction_in_time_grants_nothing(rt: HostRuntime) -> Result<(), Fail> {
-    let (listener, address) = listen(&rt)?;
-    let mut plan = plan(2, 10_000)?;
-    plan.config = Config::new(false, 85, 30, 60_000)?;
-    plan.periods = Periods {
-        evictor: 3_000,
-        bucket: 900_000,
-        threshold: 900_000,
-    };
-    let (alloc, machine) = (rt.alloc(), &rt);
-    let (out, evicted) = beside(machine, alloc, &listener, &plan, move || {
-        is_evicted_by_the_second(machine, alloc, address)
-    });
-    assert!(rt; evicted?);
-    assert!(rt; out?.as_slice() == b"served 2\n".as_slice());
-    Ok(())
-}
-
-/// Settings whose interval between two evictions is some fifty days.
-const OTHER_SETTINGS: &str =
-    "PUT /eureka/config?preservation=off&percent=85&interval=30&evictMs=4294967295 HTTP/1.1\r\nHost: x\r\nConnection: close\r\n\r\n";
-
-/// Whether a client that registers for a second, and then changes the settings, is evicted within the next seconds.
-fn is_evicted_all_the_same<R: Net<Stream = TcpStream> + Clock>(
-    rt: &R,
-    alloc: Global,
-    address: SocketAddr,
-) -> io::Result<bool> {
-    let registered = is_answered(rt, alloc, address, FOR_A_SECOND, REGISTERED);
-    let changed = is_answered(rt, alloc, address, OTHER_SETTINGS, RENEWED);
-    let last = TcpStream::connect(rt, address)?;
-    thread::sleep(rt, Duration::from_millis(4_000));
-    Ok(registered && changed && is_answered_on(alloc, last, LOOK, EMPTY))
-}
-
-/// The evictor goes on at the pace that the server was started with.
-#[test]
-fn a_change_of_the_settings_leaves_the_pace(rt: HostRuntime) -> Result<(), Fail> {
-    let (listener, address) = listen(&rt)?;
-    let mut plan = plan(3, 10_000)?;
-    plan.config = Config::new(false, 85, 30, 500)?;
-    plan.periods = Periods {
-        evictor: 500,
-        bucket: 900_000,
-        threshold: 900_000,
-    };
-    let (alloc, machine) = (rt.alloc(), &rt);
-    let (out, evicted) = beside(machine, alloc, &listener, &plan, move || {
-        is_evicted_all_the_same(machine, alloc, address)
-    });
-    assert!(rt; evicted?);
-    assert!(rt; out?.as_slice() == b"served 3\n".as_slice());
-    Ok(())
-}
+const TIMED: [Timed; 3] = [
+    // A client renews once, is counted soon, and then finds by a connection that was kept, after two of three workers have left, that it was
+    // evicted. It looks in the middle of the second minute, which lasts as short as this.
+    (
+        (false, 85, 30, 1),
+        7,
+        4,
+        3,
+        (1, 4_000, 1),
+        &[
+            Step::Ask(1, FOR_A_SECOND, REGISTERED),
+            Step::Ask(1, RENEWAL_OF_IT, RENEWED),
+            Step::Sleep(100),
+            Step::Ask(1, LOOK, COUNTED),
+            Step::Connect(1),
+            Step::Sleep(6_000),
+            Step::Send(0, LOOK),
+            Step::Read(0, EVICTED),
+        ],
+    ),
+    // One that registers between the first eviction and the second is taken by the second: an eviction that comes in time grants no lease any
+    // time. (Where it granted what lies between two evictions, the lease would be there until the third.)
+    (
+        (false, 85, 30, 60_000),
+        1,
+        2,
+        2,
+        (3_000, 900_000, 900_000),
+        &[
+            Step::Sleep(3_500),
+            Step::Ask(1, FOR_A_SECOND, REGISTERED),
+            Step::Connect(1),
+            Step::Sleep(4_000),
+            Step::Send(0, LOOK),
+            Step::Read(0, EMPTY),
+        ],
+    ),
+    // The evictor goes on at the pace that the server was started with.
+    (
+        (false, 85, 30, 500),
+        1,
+        3,
+        2,
+        (500, 900_000, 900_000),
+        &[
+            Step::Ask(1, FOR_A_SECOND, REGISTERED),
+            Step::Ask(1, OTHER_SETTINGS, RENEWED),
+            Step::Connect(1),
+            Step::Sleep(4_000),
+            Step::Send(0, LOOK),
+            Step::Read(0, EMPTY),
+        ],
+    ),
+];
 
 #[test]
-fn a_failed_accept_ends_the_server(rt: HostRuntime) -> Result<(), Fail> {
-    let (listener, address) = listen(&rt)?;
-    let stream = TcpStream::connect(&rt, address)?;
-    listener.set_nonblocking(true)?;
-    let plan = plan(2, 10_000)?;
-    let alloc = rt.alloc();
-    let (out, answered) = beside(&rt, alloc, &listener, &plan, move || {
-        is_answered_on(alloc, stream, REGISTRATION, REGISTERED)
-    });
-    assert!(rt; answered);
-    assert!(rt; out == Err(Fault::Read));
-    Ok(())
-}
-
-/// A registration with 60,000 bytes more behind it.
-fn registration_and_more(alloc: Global) -> Result<String, AllocError> {
-    let mut text = String::new(alloc);
-    text.push_str(REGISTRATION)?;
-    for _ in 0..6_000 {
-        text.push_str("0123456789")?;
-    }
-    Ok(text)
-}
-
-#[test]
-fn a_client_that_sends_more_has_its_answer(rt: HostRuntime) -> Result<(), Fail> {
-    let (listener, address) = listen(&rt)?;
-    let stream = TcpStream::connect(&rt, address)?;
-    let alloc = rt.alloc();
-    let request = registration_and_more(alloc)?;
-    let plan = plan(1, 10_000)?;
-    let (out, answered) = beside(&rt, alloc, &listener, &plan, move || {
-        is_answered_on(alloc, stream, &request, REGISTERED)
-    });
-    assert!(rt; answered);
-    assert!(rt; out?.as_slice() == b"served 1\n".as_slice());
-    Ok(())
-}
-
-/// Whether a client's write failed since the server had closed the connection, rather than that the client gave up.
-fn was_cut_off(sent: io::Result<()>) -> bool {
-    match sent {
-        Ok(()) => false,
-        Err(error) => matches!(
-            error.kind(),
-            ErrorKind::ConnectionReset | ErrorKind::BrokenPipe
-        ),
-    }
-}
-
-/// Sends requests until the server takes no more, and reads no answer.
-fn send_on(alloc: Global, stream: &mut TcpStream) -> io::Result<()> {
-    stream.set_write_timeout(Some(Duration::from_secs(10)))?;
-    let mut more = String::new(alloc);
-    for _ in 0..1_000 {
-        more.push_str(LOOK)?;
-    }
-    for _ in 0..2_000 {
-        stream.write_all(more.as_bytes())?;
+fn timers_evict_and_count_anew(rt: HostRuntime) -> Result<(), Fail> {
+    for (settings, expected, sessions, workers, (evictor, bucket, threshold), steps) in &TIMED {
+        let mut plan = plan(*sessions, *workers, USUAL)?;
+        plan.config = config(*settings)?;
+        plan.expected = *expected;
+        plan.periods = Periods {
+            evictor: *evictor,
+            bucket: *bucket,
+            threshold: *threshold,
+        };
+        assert!(rt;
+            plays(&rt, rt.alloc(), &plan, Way::Served, steps)?,
+            "a turn each {evictor} ms"
+        );
     }
     Ok(())
 }
 
-/// Sends a byte each 20 ms behind a last request, so many of them, or until the connection is closed.
-fn dribble<R: Clock>(rt: &R, stream: &mut TcpStream, count: u32) -> io::Result<()> {
-    stream.write_all(RENEWAL.as_bytes())?;
-    for _ in 0..count {
-        thread::sleep(rt, Duration::from_millis(20));
-        stream.write_all(b"x")?;
-    }
-    Ok(())
-}
-
-/// Whether a client that dribbles three seconds long is cut off within one of them.
-fn is_cut_off_soon<R: Clock>(rt: &R, stream: &mut TcpStream) -> io::Result<bool> {
-    let began = Instant::now(rt)?;
-    let sent = dribble(rt, stream, 150);
-    Ok(was_cut_off(sent) && began.elapsed(rt)? < Duration::from_secs(1))
-}
-
-/// Sends bytes without a pause behind a last request, for three seconds, or until the connection is closed.
-fn pour<R: Clock>(rt: &R, stream: &mut TcpStream) -> io::Result<()> {
-    let piece = [b'x'; 16_384];
-    stream.set_write_timeout(Some(Duration::from_secs(10)))?;
-    stream.write_all(RENEWAL.as_bytes())?;
-    let began = Instant::now(rt)?;
-    for _ in 0..u64::MAX {
-        if began.elapsed(rt)? >= Duration::from_secs(3) {
-            break;
-        }
-        stream.write_all(&piece)?;
-    }
-    Ok(())
-}
-
-/// What a client reads of its connection that dribbles for a second and a half first, longer than a server lingers.
-fn answered_after<R: Clock>(rt: &R, alloc: Global, stream: &mut TcpStream) -> io::Result<Vec<u8>> {
-    dribble(rt, stream, 75)?;
-    let mut answer = Vec::new(alloc);
-    stream.read_to_end(&mut answer)?;
-    Ok(answer)
-}
-
+/// No minute ends, so the journal doesn't begin anew.
 #[test]
-fn a_client_that_sends_on_is_cut_off(rt: HostRuntime) -> Result<(), Fail> {
-    let (listener, address) = listen(&rt)?;
-    let mut stream = TcpStream::connect(&rt, address)?;
-    let alloc = rt.alloc();
-    let mut plan = plan(1, 10_000)?;
-    plan.timeouts.linger = 40_000;
-    let (out, sent) = beside(&rt, alloc, &listener, &plan, move || {
-        send_on(alloc, &mut stream)
-    });
-    assert!(rt; was_cut_off(sent));
-    assert!(rt; out?.as_slice() == b"served 1\n".as_slice());
-    Ok(())
-}
-
-#[test]
-fn a_client_that_dribbles_on_is_cut_off(rt: HostRuntime) -> Result<(), Fail> {
-    let (listener, address) = listen(&rt)?;
-    let mut stream = TcpStream::connect(&rt, address)?;
-    let plan = plan(1, 10_000)?;
-    let machine = &rt;
-    let (out, is_cut_off) = beside(&rt, rt.alloc(), &listener, &plan, move || {
-        is_cut_off_soon(machine, &mut stream)
-    });
-    assert!(rt; is_cut_off?);
-    assert!(rt; out?.as_slice() == b"served 1\n".as_slice());
-    Ok(())
-}
-
-/// Long before a server's bytes have come, or its time is up.
-#[test]
-fn a_client_that_sends_more_than_is_dropped_is_cut_off(rt: HostRuntime) -> Result<(), Fail> {
-    let (listener, address) = listen(&rt)?;
-    let mut stream = TcpStream::connect(&rt, address)?;
-    let mut plan = plan(1, 10_000)?;
-    plan.timeouts.linger = 40_000;
-    plan.timeouts.linger_bytes = 20;
-    let machine = &rt;
-    let (out, sent) = beside(&rt, rt.alloc(), &listener, &plan, move || {
-        dribble(machine, &mut stream, 150)
-    });
-    assert!(rt; was_cut_off(sent));
-    assert!(rt; out?.as_slice() == b"served 1\n".as_slice());
-    Ok(())
-}
-
-/// The time is up for bytes that come fast as well, however many may come.
-#[test]
-fn a_client_that_pours_on_is_cut_off(rt: HostRuntime) -> Result<(), Fail> {
-    let (listener, address) = listen(&rt)?;
-    let mut stream = TcpStream::connect(&rt, address)?;
-    let mut plan = plan(1, 10_000)?;
-    plan.timeouts.linger_bytes = usize::MAX;
-    let machine = &rt;
-    let (out, sent) = beside(&rt, rt.alloc(), &listener, &plan, move || {
-        pour(machine, &mut stream)
-    });
-    assert!(rt; was_cut_off(sent));
-    assert!(rt; out?.as_slice() == b"served 1\n".as_slice());
-    Ok(())
-}
-
-/// What a client reads of its connection that sends a request; and the connection, which it keeps.
-fn answered_and_kept(
-    alloc: Global,
-    stream: TcpStream,
-    request: &str,
-) -> io::Result<(Vec<u8>, TcpStream)> {
-    let mut stream = stream;
-    stream.set_read_timeout(Some(Duration::from_secs(20)))?;
-    stream.write_all(request.as_bytes())?;
-    let mut answer = Vec::new(alloc);
-    stream.read_to_end(&mut answer)?;
-    Ok((answer, stream))
-}
-
-/// A client that has its answer, and says nothing more, is left when the time is up, which is shorter than that of a read.
-#[test]
-fn a_client_that_keeps_its_connection_is_left(rt: HostRuntime) -> Result<(), Fail> {
-    let (listener, address) = listen(&rt)?;
-    let stream = TcpStream::connect(&rt, address)?;
-    let plan = plan(1, 20_000)?;
-    let alloc = rt.alloc();
-    let began = Instant::now(&rt)?;
-    let (out, kept) = beside(&rt, alloc, &listener, &plan, move || {
-        answered_and_kept(alloc, stream, RENEWAL)
-    });
-    assert!(rt; out?.as_slice() == b"served 1\n".as_slice());
-    assert!(rt; began.elapsed(&rt)? < Duration::from_secs(10));
-    let (answer, stream) = kept?;
-    drop(stream);
-    assert!(rt; answer.as_slice() == LAST_MISSING.as_bytes());
-    Ok(())
-}
-
-/// Bytes that come one by one count as so many, not as so many reads.
-#[test]
-fn a_client_that_dribbles_for_a_while_has_its_answer(rt: HostRuntime) -> Result<(), Fail> {
-    let (listener, address) = listen(&rt)?;
-    let mut stream = TcpStream::connect(&rt, address)?;
-    let mut plan = plan(1, 10_000)?;
-    plan.timeouts.linger = 40_000;
-    plan.timeouts.linger_bytes = 100;
-    let (alloc, machine) = (rt.alloc(), &rt);
-    let (out, answer) = beside(machine, alloc, &listener, &plan, move || {
-        answered_after(machine, alloc, &mut stream)
-    });
-    assert!(rt; answer?.as_slice() == LAST_MISSING.as_bytes());
-    assert!(rt; out?.as_slice() == b"served 1\n".as_slice());
-    Ok(())
-}
-
-/// A registration of A/i1 with a member of half a million bytes.
-fn large_registration(alloc: Global) -> Result<String, AllocError> {
-    let mut text = String::new(alloc);
-    text.push_str(
-        "POST /eureka/apps/a HTTP/1.1\r\nHost: x\r\nConnection: close\r\nContent-Length: 500157\r\n\r\n{\"instance\":{\"instanceId\":\"i1\",\"hostName\":\"h\",\"app\":\"a\",\"ipAddr\":\"10.0.0.1\",\"status\":\"UP\",\"lastDirtyTimestamp\":\"5\",\"dataCenterInfo\":{\"name\":\"MyOwn\"},\"x\":\"",
-    )?;
-    for _ in 0..50_000 {
-        text.push_str("0123456789")?;
-    }
-    text.push_str("\"}}")?;
-    Ok(text)
-}
-
-/// Asks a hundred times for all that is registered, and reads no answer: more than the system keeps of a connection, where what is
-/// registered is large.
-fn ask_and_not_read(alloc: Global, stream: &mut TcpStream) -> io::Result<()> {
-    let mut requests = String::new(alloc);
-    for _ in 0..100 {
-        requests.push_str("GET /eureka/apps/ HTTP/1.1\r\nHost: x\r\n\r\n")?;
-    }
-    stream.write_all(requests.as_bytes())
-}
-
-/// Whether a client is answered while another keeps its connection and doesn't read, sooner than after the time of a server's write.
-fn is_answered_beside_one_who_does_not_read<R: Net<Stream = TcpStream> + Clock>(
-    rt: &R,
-    alloc: Global,
-    address: SocketAddr,
-) -> io::Result<bool> {
-    let large = large_registration(alloc)?;
-    let registered = is_answered(rt, alloc, address, &large, REGISTERED);
-    let began = Instant::now(rt)?;
-    let mut stream = TcpStream::connect(rt, address)?;
-    ask_and_not_read(alloc, &mut stream)?;
-    let answered = is_answered(rt, alloc, address, RENEWAL, LAST_MISSING);
-    let soon = began.elapsed(rt)? < Duration::from_secs(8);
-    drop(stream);
-    Ok(registered && answered && soon)
-}
-
-#[test]
-fn a_client_that_does_not_read_is_given_up(rt: HostRuntime) -> Result<(), Fail> {
-    let (listener, address) = listen(&rt)?;
-    let mut plan = plan(3, 10_000)?;
-    plan.workers = 1;
-    plan.timeouts.write = 300;
-    let (alloc, machine) = (rt.alloc(), &rt);
-    let (out, answered) = beside(machine, alloc, &listener, &plan, move || {
-        is_answered_beside_one_who_does_not_read(machine, alloc, address)
-    });
-    assert!(rt; answered?);
-    assert!(rt; out?.as_slice() == b"served 3\n".as_slice());
+fn a_book_is_handed_back_as_it_was_served(rt: HostRuntime) -> Result<(), Fail> {
+    let mut plan = plan(1, 2, USUAL)?;
+    plan.periods.bucket = 900_000;
+    let steps = [Step::Ask(1, REGISTRATION, REGISTERED)];
+    assert!(rt; plays(&rt, rt.alloc(), &plan, Way::Book, steps.as_slice())?);
     Ok(())
 }

@@ -1,13 +1,8 @@
 //! Want of memory. In a usual run no allocation is refused; `tools/sweep_memory.sh` refuses one after another.
-use crate::tests::batches::posted;
-use crate::tests::served::opened;
-use crate::tests::sessions::RENEWED;
+use crate::tests::books::{USUAL, opened, request_of};
 use eu_base::Fault;
 use eu_book::Book;
-use eu_clock::ListClock;
-use eu_fixtures::{
-    MISSING, REGISTERED, REGISTRATION, RENEWAL, clock, joined, looked, pause_or_go_on,
-};
+use eu_fixtures::{MISSING, clock, pause_or_go_on};
 use eu_routes::Routes;
 use eu_session::{SessionFault, serve_session};
 use eu_stream::Writing;
@@ -17,69 +12,65 @@ use std::alloc::{AllocError, Global};
 const UNAVAILABLE: &str =
     "HTTP/1.1 503 Service Unavailable\r\nContent-Type: application/json\r\nContent-Length: 11\r\n\r\n{\"fault\":3}";
 
-/// What a session is, and what it is to write. It is made before the session, which has its own memory refused alone.
+/// How a batch of one item is answered for which it finds none.
+const ITEM_UNAVAILABLE: &str = r#"{"responseList":[{"statusCode":503}]}"#;
+
+/// How a session ended, and what it wrote.
 #[derive(Drop)]
-struct Play {
-    text: String,
-    looked: String,
-    routes: Routes,
-    book: Book,
-    clock: ListClock,
+struct Said {
+    ended: Result<u32, SessionFault>,
     out: Vec<u8>,
 }
 
-fn text(alloc: Global) -> Result<String, AllocError> {
-    joined(
-        alloc,
-        &[
-            "POST /eureka/v2/apps/a HTTP/1.1\r\nHost: x\r\nContent-Length: 150\r\n\r\n",
-            REGISTRATION,
-            "GET /eureka/apps/A/i1 HTTP/1.1\r\nHost: x\r\n\r\n",
-            RENEWAL,
-        ],
-    )
-}
-
-fn make_play(alloc: Global) -> Result<Play, Fault> {
-    Ok(Play {
-        text: text(alloc)?,
-        looked: looked(alloc)?,
-        routes: Routes::new(alloc)?,
-        book: opened(alloc)?,
-        clock: clock(alloc, &[1000, 1001, 1002])?,
-        out: Vec::with_capacity(alloc, 4096)?,
-    })
-}
-
-fn serve(alloc: Global, play: &mut Play) -> Result<u32, SessionFault> {
-    let mut reader = play.text.as_bytes();
-    let mut writer = Writing::new(&mut play.out);
-    serve_session(
-        alloc,
-        &play.routes,
-        &mut play.book,
-        &mut play.clock,
-        &mut reader,
-        &mut writer,
-    )
-}
-
-/// What is behind the response, or behind another that want of memory brings; none where it is neither.
-fn behind<'t>(text: &'t str, response: &str) -> Option<&'t str> {
-    for each in [response, UNAVAILABLE, MISSING] {
-        if let Some(rest) = text.strip_prefix(each) {
-            return Some(rest);
-        }
+impl Said {
+    fn text(&self) -> &str {
+        str::from_utf8(&self.out).unwrap_or("?")
     }
-    None
 }
 
-/// How many whole responses were written; none where something else was.
-fn responses(text: &str, wanted: &[&str]) -> Option<u32> {
+/// A session with a reader, a writer and a clock of its own. With `is_refused`, refusals that had paused go on while it lasts, and then pause again.
+fn say(
+    alloc: Global,
+    routes: &Routes,
+    book: &mut Book,
+    text: &str,
+    is_refused: bool,
+) -> Result<Said, Fault> {
+    let mut clock = clock(alloc, &[1000, 1001, 1002])?;
+    let mut out = Vec::with_capacity(alloc, 4096)?;
+    let mut reader = text.as_bytes();
+    let mut writer = Writing::new(&mut out);
+    if is_refused {
+        pause_or_go_on(alloc);
+    }
+    let ended = serve_session(alloc, routes, book, &mut clock, &mut reader, &mut writer);
+    if is_refused {
+        pause_or_go_on(alloc);
+    }
+    drop(clock);
+    Ok(Said { ended, out })
+}
+
+/// A registration, a look at its lease and a renewal.
+const REQUESTS: &str =
+    "POST /eureka/v2/apps/a HTTP/1.1\r\nHost: x\r\nContent-Length: 150\r\n\r\n{\"instance\":{\"instanceId\":\"i1\",\"hostName\":\"h\",\"app\":\"a\",\"ipAddr\":\"10.0.0.1\",\"status\":\"UP\",\"lastDirtyTimestamp\":\"5\",\"dataCenterInfo\":{\"name\":\"MyOwn\"}}}GET /eureka/apps/A/i1 HTTP/1.1\r\nHost: x\r\n\r\nPUT /eureka/apps/A/i1 HTTP/1.1\r\nHost: x\r\n\r\n";
+
+/// What they are answered.
+const RESPONSES: [&str; 3] = [
+    "HTTP/1.1 204 No Content\r\n\r\n",
+    "HTTP/1.1 200 OK\r\nContent-Type: application/json\r\nContent-Length: 345\r\n\r\n{\"instance\":{\"app\":\"A\",\"dataCenterInfo\":{\"name\":\"MyOwn\"},\"hostName\":\"h\",\"instanceId\":\"i1\",\"ipAddr\":\"10.0.0.1\",\"lastDirtyTimestamp\":\"5\",\"leaseInfo\":{\"durationInSecs\":90,\"evictionTimestamp\":0,\"lastRenewalTimestamp\":1000,\"registrationTimestamp\":1000,\"renewalIntervalInSecs\":30,\"serviceUpTimestamp\":1000},\"overriddenStatus\":\"UNKNOWN\",\"status\":\"UP\"}}",
+    "HTTP/1.1 200 OK\r\nContent-Length: 0\r\n\r\n",
+];
+
+/// How many whole responses were written, some of which want of memory may have brought; none where something else was.
+fn responses(text: &str) -> Option<u32> {
     let mut rest = text;
     let mut count = 0u32;
-    for response in wanted {
-        match behind(rest, response) {
+    for response in RESPONSES {
+        let or_refused = rest
+            .strip_prefix(UNAVAILABLE)
+            .or(rest.strip_prefix(MISSING));
+        match rest.strip_prefix(response).or(or_refused) {
             Some(others) => rest = others,
             None => break,
         }
@@ -88,21 +79,13 @@ fn responses(text: &str, wanted: &[&str]) -> Option<u32> {
     if rest.is_empty() { Some(count) } else { None }
 }
 
-/// How many whole responses a session wrote.
-fn written(play: &Play) -> Option<u32> {
-    let text = str::from_utf8(&play.out).unwrap_or("?");
-    responses(text, &[REGISTERED, play.looked.as_str(), RENEWED])
-}
-
-/// Whether a session of three requests answers them all, or ends by want of memory behind whole responses, and asked for no more than
-/// their commands and those of one request more.
-fn is_served(alloc: Global, play: &mut Play) -> bool {
-    let served = serve(alloc, play);
-    let Some(count) = written(play) else {
+/// Whether a session of three requests answered them all, or ended by want of memory behind whole responses, and asked for no more than their
+/// commands and those of one request more.
+fn is_served(said: &Said, steps: u64) -> bool {
+    let Some(count) = responses(said.text()) else {
         return false;
     };
-    let steps = play.book.totals().steps;
-    match served {
+    match said.ended {
         Ok(3) => count == 3 && steps <= 2,
         Err(SessionFault::OutOfMemory) => count < 3 && steps <= u64::from(count) + 1,
         _ => false,
@@ -110,10 +93,10 @@ fn is_served(alloc: Global, play: &mut Play) -> bool {
 }
 
 fn is_played(alloc: Global) -> Result<bool, Fault> {
-    let mut play = make_play(alloc)?;
-    let is_served = is_served(alloc, &mut play);
-    drop(play);
-    Ok(is_served)
+    let mut book = opened(alloc, USUAL)?;
+    let routes = Routes::new(alloc)?;
+    let said = say(alloc, &routes, &mut book, REQUESTS, false)?;
+    Ok(is_served(&said, book.totals().steps))
 }
 
 /// Whether a session is so, at the second try where there was no memory to begin the first.
@@ -138,49 +121,6 @@ struct Twins {
     routes: Routes,
 }
 
-/// How a session ended, and what it wrote.
-#[derive(Drop)]
-struct Said {
-    ended: Result<u32, SessionFault>,
-    out: Vec<u8>,
-}
-
-impl Said {
-    fn text(&self) -> &str {
-        str::from_utf8(&self.out).unwrap_or("?")
-    }
-
-    /// Whether the desk found no memory, for the request or for the one item of its batch.
-    fn is_wanting(&self) -> bool {
-        self.text() == UNAVAILABLE || self.text().ends_with(ITEM_UNAVAILABLE)
-    }
-}
-
-const ITEM_UNAVAILABLE: &str = r#"{"responseList":[{"statusCode":503}]}"#;
-
-/// A session of one request, with a reader, a writer and a clock of its own, whose own memory alone is refused, or none.
-fn say(
-    alloc: Global,
-    routes: &Routes,
-    book: &mut Book,
-    request: &str,
-    is_refused: bool,
-) -> Result<Said, Fault> {
-    let mut clock = clock(alloc, &[1000])?;
-    let mut out = Vec::with_capacity(alloc, 4096)?;
-    let mut reader = request.as_bytes();
-    let mut writer = Writing::new(&mut out);
-    if is_refused {
-        pause_or_go_on(alloc);
-    }
-    let ended = serve_session(alloc, routes, book, &mut clock, &mut reader, &mut writer);
-    if is_refused {
-        pause_or_go_on(alloc);
-    }
-    drop(clock);
-    Ok(Said { ended, out })
-}
-
 /// Everything that a book holds, as a text.
 fn held(alloc: Global, book: &Book) -> Result<String, AllocError> {
     let state = book.state(alloc)?;
@@ -196,10 +136,15 @@ fn are_same(alloc: Global, twins: &Twins) -> Result<bool, AllocError> {
     Ok(one.as_str() == other.as_str())
 }
 
+/// Whether the desk found no memory, for the request or for the one item of its batch.
+fn is_wanting(text: &str) -> bool {
+    text == UNAVAILABLE || text.ends_with(ITEM_UNAVAILABLE)
+}
+
 /// Whether a session found no memory, and wrote nothing but what tells so. `Mismatch` where it ended otherwise than it may.
 fn found_none(said: &Said) -> Result<bool, Fault> {
     match said.ended {
-        Ok(1) => Ok(said.is_wanting()),
+        Ok(1) => Ok(is_wanting(said.text())),
         Err(SessionFault::OutOfMemory) if said.out.is_empty() => Ok(true),
         _ => Err(Fault::Mismatch),
     }
@@ -237,40 +182,29 @@ fn is_answered(alloc: Global, twins: &mut Twins, request: &str, head: &str) -> R
     Ok(is_alike && has_head && are_same(alloc, twins)?)
 }
 
-const OK: &str = "HTTP/1.1 200 OK\r\n";
-
-/// Requests without a body, with the heads of their responses.
-const REQUESTS: [(&str, &str); 12] = [
-    ("GET /eureka/apps/A/%69%31", OK),
-    ("GET /eureka/apps/A", OK),
-    ("GET /eureka/apps", OK),
-    ("GET /eureka/status", OK),
-    (
-        "PUT /eureka/apps/A/i1/status?value=OUT_OF_SERVICE&lastDirtyTimestamp=6",
-        OK,
-    ),
-    (
-        "PUT /eureka/apps/A/i1?lastDirtyTimestamp=6&overriddenstatus=OUT_OF_SERVICE",
-        OK,
-    ),
-    ("DELETE /eureka/apps/A/i1/status?value=UP", OK),
-    (
-        "PUT /eureka/config?preservation=on&percent=50&interval=15&evictMs=60000",
-        OK,
-    ),
-    (
-        "PUT /eureka/config?preservation=on&percent=101&interval=15&evictMs=60000",
-        "HTTP/1.1 400 Bad Request\r\n",
-    ),
-    ("GET /eureka/apps/delta", "HTTP/1.1 403 Forbidden\r\n"),
-    ("DELETE /eureka/apps/A/i1", OK),
-    ("GET /eureka/apps/A/i1", "HTTP/1.1 404 Not Found\r\n"),
+/// Requests, each with how its answer begins.
+const ROWS: [&str; 14] = [
+    "POST /eureka/apps/A HTTP/1.1\r\nHost: x\r\nTransfer-Encoding: chunked\r\n\r\n96\r\n{\"instance\":{\"instanceId\":\"i1\",\"hostName\":\"h\",\"app\":\"a\",\"ipAddr\":\"10.0.0.1\",\"status\":\"UP\",\"lastDirtyTimestamp\":\"5\",\"dataCenterInfo\":{\"name\":\"MyOwn\"}}}\r\n0\r\n\r\n = HTTP/1.1 204 No Content\r\n\r\n",
+    "POST /eureka/peerreplication/batch/ {\"replicationList\":[{\"action\":\"Heartbeat\",\"appName\":\"A\",\"id\":\"i1\",\"lastDirtyTimestamp\":\"4\"}]} = HTTP/1.1 200 OK\r\n",
+    "GET /eureka/apps/A/%69%31 = HTTP/1.1 200 OK\r\n",
+    "GET /eureka/apps/A = HTTP/1.1 200 OK\r\n",
+    "GET /eureka/apps = HTTP/1.1 200 OK\r\n",
+    "GET /eureka/status = HTTP/1.1 200 OK\r\n",
+    "PUT /eureka/apps/A/i1/status?value=OUT_OF_SERVICE&lastDirtyTimestamp=6 = HTTP/1.1 200 OK\r\n",
+    "PUT /eureka/apps/A/i1?lastDirtyTimestamp=6&overriddenstatus=OUT_OF_SERVICE = HTTP/1.1 200 OK\r\n",
+    "DELETE /eureka/apps/A/i1/status?value=UP = HTTP/1.1 200 OK\r\n",
+    "PUT /eureka/config?preservation=on&percent=50&interval=15&evictMs=60000 = HTTP/1.1 200 OK\r\n",
+    "PUT /eureka/config?preservation=on&percent=101&interval=15&evictMs=60000 = HTTP/1.1 400 Bad Request\r\n",
+    "GET /eureka/apps/delta = HTTP/1.1 403 Forbidden\r\n",
+    "DELETE /eureka/apps/A/i1 = HTTP/1.1 200 OK\r\n",
+    "GET /eureka/apps/A/i1 = HTTP/1.1 404 Not Found\r\n",
 ];
 
 /// Whether each request is answered so.
 fn are_answered(alloc: Global, twins: &mut Twins) -> Result<bool, Fault> {
-    for (line, head) in &REQUESTS {
-        let request = joined(alloc, &[*line, " HTTP/1.1\r\nHost: x\r\n\r\n"])?;
+    for row in &ROWS {
+        let (words, head) = row.split_once(" = ").ok_or(Fault::BadValue)?;
+        let request = request_of(alloc, words)?;
         if !is_answered(alloc, twins, &request, head)? {
             return Ok(false);
         }
@@ -278,36 +212,16 @@ fn are_answered(alloc: Global, twins: &mut Twins) -> Result<bool, Fault> {
     Ok(true)
 }
 
-/// Whether a client registers, by a body of one chunk.
-fn registers(alloc: Global, twins: &mut Twins) -> Result<bool, Fault> {
-    let head =
-        "POST /eureka/apps/A HTTP/1.1\r\nHost: x\r\nTransfer-Encoding: chunked\r\n\r\n96\r\n";
-    let request = joined(alloc, &[head, REGISTRATION, "\r\n0\r\n\r\n"])?;
-    is_answered(alloc, twins, &request, "HTTP/1.1 204 No Content\r\n")
-}
-
-/// Whether a peer's batch of a heartbeat is answered, whose stamp is older than what is held.
-fn conflicts(alloc: Global, twins: &mut Twins) -> Result<bool, Fault> {
-    let body =
-        r#"{"replicationList":[{"action":"Heartbeat","appName":"A","id":"i1","lastDirtyTimestamp":"4"}]}"#;
-    let request = posted(alloc, body)?;
-    is_answered(alloc, twins, &request, OK)
-}
-
-fn play_requests(alloc: Global, twins: &mut Twins) -> Result<bool, Fault> {
-    Ok(registers(alloc, twins)? && conflicts(alloc, twins)? && are_answered(alloc, twins)?)
-}
-
 fn each_request(alloc: Global) -> Result<bool, Fault> {
     pause_or_go_on(alloc);
     let mut twins = Twins {
-        tried: opened(alloc)?,
-        other: opened(alloc)?,
+        tried: opened(alloc, USUAL)?,
+        other: opened(alloc, USUAL)?,
         routes: Routes::new(alloc)?,
     };
-    let played = play_requests(alloc, &mut twins);
+    let answered = are_answered(alloc, &mut twins);
     drop(twins);
-    played
+    answered
 }
 
 #[test]

@@ -1,0 +1,220 @@
+//! Whole runs of servers, with clients.
+use crate::tests::client::Step;
+use crate::tests::files::{Place, holds_each};
+use crate::tests::runs::{first_wrong, plays};
+use eu_clock::FirstChooser;
+use eu_fixtures::settings;
+use eu_options::Serving;
+use eu_program::{listen, serve};
+use std::alloc::Global;
+use std::net::{IpAddr, Ipv4Addr, Net, TcpListener, TcpStream};
+use std::sync::{Mutex, Wait};
+use std::test::Fail;
+use std::thread::Threads;
+use std::time::Clock;
+
+/// A server of no session, on that port.
+fn idle(port: u16) -> Serving {
+    Serving {
+        port,
+        sessions: 0,
+        workers: 2,
+        expected: 1,
+    }
+}
+
+/// One that is done has exit status 0, and one whose port is taken another.
+#[test]
+fn a_server_of_no_session_ends_at_once(rt: HostRuntime) -> Result<(), Fail> {
+    let config = settings()?;
+    assert!(rt; serve(&rt, config, idle(0), None, FirstChooser) == 0);
+    let taken = TcpListener::bind(&rt, "127.0.0.1:0")?;
+    let port = taken.local_addr()?.port();
+    assert!(rt; serve(&rt, config, idle(port), None, FirstChooser) == 3);
+    Ok(())
+}
+
+#[test]
+fn a_server_listens_to_its_own_machine_alone(rt: HostRuntime) -> Result<(), Fail> {
+    let ip = match listen(&rt, 0) {
+        Some(listener) => Some(listener.local_addr()?.ip()),
+        None => None,
+    };
+    assert!(rt; ip == Some(IpAddr::V4(Ipv4Addr::LOCALHOST)));
+    Ok(())
+}
+
+/// A look at the status page, and the page where nothing is held.
+const LOOK: &str = "GET /eureka/status HTTP/1.1\r\nHost: x\r\nConnection: close\r\n\r\n";
+
+const LOOKED: &str =
+    "HTTP/1.1 200 OK\r\nContent-Type: text/plain; charset=utf-8\r\nContent-Length: 79\r\nConnection: close\r\n\r\nheld 0\nexpected 7\nthreshold 10\nlast 0\npreservation off\npermitted yes\nstatuses \n";
+
+/// The page where two of four leases have gone: 7 + 4 - 2 are expected.
+const TWO_LEFT: &str =
+    "HTTP/1.1 200 OK\r\nContent-Type: text/plain; charset=utf-8\r\nContent-Length: 84\r\nConnection: close\r\n\r\nheld 2\nexpected 9\nthreshold 13\nlast 0\npreservation off\npermitted yes\nstatuses UP_2_\n";
+
+/// A renewal of a lease that isn't there.
+const RENEWAL: &str = "PUT /eureka/apps/A/zz HTTP/1.1\r\nHost: x\r\nConnection: close\r\n\r\n";
+
+/// A request for what is held of A, expired or not.
+const LIST: &str = "GET /eureka/apps/A HTTP/1.1\r\nHost: x\r\nConnection: close\r\n\r\n";
+
+/// Requests by which clients register for a second, and how their answer begins.
+const I0: &str =
+    "POST /eureka/apps/a HTTP/1.1\r\nHost: x\r\nConnection: close\r\nContent-Length: 183\r\n\r\n{\"instance\":{\"instanceId\":\"i0\",\"hostName\":\"h\",\"app\":\"a\",\"ipAddr\":\"10.0.0.1\",\"status\":\"UP\",\"lastDirtyTimestamp\":\"5\",\"dataCenterInfo\":{\"name\":\"MyOwn\"},\"leaseInfo\":{\"durationInSecs\":1}}}";
+
+const I1: &str =
+    "POST /eureka/apps/a HTTP/1.1\r\nHost: x\r\nConnection: close\r\nContent-Length: 183\r\n\r\n{\"instance\":{\"instanceId\":\"i1\",\"hostName\":\"h\",\"app\":\"a\",\"ipAddr\":\"10.0.0.1\",\"status\":\"UP\",\"lastDirtyTimestamp\":\"5\",\"dataCenterInfo\":{\"name\":\"MyOwn\"},\"leaseInfo\":{\"durationInSecs\":1}}}";
+
+const I2: &str =
+    "POST /eureka/apps/a HTTP/1.1\r\nHost: x\r\nConnection: close\r\nContent-Length: 183\r\n\r\n{\"instance\":{\"instanceId\":\"i2\",\"hostName\":\"h\",\"app\":\"a\",\"ipAddr\":\"10.0.0.1\",\"status\":\"UP\",\"lastDirtyTimestamp\":\"5\",\"dataCenterInfo\":{\"name\":\"MyOwn\"},\"leaseInfo\":{\"durationInSecs\":1}}}";
+
+const I3: &str =
+    "POST /eureka/apps/a HTTP/1.1\r\nHost: x\r\nConnection: close\r\nContent-Length: 183\r\n\r\n{\"instance\":{\"instanceId\":\"i3\",\"hostName\":\"h\",\"app\":\"a\",\"ipAddr\":\"10.0.0.1\",\"status\":\"UP\",\"lastDirtyTimestamp\":\"5\",\"dataCenterInfo\":{\"name\":\"MyOwn\"},\"leaseInfo\":{\"durationInSecs\":1}}}";
+
+const DONE: &str = "HTTP/1.1 204 *";
+
+/// Two clients at once: one registers, and what the other renews isn't held.
+const TWO: [Step; 7] = [
+    Step::Connect,
+    Step::Connect,
+    Step::Send(0, I1),
+    Step::Send(1, RENEWAL),
+    Step::Read(0, DONE),
+    Step::Read(1, "HTTP/1.1 404 *"),
+    Step::Within(5_000),
+];
+
+/// A client that registers waits until another, which came before it and is silent for a second, has read that nothing is held.
+const IN_TURN: [Step; 7] = [
+    Step::Connect,
+    Step::Connect,
+    Step::Send(1, I1),
+    Step::Sleep(1_000),
+    Step::Send(0, LOOK),
+    Step::Read(0, LOOKED),
+    Step::Read(1, DONE),
+];
+
+/// A server's run, and what a client does meanwhile.
+type Served = (&'static str, &'static [Step]);
+
+/// The place of the first server of which something else comes, at machines without a file.
+fn first_wrong_server<
+    R: Threads + Wait + Clock + Net<Listener = TcpListener, Stream = TcpStream> + Sync,
+>(rt: &R, alloc: Global, rows: &[Served]) -> Option<usize> {
+    let mut number = 0usize;
+    for (line, steps) in rows {
+        if plays(rt, alloc, line, steps).is_some() {
+            return Some(number);
+        }
+        number = number.saturating_add(1);
+    }
+    None
+}
+
+/// Servers that have the settings that they are given, that serve two clients at once, and that have one worker alone.
+const SERVED: [Served; 3] = [
+    (
+        r#"eureka serve --port 0 --sessions 1 --expected 7 --preservation off --percent 50 --interval 20 = 0 "served 1\n" "listening on 127.0.0.1:*\n""#,
+        &[Step::Ask(LOOK, LOOKED)],
+    ),
+    (
+        r#"eureka serve --port 0 --sessions 2 = 0 "served 2\n" "listening on 127.0.0.1:*\n""#,
+        &TWO,
+    ),
+    (
+        r#"eureka serve --port 0 --sessions 2 --workers 1 --expected 7 --preservation off --percent 50 --interval 20 --evict-ms 4000 --seed 3 --journal kept.journal = 0 "served 2\n" "listening on 127.0.0.1:*\n""#,
+        &IN_TURN,
+    ),
+];
+
+#[test]
+fn a_server_goes_by_its_options(rt: HostRuntime) {
+    assert_eq!(rt;
+        first_wrong_server(&rt, rt.alloc(), SERVED.as_slice()),
+        None
+    );
+}
+
+/// While two keep a worker each, four register, and six seconds later just two are held; then the first one is answered.
+const SEEDED: [Step; 11] = [
+    Step::Connect,
+    Step::Connect,
+    Step::Ask(I0, DONE),
+    Step::Ask(I1, DONE),
+    Step::Ask(I2, DONE),
+    Step::Ask(I3, DONE),
+    Step::Within(5_000),
+    Step::Sleep(6_000),
+    Step::List(
+        LIST,
+        &["\"instanceId\":\"i0\"", "\"instanceId\":\"i2\""],
+        &["\"instanceId\":\"i1\"", "\"instanceId\":\"i3\""],
+    ),
+    Step::Send(0, LOOK),
+    Step::Read(0, TWO_LEFT),
+];
+
+/// The same, where the first in key order have gone.
+const FIRST: [Step; 11] = [
+    Step::Connect,
+    Step::Connect,
+    Step::Ask(I0, DONE),
+    Step::Ask(I1, DONE),
+    Step::Ask(I2, DONE),
+    Step::Ask(I3, DONE),
+    Step::Within(5_000),
+    Step::Sleep(6_000),
+    Step::List(
+        LIST,
+        &["\"instanceId\":\"i2\"", "\"instanceId\":\"i3\""],
+        &["\"instanceId\":\"i0\"", "\"instanceId\":\"i1\""],
+    ),
+    Step::Send(0, LOOK),
+    Step::Read(0, TWO_LEFT),
+];
+
+/// Servers of seven sessions, three at once, which evict after four seconds: by the words of the seed 3, and without a seed.
+const EVICTING: [Served; 2] = [
+    (
+        r#"eureka serve --port 0 --sessions 7 --workers 3 --expected 7 --preservation off --percent 50 --interval 20 --evict-ms 4000 --seed 3 = 0 "served 7\n" "listening on 127.0.0.1:*\n""#,
+        &SEEDED,
+    ),
+    (
+        r#"eureka serve --port 0 --sessions 7 --workers 3 --expected 7 --preservation off --percent 50 --interval 20 --evict-ms 4000 = 0 "served 7\n" "listening on 127.0.0.1:*\n""#,
+        &FIRST,
+    ),
+];
+
+#[test]
+fn a_server_evicts_by_its_seed(rt: HostRuntime) {
+    assert_eq!(rt;
+        first_wrong_server(&rt, rt.alloc(), EVICTING.as_slice()),
+        None
+    );
+}
+
+/// The first of these, which leaves a journal.
+const WITH_JOURNAL: &str =
+    r#"eureka serve --port 0 --sessions 7 --workers 3 --expected 7 --preservation off --percent 50 --interval 20 --evict-ms 4000 --seed 3 --journal kept.journal = 0 "served 7\n" "listening on 127.0.0.1:*\n""#;
+
+/// An audit of that.
+const AUDIT: &str = r#"eureka audit --journal kept.journal = 0 "audit yes *" """#;
+
+/// Whether what it did is in the journal.
+fn is_in_the_journal<
+    R: Threads + Wait + Clock + Net<Listener = TcpListener, Stream = TcpStream> + Sync,
+>(rt: &R, alloc: Global) -> bool {
+    let place: Place = Mutex::new(None);
+    let served = first_wrong(rt, alloc, &place, WITH_JOURNAL, SEEDED.as_slice());
+    let audited = first_wrong(rt, alloc, &place, AUDIT, &[]);
+    let has_each = holds_each(place, ["i0", "i1", "i2", "i3"].as_slice());
+    has_each && served.is_none() && audited.is_none()
+}
+
+#[test]
+fn a_server_with_a_journal_evicts_by_its_seed(rt: HostRuntime) {
+    assert!(rt; is_in_the_journal(&rt, rt.alloc()));
+}

@@ -1,0 +1,107 @@
+//! Sessions told as text.
+ghost use Rattle.std.specs.Prelude.{None};
+
+use eu_base::Fault;
+use eu_clock::{Clock, ListClock};
+use eu_fixtures::{clock, numbered};
+use eu_model::Desk;
+use eu_routes::Routes;
+use eu_session::{SessionFault, serve_session};
+use eu_stream::{Sink, Source, WriteFault};
+use std::alloc::Global;
+
+/// Holds what is written, and fails where it is full.
+#[derive(Drop)]
+struct Narrow {
+    held: Vec<u8>,
+    most: usize,
+    has_failed: bool,
+}
+
+impl Sink for Narrow {
+    ghost stream = { λ _. 0 };
+
+    ghost contents = { λ _. None };
+
+    ghost failed = { λ s. s.has_failed };
+
+    fn write_some(&mut self, bytes: &[u8]) -> Result<usize, WriteFault> {
+        let count = bytes.len().min(self.most.saturating_sub(self.held.len()));
+        let is_taken = self.held.extend_from_slice(&bytes[..count]).is_ok();
+        if !is_taken || (count == 0 && !bytes.is_empty()) {
+            self.has_failed = true;
+            return Err(WriteFault);
+        }
+        Ok(count)
+    }
+
+    fn flush(&mut self) -> Result<(), WriteFault> {
+        if self.held.len() >= self.most {
+            self.has_failed = true;
+            return Err(WriteFault);
+        }
+        Ok(())
+    }
+}
+
+fn serve<D: Desk, R: Source>(
+    alloc: Global,
+    desk: &mut D,
+    clock: &mut ListClock,
+    reader: &mut R,
+    writer: &mut Narrow,
+) -> Result<u32, SessionFault> {
+    match Routes::new(alloc) {
+        Ok(routes) => {
+            let served = serve_session(alloc, &routes, desk, clock, reader, writer);
+            drop(routes);
+            served
+        }
+        Err(_error) => Err(SessionFault::OutOfMemory),
+    }
+}
+
+/// Serves a session at the moments 1000, 1001 and 1002 to a writer that holds so much. Tells how many requests it had, or the number of its
+/// fault; the moment that the clock tells next; and what was written.
+pub fn told<D: Desk, R: Source>(
+    alloc: Global,
+    desk: &mut D,
+    reader: &mut R,
+    most: usize,
+) -> Result<String, Fault> {
+    let mut clock = clock(alloc, &[1000, 1001, 1002])?;
+    let mut writer = Narrow {
+        held: Vec::new(alloc),
+        most,
+        has_failed: false,
+    };
+    let (word, number) = match serve(alloc, desk, &mut clock, reader, &mut writer) {
+        Ok(count) => ("requests", count),
+        Err(fault) => ("fault", u32::from(fault.fault().number())),
+    };
+    let next = clock.now().ms();
+    let written = str::from_utf8(&writer.held).unwrap_or("?");
+    let told = format!(in alloc; "{word} {number} next {next} {written}");
+    drop((clock, writer));
+    Ok(told?)
+}
+
+fn push_repeated(out: &mut String, words: &str) -> Result<(), Fault> {
+    let (count, part) = numbered(words)?;
+    for _ in 0..count {
+        out.push_str(part)?;
+    }
+    Ok(())
+}
+
+/// A text with its marks written out: `¶` is CR LF, `␤` is LF, and `‹3 ab›` is `ababab`.
+pub fn spelled(alloc: Global, text: &str) -> Result<String, Fault> {
+    let text = text.replace(alloc, "¶", "\r\n")?.replace(alloc, "␤", "\n")?;
+    let mut out = String::new(alloc);
+    for part in text.as_str().split('›') {
+        let (before, repeated) = part.split_once('‹').unwrap_or((part, "0 "));
+        out.push_str(before)?;
+        push_repeated(&mut out, repeated)?;
+    }
+    Ok(out)
+}

@@ -18,7 +18,7 @@ use std::alloc::{AllocError, Global};
 fn is_plain_lease(lease: &Listed) -> bool
     ensures { result ≡ is_plain_lease lease.now }
 {
-    let most = LAST_MOMENT + 1000 * u64::from(lease.instance.secs.secs());
+    let most = LAST_MOMENT + 1000 * u64::from(lease.instance.secs().secs());
     lease.times.registered <= LAST_MOMENT
         && lease.times.updated <= most
         && lease.times.up <= LAST_MOMENT
@@ -55,7 +55,7 @@ fn read_leases(alloc: Global, leases: &[Listed]) -> Result<Leases, AllocError>
     let mut table = Leases::new(alloc);
     let mut left = leases;
     while let Some((lease, before)) = left.split_last() {
-        let key = lease.instance.key.copy(alloc)?;
+        let key = lease.instance.key().copy(alloc)?;
         table.put(key, copied(alloc, lease)?)?;
         left = before;
     }

@@ -16,7 +16,8 @@ use crate::plain::{ordered_leases, ordered_rows};
 use eu_audit_changes::{Changed, adopt, cancel, register, renew, set_status, unset_status};
 use eu_audit_tables::{Leases, Overrides};
 use eu_base::{
-    Config, Id, Instance, Key, MOST_EXPECTED, MOST_LEASES, MOST_RENEWALS, Moment, Stamp, Status,
+    Config, Id, Key, MOST_EXPECTED, MOST_LEASES, MOST_RENEWALS, Moment, SharedInstance, Stamp,
+    Status,
 };
 use eu_model::{Command, Entry, Listed, Reply, State};
 use std::alloc::{AllocError, Global};
@@ -156,14 +157,14 @@ impl Replica {
     fn registered(
         &self,
         alloc: Global,
-        instance: &Instance,
+        instance: &SharedInstance,
         replicated: bool,
         moment: Moment,
     ) -> Result<Changed, AllocError>
         ensures changed { IfOk result (λ c. change_of c ≡ plain_register (map.get self.now.leases instance.now.key) (map.get self.now.overrides instance.now.key.id) self.now.expected instance.now replicated moment) }
         ensures limits { IsWithinLimits self.now }
     {
-        let key = &instance.key;
+        let key = instance.key();
         let held = self.leases.get(key);
         let row = self.overrides.get(&key.id);
         register(
@@ -181,13 +182,13 @@ impl Replica {
     fn adopted(
         &self,
         alloc: Global,
-        instance: &Instance,
+        instance: &SharedInstance,
         moment: Moment,
     ) -> Result<Changed, AllocError>
         ensures changed { IfOk result (λ c. change_of c ≡ plain_adopt (map.get self.now.leases instance.now.key) (map.get self.now.overrides instance.now.key.id) self.now.expected instance.now moment) }
         ensures limits { IsWithinLimits self.now }
     {
-        let key = &instance.key;
+        let key = instance.key();
         let held = self.leases.get(key);
         let row = self.overrides.get(&key.id);
         adopt(alloc, held, row, self.expected, instance, moment)
@@ -275,14 +276,14 @@ impl Replica {
     fn register(
         self,
         alloc: Global,
-        instance: &Instance,
+        instance: &SharedInstance,
         replicated: bool,
         moment: Moment,
         reply: &Reply,
     ) -> Result<Option<Replica>, AllocError>
         ensures { IfOk result (Judged (PlainStep self (Command.Register instance.now replicated) moment reply.now)) }
     {
-        let key = &instance.key;
+        let key = instance.key();
         if !self.can_join(key) {
             return Ok(None);
         }
@@ -294,13 +295,13 @@ impl Replica {
     fn adopt(
         self,
         alloc: Global,
-        instance: &Instance,
+        instance: &SharedInstance,
         moment: Moment,
         reply: &Reply,
     ) -> Result<Option<Replica>, AllocError>
         ensures { IfOk result (Judged (PlainStep self (Command.Adopt instance.now) moment reply.now)) }
     {
-        let key = &instance.key;
+        let key = instance.key();
         if !self.can_join(key) {
             return Ok(None);
         }
@@ -408,7 +409,7 @@ impl Replica {
     }
 
     /// The instance that is held under a key, where one is given.
-    pub(crate) fn held(&self, key: Option<&Key>) -> Option<&Instance>
+    pub(crate) fn held(&self, key: Option<&Key>) -> Option<&SharedInstance>
         ensures { option_copied result ≡ held_under self.now (option_copied key.entry) }
     {
         match self.leases.get(key?) {

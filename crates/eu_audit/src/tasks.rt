@@ -5,7 +5,7 @@ ghost use Rattle.eu_base.specs.declared.instances.Instance as value;
 ghost use Rattle.eu_base.specs.declared.statuses.Status as own;
 ghost use Rattle.eu_model.specs.Server.{key_of, task_for, task};
 
-use eu_base::{Action, Instance, Key, Moment, Status, Task};
+use eu_base::{Action, Key, Moment, SharedInstance, Status, Task};
 use eu_model::{Command, Reply};
 use std::alloc::{AllocError, Global};
 
@@ -15,14 +15,14 @@ fn task(
     action: Action,
     key: &Key,
     status: Option<Status>,
-    held: Option<&Instance>,
+    held: Option<&SharedInstance>,
     moment: Moment,
 ) -> Result<Option<Task>, AllocError>
     ensures { IfOk result (λ t. t ≡ Some (task action key.now status (option_copied held.entry) moment)) }
 {
     let key = key.copy(alloc)?;
     let instance = match held {
-        Some(held) => Some(held.copy(alloc)?),
+        Some(held) => Some(held.share()?),
         None => None,
     };
     Ok(Some(Task {
@@ -35,11 +35,11 @@ fn task(
 }
 
 /// The status of what is held.
-fn status_of(held: Option<&Instance>) -> Option<Status>
+fn status_of(held: Option<&SharedInstance>) -> Option<Status>
     ensures { result ≡ option_map (λ (i : value.Instance). i.status) (option_copied held.entry) }
 {
     match held {
-        Some(held) => Some(held.status),
+        Some(held) => Some(held.status()),
         None => None,
     }
 }
@@ -47,17 +47,17 @@ fn status_of(held: Option<&Instance>) -> Option<Status>
 /// The task of a registration that is answered so, if there is one. `AllocError` where no memory is left.
 fn task_of_registration(
     alloc: Global,
-    instance: &Instance,
+    instance: &SharedInstance,
     replicated: bool,
     moment: Moment,
     reply: &Reply,
-    held: Option<&Instance>,
+    held: Option<&SharedInstance>,
 ) -> Result<Option<Task>, AllocError>
     ensures { IfOk result (λ t. t ≡ task_for (Command.Register instance.now replicated) moment reply.now (option_copied held.entry)) }
 {
     match reply {
         Reply::Registered { .. } if !replicated => {
-            task(alloc, Action::Register, &instance.key, None, held, moment)
+            task(alloc, Action::Register, instance.key(), None, held, moment)
         }
         _ => Ok(None),
     }
@@ -70,7 +70,7 @@ fn task_of_renewal(
     replicated: bool,
     moment: Moment,
     reply: &Reply,
-    held: Option<&Instance>,
+    held: Option<&SharedInstance>,
 ) -> Result<Option<Task>, AllocError>
     ensures { IfOk result (λ t. (last_dirty : Option ℕ) (overridden : Option own.Status) → t ≡ task_for (Command.Renew key.now last_dirty overridden replicated) moment reply.now (option_copied held.entry)) }
 {
@@ -111,7 +111,7 @@ fn task_of_status(
     replicated: bool,
     moment: Moment,
     reply: &Reply,
-    held: Option<&Instance>,
+    held: Option<&SharedInstance>,
 ) -> Result<Option<Task>, AllocError>
     ensures { IfOk result (λ t. (last_dirty : Option ℕ) → t ≡ task_for (Command.SetStatus key.now status last_dirty replicated) moment reply.now (option_copied held.entry)) }
 {
@@ -135,7 +135,7 @@ fn task_of_unset(
     replicated: bool,
     moment: Moment,
     reply: &Reply,
-    held: Option<&Instance>,
+    held: Option<&SharedInstance>,
 ) -> Result<Option<Task>, AllocError>
     ensures { IfOk result (λ t. (suggested : Option own.Status) (last_dirty : Option ℕ) → t ≡ task_for (Command.UnsetStatus key.now suggested last_dirty replicated) moment reply.now (option_copied held.entry)) }
 {
@@ -161,7 +161,7 @@ pub(crate) fn task_for(
     command: &Command,
     moment: Moment,
     reply: &Reply,
-    held: Option<&Instance>,
+    held: Option<&SharedInstance>,
 ) -> Result<Option<Task>, AllocError>
     ensures { IfOk result (λ t. t ≡ task_for command.now moment reply.now (option_copied held.entry)) }
 {
@@ -198,7 +198,7 @@ pub(crate) fn key_of(command: &Command) -> Option<&Key>
     ensures { option_copied result ≡ key_of command.now }
 {
     match command {
-        Command::Register { instance, .. } | Command::Adopt { instance } => Some(&instance.key),
+        Command::Register { instance, .. } | Command::Adopt { instance } => Some(instance.key()),
         Command::Renew { key, .. }
         | Command::Cancel { key, .. }
         | Command::SetStatus { key, .. }

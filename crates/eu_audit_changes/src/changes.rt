@@ -5,7 +5,7 @@ ghost use Rattle.eu_model.specs.Change.{rule, is_status, newer, row_after, row_o
 ghost use Rattle.eu_model.specs.PlainSteps.{plain_register, plain_adopt, plain_cancel};
 ghost use Rattle.eu_audit_changes.specs.Changed.{change_of, under_listed};
 
-use eu_base::{Instance, MOST_EXPECTED, Moment, Status};
+use eu_base::{MOST_EXPECTED, Moment, SharedInstance, Status};
 use eu_model::{Listed, Reply, Times};
 use std::alloc::{AllocError, Global};
 
@@ -53,9 +53,8 @@ impl Changed {
 pub fn copied(alloc: Global, held: &Listed) -> Result<Listed, AllocError>
     ensures { IfOk result (λ l. l ≡ held.now) }
 {
-    let instance = held.instance.copy(alloc)?;
     Ok(Listed {
-        instance,
+        instance: held.instance.share()?,
         times: held.times,
     })
 }
@@ -99,6 +98,13 @@ fn row_of(overridden: Status) -> Option<Status>
     }
 }
 
+/// The row that an instance tells.
+fn row_told(instance: &SharedInstance) -> Option<Status>
+    ensures { result ≡ row_of instance.now.overridden }
+{
+    row_of(instance.overridden())
+}
+
 /// The row after a registration.
 fn row_after(row: Option<Status>, overridden: Status) -> Option<Status>
     ensures { result ≡ row_after row overridden }
@@ -120,7 +126,7 @@ pub(crate) fn up_after(up: u64, status: Status, moment: Moment) -> u64
 }
 
 /// The instance of a lease that is held.
-fn instance_of(held: Option<&Listed>) -> Option<&Instance>
+fn instance_of(held: Option<&Listed>) -> Option<&SharedInstance>
     ensures { option_copied result ≡ option_map (λ l. l.instance) (option_copied held.entry) }
 {
     match held {
@@ -130,39 +136,40 @@ fn instance_of(held: Option<&Listed>) -> Option<&Instance>
 }
 
 /// The overridden status of the instance that a registration takes.
-fn newer_overridden(held: Option<&Instance>, instance: &Instance) -> Status
+fn newer_overridden(held: Option<&SharedInstance>, instance: &SharedInstance) -> Status
     ensures { result ≡ (newer (option_copied held.entry) instance.now).overridden }
 {
     match held {
-        Some(held) if instance.last_dirty.value() < held.last_dirty.value() => held.overridden,
-        _ => instance.overridden,
+        Some(held) if instance.last_dirty().value() < held.last_dirty().value() =>
+            held.overridden(),
+        _ => instance.overridden(),
     }
 }
 
 /// The instance that a registration takes. `AllocError` where no memory is left.
 fn newer(
     alloc: Global,
-    held: Option<&Instance>,
-    instance: &Instance,
-) -> Result<Instance, AllocError>
+    held: Option<&SharedInstance>,
+    instance: &SharedInstance,
+) -> Result<SharedInstance, AllocError>
     ensures { IfOk result (λ i. i ≡ newer (option_copied held.entry) instance.now) }
 {
     match held {
-        Some(held) if instance.last_dirty.value() < held.last_dirty.value() => {
-            let mut chosen = held.copy(alloc)?;
-            chosen.secs = instance.secs;
+        Some(held) if instance.last_dirty().value() < held.last_dirty().value() => {
+            let mut chosen = held.share()?;
+            chosen.set_secs(instance.secs());
             Ok(chosen)
         }
-        _ => instance.copy(alloc),
+        _ => instance.share(),
     }
 }
 
 /// The instance, where this is the row of its id.
-pub(crate) fn under_row(row: Option<Status>, mut instance: Instance) -> Instance
+pub(crate) fn under_row(row: Option<Status>, mut instance: SharedInstance) -> SharedInstance
     ensures { result ≡ under_row row instance }
 {
     if let Some(status) = row {
-        instance.overridden = status;
+        instance.set_statuses(instance.status(), status);
     }
     instance
 }
@@ -170,20 +177,21 @@ pub(crate) fn under_row(row: Option<Status>, mut instance: Instance) -> Instance
 /// The instance that a registration leaves. `AllocError` where no memory is left.
 fn joined(
     alloc: Global,
-    held: Option<&Instance>,
+    held: Option<&SharedInstance>,
     row: Option<Status>,
-    instance: &Instance,
+    instance: &SharedInstance,
     replicated: bool,
-) -> Result<Instance, AllocError>
+) -> Result<SharedInstance, AllocError>
     ensures { IfOk result (λ i. i ≡ joined (option_copied held.entry) row instance.now replicated) }
 {
     let new_row = row_after(row, newer_overridden(held, instance));
     let mut left = under_row(new_row, newer(alloc, held, instance)?);
     let held_status = match held {
-        Some(held) => Some(held.status),
+        Some(held) => Some(held.status()),
         None => None,
     };
-    left.status = rule(left.status, new_row, held_status, replicated);
+    let status = rule(left.status(), new_row, held_status, replicated);
+    left.set_statuses(status, left.overridden());
     Ok(left)
 }
 
@@ -228,7 +236,7 @@ pub fn register(
     held: Option<&Listed>,
     row: Option<Status>,
     expected: u64,
-    instance: &Instance,
+    instance: &SharedInstance,
     replicated: bool,
     moment: Moment,
 ) -> Result<Changed, AllocError>
@@ -242,7 +250,7 @@ pub fn register(
     let times = Times {
         registered: moment.ms(),
         updated: moment.ms(),
-        up: up_after(first_up(held), left.status, moment),
+        up: up_after(first_up(held), left.status(), moment),
     };
     Ok(Changed {
         lease: Some(Listed {
@@ -267,7 +275,7 @@ fn overridden_by(
     let Some(held) = held else {
         return Ok(None);
     };
-    let instance = under_row(row, held.instance.copy(alloc)?);
+    let instance = under_row(row, held.instance.share()?);
     Ok(Some(Listed {
         instance,
         times: held.times,
@@ -283,13 +291,13 @@ pub fn adopt(
     held: Option<&Listed>,
     row: Option<Status>,
     expected: u64,
-    instance: &Instance,
+    instance: &SharedInstance,
     moment: Moment,
 ) -> Result<Changed, AllocError>
     requires { expected ≤ MOST_EXPECTED }
     ensures { IfOk result (λ c. change_of c ≡ plain_adopt (option_copied held.entry) row expected instance.now moment) }
 {
-    let own = row_of(instance.overridden);
+    let own = row_told(instance);
     let held = overridden_by(alloc, own, held)?;
     register(
         alloc,

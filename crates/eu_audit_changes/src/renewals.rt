@@ -8,7 +8,7 @@ ghost use Rattle.eu_model.specs.Machine.{renewed};
 ghost use Rattle.eu_audit_changes.specs.Changed.{change_of};
 
 use crate::changes::{Changed, is_status, rule, under_row, up_after};
-use eu_base::{BoxedInstance, Instance, LeaseSecs, Moment, Stamp, Status};
+use eu_base::{LeaseSecs, Moment, SharedInstance, Stamp, Status};
 use eu_model::{Listed, Reply, Times};
 use std::alloc::{AllocError, Global};
 
@@ -16,7 +16,7 @@ use std::alloc::{AllocError, Global};
 pub fn expired(held: &Listed, moment: Moment, extra: u64) -> bool
     ensures { result ≡ plain_expired held.now moment extra }
 {
-    let secs = u128::from(held.instance.secs.secs());
+    let secs = u128::from(held.instance.secs().secs());
     let deadline = held.times.updated as u128 + 1000 * secs + extra as u128;
     deadline < moment.ms() as u128
 }
@@ -43,12 +43,12 @@ fn renewed(times: Times, secs: LeaseSecs, moment: Moment) -> Times
 }
 
 /// The instance, with a greater stamp than the one that it has.
-fn stamped(last_dirty: Option<Stamp>, mut instance: Instance) -> Instance
+fn stamped(last_dirty: Option<Stamp>, mut instance: SharedInstance) -> SharedInstance
     ensures { result ≡ stamped last_dirty instance }
 {
     match last_dirty {
-        Some(stamp) if instance.last_dirty.value() < stamp.value() => {
-            instance.last_dirty = stamp;
+        Some(stamp) if instance.last_dirty().value() < stamp.value() => {
+            instance.set_last_dirty(stamp);
             instance
         }
         _ => instance,
@@ -56,11 +56,10 @@ fn stamped(last_dirty: Option<Stamp>, mut instance: Instance) -> Instance
 }
 
 /// The instance in these statuses.
-fn in_statuses(mut instance: Instance, status: Status, overridden: Status) -> Instance
+fn in_statuses(mut instance: SharedInstance, status: Status, overridden: Status) -> SharedInstance
     ensures { result ≡ record instance { status = status; overridden = overridden } }
 {
-    instance.status = status;
-    instance.overridden = overridden;
+    instance.set_statuses(status, overridden);
     instance
 }
 
@@ -68,16 +67,15 @@ fn in_statuses(mut instance: Instance, status: Status, overridden: Status) -> In
 fn renew_reply(
     alloc: Global,
     last_dirty: Option<Stamp>,
-    instance: &Instance,
+    instance: &SharedInstance,
     replicated: bool,
 ) -> Result<Reply, AllocError>
     ensures { IfOk result (λ r. r ≡ renew_reply last_dirty instance.now replicated) }
 {
     match last_dirty {
-        Some(stamp) if instance.last_dirty.value() < stamp.value() => Ok(Reply::Stale),
-        Some(stamp) if stamp.value() < instance.last_dirty.value() && replicated => {
-            let held = instance.copy(alloc)?;
-            Ok(Reply::Conflict(BoxedInstance::new(alloc, held)?))
+        Some(stamp) if instance.last_dirty().value() < stamp.value() => Ok(Reply::Stale),
+        Some(stamp) if stamp.value() < instance.last_dirty().value() && replicated => {
+            Ok(Reply::Conflict(instance.share()?))
         }
         _ => Ok(Reply::Done),
     }
@@ -121,14 +119,14 @@ fn renew_as(
 ) -> Result<Changed, AllocError>
     ensures { IfOk result (λ c. change_of c ≡ plain_change (renew_as (raised held.now) row expected last_dirty overridden replicated moment status)) }
 {
-    let instance = held.instance.copy(alloc)?;
-    let instance = in_statuses(instance, status, held.instance.overridden);
+    let instance = held.instance.share()?;
+    let instance = in_statuses(instance, status, held.instance.overridden());
     let reply = renew_reply(alloc, last_dirty, &instance, replicated)?;
     let new_row = row_of_peer(&reply, replicated, overridden, row);
     Ok(Changed {
         lease: Some(Listed {
             instance: under_row(new_row, instance),
-            times: renewed(held.times, held.instance.secs, moment),
+            times: renewed(held.times, held.instance.secs(), moment),
         }),
         row: new_row.or(row),
         expected,
@@ -157,7 +155,7 @@ pub fn renew(
     let Some(lease) = held else {
         return Changed::unchanged(alloc, held, row, expected, Reply::NotFound);
     };
-    let own = lease.instance.status;
+    let own = lease.instance.status();
     let status = rule(own, row, Some(own), replicated);
     if is_status(status, Status::Unknown) {
         return Changed::unchanged(alloc, held, row, expected, Reply::NotFound);
@@ -171,10 +169,10 @@ pub fn renew(
 fn renewed_lease(alloc: Global, held: &Listed, moment: Moment) -> Result<Listed, AllocError>
     ensures { IfOk result (λ l. l ≡ listed (renewed (raised held.now) moment)) }
 {
-    let instance = held.instance.copy(alloc)?;
+    let instance = held.instance.share()?;
     Ok(Listed {
         instance,
-        times: renewed(held.times, held.instance.secs, moment),
+        times: renewed(held.times, held.instance.secs(), moment),
     })
 }
 
@@ -188,8 +186,8 @@ fn in_status(
 ) -> Result<Listed, AllocError>
     ensures { IfOk result (λ l. l ≡ listed (in_status (raised held.now) status last_dirty moment)) }
 {
-    let instance = in_statuses(held.instance.copy(alloc)?, status, status);
-    let mut times = renewed(held.times, held.instance.secs, moment);
+    let instance = in_statuses(held.instance.share()?, status, status);
+    let mut times = renewed(held.times, held.instance.secs(), moment);
     times.up = up_after(held.times.up, status, moment);
     Ok(Listed {
         instance: stamped(last_dirty, instance),
@@ -208,10 +206,10 @@ fn out_of_override(
     ensures { IfOk result (λ l. l ≡ listed (out_of_override (raised held.now) suggested last_dirty moment)) }
 {
     let status = suggested.unwrap_or(Status::Unknown);
-    let instance = in_statuses(held.instance.copy(alloc)?, status, Status::Unknown);
+    let instance = in_statuses(held.instance.share()?, status, Status::Unknown);
     Ok(Listed {
         instance: stamped(last_dirty, instance),
-        times: renewed(held.times, held.instance.secs, moment),
+        times: renewed(held.times, held.instance.secs(), moment),
     })
 }
 
@@ -248,7 +246,7 @@ pub fn set_status(
     let Some(lease) = seen(permitted, moment, held) else {
         return Changed::unchanged(alloc, held, row, expected, Reply::NotFound);
     };
-    if is_status(lease.instance.status, status) {
+    if is_status(lease.instance.status(), status) {
         return Ok(done(renewed_lease(alloc, lease, moment)?, row, expected));
     }
     let lease = in_status(alloc, lease, status, last_dirty, moment)?;

@@ -23,9 +23,9 @@ fn is_plain_task(task: &Task) -> bool
 {
     match (task.action, task.status, &task.instance) {
         (Action::Cancel, None, None) => true,
-        (Action::Register | Action::Heartbeat, None, Some(instance)) => instance.key == task.key,
+        (Action::Register | Action::Heartbeat, None, Some(instance)) => *instance.key() == task.key,
         (Action::StatusUpdate | Action::DeleteStatusOverride, Some(_), Some(instance)) => {
-            instance.key == task.key
+            *instance.key() == task.key
         }
         _ => false,
     }

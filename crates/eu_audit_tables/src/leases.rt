@@ -128,14 +128,14 @@ impl Leases {
 fn deadline_of(lease: &Listed) -> u128
     ensures { result ≡ deadline_of lease.now }
 {
-    u128::from(lease.times.updated) + 1000 * u128::from(lease.instance.secs.secs())
+    u128::from(lease.times.updated) + 1000 * u128::from(lease.instance.secs().secs())
 }
 
 /// Whether a lease is the one that is held, under its instance's key.
 fn is_held(key: &Key, held: &Listed, lease: &Listed) -> bool
     ensures { IsTrue result ↔ ((key.now ≡ lease.now.instance.key) × (held.now ≡ lease.now)) }
 {
-    *key == lease.instance.key
+    *key == *lease.instance.key()
         && held.instance.same(&lease.instance)
         && is_same_time(&held.times, &lease.times)
 }

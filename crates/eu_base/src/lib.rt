@@ -1,7 +1,6 @@
 //! Names, moments, stamps, settings, instances, tasks and faults: the values that every layer speaks of.
 #![tactic(auto)]
 
-mod boxed;
 mod digits;
 mod faults;
 mod hosts;
@@ -12,11 +11,11 @@ mod names;
 mod order;
 mod rest;
 mod settings;
+mod shared;
 mod statuses;
 mod tasks;
 mod times;
 
-pub use boxed::BoxedInstance;
 pub use digits::read_digits;
 pub use faults::Fault;
 pub use instances::Instance;
@@ -30,6 +29,7 @@ pub use names::{App, Id, Key, Keys};
 pub use order::keys_are_ordered;
 pub use rest::Rest;
 pub use settings::{Config, ExpectedRenewalSecs, Percent};
+pub use shared::SharedInstance;
 pub use statuses::Status;
 pub use tasks::{Action, Codes, Task, TaskName, Tasks};
 pub use times::{LeaseSecs, Moment, RenewalSecs, Stamp};

@@ -2,9 +2,9 @@
 ghost use Rattle.std.specs.Prelude.{◌≡◌, ◌↔◌, IfOk, IsTrue};
 ghost use Rattle.eu_base.specs.Values.{action_name, action_of};
 
-use crate::instances::Instance;
 use crate::items::Items;
 use crate::names::Key;
+use crate::shared::SharedInstance;
 use crate::statuses::Status;
 use crate::times::Moment;
 use std::alloc::{AllocError, Global};
@@ -73,7 +73,7 @@ pub struct Task {
     /// The status: of a `StatusUpdate` the one that is set, of a `DeleteStatusOverride` the one that the instance has then.
     pub status: Option<Status>,
     /// The instance that was held then; a `Cancel` has none.
-    pub instance: Option<Instance>,
+    pub instance: Option<SharedInstance>,
     /// When it was queued, in milliseconds.
     pub queued: Moment,
 }
@@ -96,7 +96,7 @@ impl Task {
     {
         let key = self.key.copy(alloc)?;
         let instance = match &self.instance {
-            Some(instance) => Some(instance.copy(alloc)?),
+            Some(instance) => Some(instance.share()?),
             None => None,
         };
         Ok(Task {
@@ -110,7 +110,7 @@ impl Task {
 }
 
 /// Whether both are equal instances, or neither is there.
-fn same_or_none(instance: &Option<Instance>, other: &Option<Instance>) -> bool
+fn same_or_none(instance: &Option<SharedInstance>, other: &Option<SharedInstance>) -> bool
     ensures { IsTrue result ↔ (instance.now ≡ other.now) }
 {
     match (instance, other) {

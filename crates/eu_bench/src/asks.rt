@@ -2,7 +2,7 @@
 ghost use Rattle.std.specs.Prelude.{◌≡◌};
 
 use eu_base::{
-    App, BoxedInstance, Config, Fault, Id, Instance, Key, LeaseSecs, Moment, RenewalSecs, Rest,
+    App, Config, Fault, Id, Instance, Key, LeaseSecs, Moment, RenewalSecs, Rest, SharedInstance,
     Stamp, Status,
 };
 use eu_clock::FirstChooser;
@@ -42,7 +42,7 @@ fn registration(alloc: Global, pass: u64) -> Result<Command, Fault> {
         rest,
     };
     Ok(Command::Register {
-        instance: BoxedInstance::new(alloc, instance)?,
+        instance: SharedInstance::new(alloc, instance)?,
         replicated: false,
     })
 }

@@ -1,6 +1,6 @@
 //! Checkpoints of a book that holds many leases.
 
-use eu_base::{App, BoxedInstance, Config, Fault, Instance, Moment};
+use eu_base::{App, Config, Fault, Instance, Moment, SharedInstance};
 use eu_book::Book;
 use eu_clock::FirstChooser;
 use eu_json::read_instance;
@@ -22,7 +22,7 @@ fn client(alloc: Global, number: u32, moment: Moment) -> Result<Instance, Fault>
 fn register(alloc: Global, book: &mut Book, number: u32, moment: Moment) -> Result<(), Fault> {
     let instance = client(alloc, number, moment)?;
     let command = Command::Register {
-        instance: BoxedInstance::new(alloc, instance)?,
+        instance: SharedInstance::new(alloc, instance)?,
         replicated: false,
     };
     let receipt = book.apply(alloc, 0, command, moment, &mut FirstChooser)?;

@@ -5,7 +5,8 @@ ghost use Rattle.eu_json.specs.Tree.{applications_tree};
 ghost use Rattle.eu_model.specs.declared.views.Listed.{Listed};
 
 use eu_base::{
-    App, Config, Fault, Id, Instance, Key, LeaseSecs, Moment, RenewalSecs, Rest, Stamp, Status,
+    App, Config, Fault, Id, Instance, Key, LeaseSecs, Moment, RenewalSecs, Rest, SharedInstance,
+    Stamp, Status,
 };
 use eu_core::Registry;
 use eu_json::append_applications;
@@ -13,13 +14,13 @@ use eu_model::Listed;
 use std::alloc::Global;
 
 /// The instance that the script's line `register 0 APP ID 90 UP UNKNOWN 0 c` registers, of one of a hundred applications.
-fn newcomer(alloc: Global, number: u32) -> Result<Instance, Fault> {
+fn newcomer(alloc: Global, number: u32) -> Result<SharedInstance, Fault> {
     let last_dirty = Stamp::new(0).ok_or(Fault::BadStamp)?;
     let app = number % 100;
     let app = App::read(alloc, format!(in alloc; "A{app}")?.as_str())?;
     let id = Id::read(alloc, format!(in alloc; "host-{number}")?.as_str())?;
     let rest = Rest::of_host(alloc, id.as_str())?;
-    Ok(Instance {
+    let instance = Instance {
         key: Key { app, id },
         status: Status::Up,
         overridden: Status::Unknown,
@@ -27,7 +28,8 @@ fn newcomer(alloc: Global, number: u32) -> Result<Instance, Fault> {
         secs: LeaseSecs::DEFAULT,
         interval: RenewalSecs::DEFAULT,
         rest,
-    })
+    };
+    Ok(SharedInstance::new(alloc, instance)?)
 }
 
 /// Registers so many instances. The faults are those of `Registry::register`.

@@ -255,7 +255,7 @@ impl Book {
         Ok(match query {
             Query::One(key) => View::One(match self.registry.look(key, moment) {
                 Some((instance, times)) => Some(Listed {
-                    instance: instance.to_instance(alloc)?,
+                    instance: instance.share()?,
                     times,
                 }),
                 None => None,

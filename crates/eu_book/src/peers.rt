@@ -9,7 +9,7 @@ ghost use Rattle.eu_book.specs.Account.{queues_fault};
 ghost use Rattle.eu_book.specs.Peers.{queues_of, IsReady, QueuesAnswer, told_key};
 
 use crate::tasks::task_for;
-use eu_base::{Codes, Fault, Instance, Key, MOST_PEERS, Moment};
+use eu_base::{Codes, Fault, Key, MOST_PEERS, Moment, SharedInstance};
 use eu_core::{Answered, replies_for, split};
 use eu_model::{Command, Queues, Reply};
 use eu_outbox::Outbox;
@@ -74,7 +74,7 @@ impl Peers {
         reply: &Reply,
         moment: Moment,
         mut keys: Vec<Key>,
-        mut held: Vec<Instance>,
+        mut held: Vec<SharedInstance>,
     )
         requires ready { All IsReady self.old }
         requires keys { keys.items ≡ copies_of (length self.old) (told_key command.now) }
@@ -204,7 +204,7 @@ fn tell_all(
     reply: &Reply,
     moment: Moment,
     keys: &mut Vec<Key>,
-    held: &mut Vec<Instance>,
+    held: &mut Vec<SharedInstance>,
 )
     requires ready { All IsReady outboxes.old.items }
     requires keys { keys.old.items ≡ copies_of (vec_len outboxes.old) (told_key command.now) }
@@ -227,7 +227,7 @@ fn tell_one(
     reply: &Reply,
     moment: Moment,
     key: Option<Key>,
-    held: Option<Instance>,
+    held: Option<SharedInstance>,
 )
     requires ready { IsReady outbox.old }
     requires key { key ≡ told_key command.now }

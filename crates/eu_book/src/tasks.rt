@@ -7,7 +7,7 @@ ghost use Rattle.eu_base.specs.declared.names.Key.{Key};
 ghost use Rattle.eu_model.specs.Server.{task_for, task};
 ghost use Rattle.eu_book.specs.Peers.{told_key};
 
-use eu_base::{Action, Instance, Key, Moment, Status, Task};
+use eu_base::{Action, Key, Moment, SharedInstance, Status, Task};
 use eu_model::{Command, Reply};
 
 /// The key of the lease of which the peers may be told by a command: one that no peer sent, and that names a lease.
@@ -18,7 +18,7 @@ pub(crate) fn told_key(command: &Command) -> Option<&Key>
         Command::Register {
             instance,
             replicated,
-        } => (&instance.key, *replicated),
+        } => (instance.key(), *replicated),
         Command::Renew {
             key,
             replicated,
@@ -47,7 +47,7 @@ pub(crate) fn task_for(
     reply: &Reply,
     moment: Moment,
     key: Key,
-    held: Option<Instance>,
+    held: Option<SharedInstance>,
 ) -> Option<Task>
     requires { told_key command.now ≡ Some key }
     ensures { result ≡ task_for command.now moment reply.now held }
@@ -77,7 +77,7 @@ fn task(
     action: Action,
     key: Key,
     status: Option<Status>,
-    instance: Option<Instance>,
+    instance: Option<SharedInstance>,
     moment: Moment,
 ) -> Task
     ensures { result ≡ task action key status instance moment }
@@ -92,11 +92,11 @@ fn task(
 }
 
 /// The status of what is held.
-fn status_of(held: &Option<Instance>) -> Option<Status>
+fn status_of(held: &Option<SharedInstance>) -> Option<Status>
     ensures { result ≡ option_map (λ (i : Instance). i.status) held.now }
 {
     match held {
-        Some(instance) => Some(instance.status),
+        Some(instance) => Some(instance.status()),
         None => None,
     }
 }

@@ -10,10 +10,10 @@ ghost use Rattle.eu_core.specs.Decided.{begins, count_fault, decided, IsChange};
 
 use crate::decision::{Change, Decision, LeaseChange};
 use crate::statuses::row_of_peer;
-use eu_base::{BoxedInstance, Fault, Moment, Stamp, Status};
+use eu_base::{Fault, Moment, SharedInstance, Stamp, Status};
 use eu_lease::{Rate, is_status, override_rule};
 use eu_model::Reply;
-use eu_store::{Amendment, HeldLease, SharedInstance};
+use eu_store::{Amendment, HeldLease};
 use std::alloc::{AllocError, Global};
 
 /// What is known beside the lease when a command on it is decided.
@@ -94,9 +94,9 @@ fn renew_reply(
         return Ok(Reply::Stale);
     }
     if stamp.value() < instance.last_dirty().value() && replicated {
-        let mut now = instance.to_instance(alloc)?;
-        now.status = status;
-        return Ok(Reply::Conflict(BoxedInstance::new(alloc, now)?));
+        let mut now = instance.share()?;
+        now.set_statuses(status, instance.overridden());
+        return Ok(Reply::Conflict(now));
     }
     Ok(Reply::Done)
 }

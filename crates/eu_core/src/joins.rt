@@ -12,10 +12,10 @@ ghost use Rattle.eu_core.specs.Joins.{Joins};
 use crate::decide::Context;
 use crate::decision::{Change, Decision, LeaseChange};
 use crate::statuses::judge_statuses;
-use eu_base::{Instance, MOST_LEASES, Moment, Status};
+use eu_base::{MOST_LEASES, Moment, SharedInstance, Status};
 use eu_lease::Lease;
 use eu_model::Reply;
-use eu_store::{Amendment, HeldLease, SharedInstance};
+use eu_store::{Amendment, HeldLease};
 use std::alloc::{AllocError, Global};
 
 /// A lease that begins with its instance in this status.
@@ -33,7 +33,7 @@ fn begun(mut lease: Lease, status: Status, moment: Moment) -> Lease
 /// memory is left.
 pub fn decide_join(
     alloc: Global,
-    instance: &Instance,
+    instance: &SharedInstance,
     held: Option<&HeldLease>,
     context: Context,
     replicated: bool,
@@ -44,7 +44,7 @@ pub fn decide_join(
 {
     match held {
         None => join_new(alloc, instance, context, replicated, moment),
-        Some(held) if instance.last_dirty.value() < held.instance().last_dirty().value() => {
+        Some(held) if instance.last_dirty().value() < held.instance().last_dirty().value() => {
             Ok(join_under(instance, held, context, replicated, moment))
         }
         Some(held) => join_over(alloc, instance, held, context, replicated, moment),
@@ -54,7 +54,7 @@ pub fn decide_join(
 /// The registration of an instance whose key isn't held. `AllocError` where no memory is left.
 fn join_new(
     alloc: Global,
-    instance: &Instance,
+    instance: &SharedInstance,
     context: Context,
     replicated: bool,
     moment: Moment,
@@ -63,15 +63,16 @@ fn join_new(
     ensures new { IfOk result (λ d. (leases : FinMap key_cmp Listed) → map.get leases instance.now.key ≡ None → map.len leases < MOST_LEASES → IsNew leases instance.now.key d.change.lease) }
 {
     let statuses = judge_statuses(
-        instance.status,
-        instance.overridden,
+        instance.status(),
+        instance.overridden(),
         context.row,
         None,
         replicated,
     );
-    let fresh = Lease::fresh(moment, instance.secs);
+    let fresh = Lease::fresh(moment, instance.secs());
     let lease = begun(fresh, statuses.status, moment);
-    let instance = SharedInstance::of(alloc, instance, statuses.status, statuses.overridden)?;
+    let mut instance = instance.share()?;
+    instance.set_statuses(statuses.status, statuses.overridden);
     let held = HeldLease::new(instance, lease);
     Ok(Decision {
         change: Change {
@@ -87,7 +88,7 @@ fn join_new(
 /// The registration of an instance whose key is held with a stamp that isn't greater. `AllocError` where no memory is left.
 fn join_over(
     alloc: Global,
-    instance: &Instance,
+    instance: &SharedInstance,
     held: &HeldLease,
     context: Context,
     replicated: bool,
@@ -98,15 +99,16 @@ fn join_over(
     ensures in_place { IfOk result (λ d. begins d.change.lease ≡ false) }
 {
     let statuses = judge_statuses(
-        instance.status,
-        instance.overridden,
+        instance.status(),
+        instance.overridden(),
         context.row,
         Some(held.instance().status()),
         replicated,
     );
-    let anew = held.lease().anew(moment, instance.secs);
+    let anew = held.lease().anew(moment, instance.secs());
     let lease = begun(anew, statuses.status, moment);
-    let instance = SharedInstance::of(alloc, instance, statuses.status, statuses.overridden)?;
+    let mut instance = instance.share()?;
+    instance.set_statuses(statuses.status, statuses.overridden);
     let held = HeldLease::new(instance, lease);
     Ok(Decision {
         change: Change {
@@ -121,7 +123,7 @@ fn join_over(
 
 /// The registration of an instance whose key is held with a greater stamp: the held one stays. Takes no memory.
 fn join_under(
-    newcomer: &Instance,
+    newcomer: &SharedInstance,
     held: &HeldLease,
     context: Context,
     replicated: bool,
@@ -139,7 +141,7 @@ fn join_under(
         Some(own.status()),
         replicated,
     );
-    let anew = held.lease().anew(moment, newcomer.secs);
+    let anew = held.lease().anew(moment, newcomer.secs());
     let lease = begun(anew, statuses.status, moment);
     Decision {
         change: Change {

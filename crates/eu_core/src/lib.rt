@@ -9,7 +9,7 @@ mod replies;
 mod statuses;
 mod step;
 
-pub use eu_store::{SharedInstance, Snapshot};
+pub use eu_store::Snapshot;
 pub use registry::Registry;
 pub use replies::{Answered, owning_nothing, replies_for, split};
 pub use step::Stepped;

@@ -20,13 +20,14 @@ use crate::decision::{Change, Decision, LeaseChange, begin, new_id, write_lease,
 use crate::joins::decide_join;
 use crate::statuses::row_of;
 use eu_base::{
-    App, Config, Fault, Instance, Key, Keys, MOST_EXPECTED, MOST_LEASES, Moment, Stamp, Status,
+    App, Config, Fault, Key, Keys, MOST_EXPECTED, MOST_LEASES, Moment, SharedInstance, Stamp,
+    Status,
 };
 use eu_clock::Chooser;
 use eu_eviction::{Eviction, Overrides, run_eviction};
 use eu_lease::{Rate, Threshold};
 use eu_model::{Command, Counts, Listed, Listing, Queues, Reply, State, StatusCounts, Times};
-use eu_store::{HeldLease, Leases, Place, SharedInstance, Snapshot};
+use eu_store::{HeldLease, Leases, Place, Snapshot};
 use std::alloc::{AllocError, Global};
 use std::marker::Model;
 
@@ -107,18 +108,18 @@ impl Registry {
     pub fn register(
         &mut self,
         alloc: Global,
-        instance: &Instance,
+        instance: &SharedInstance,
         replicated: bool,
         moment: Moment,
     ) -> Result<Reply, Fault>
         ensures answers { Answers self.old (Command.Register instance.now replicated) moment result self.new }
         ensures err { OnErr result (self.new ≡ self.old) }
     {
-        let (place, held, row) = self.find(&instance.key);
+        let (place, held, row) = self.find(instance.key());
         let Decision { change, reply } = self.registration(
             alloc, instance, held, row, replicated, moment,
         )?;
-        self.carry_out(alloc, &instance.key, place, row, change)?;
+        self.carry_out(alloc, instance.key(), place, row, change)?;
         Ok(reply)
     }
 
@@ -129,15 +130,15 @@ impl Registry {
     pub fn adopt(
         &mut self,
         alloc: Global,
-        instance: &Instance,
+        instance: &SharedInstance,
         moment: Moment,
     ) -> Result<Reply, Fault>
         ensures answers { Answers self.old (Command.Adopt instance.now) moment result self.new }
         ensures err { OnErr result (self.new ≡ self.old) }
     {
-        let (place, held, row) = self.find(&instance.key);
+        let (place, held, row) = self.find(instance.key());
         let Decision { change, reply } = self.adoption(alloc, instance, held, row, moment)?;
-        self.carry_out(alloc, &instance.key, place, row, change)?;
+        self.carry_out(alloc, instance.key(), place, row, change)?;
         Ok(reply)
     }
 
@@ -444,7 +445,7 @@ impl Registry {
     pub(crate) fn registration(
         &self,
         alloc: Global,
-        instance: &Instance,
+        instance: &SharedInstance,
         held: Option<&HeldLease>,
         row: Option<Status>,
         replicated: bool,
@@ -468,7 +469,7 @@ impl Registry {
     pub(crate) fn adoption(
         &self,
         alloc: Global,
-        instance: &Instance,
+        instance: &SharedInstance,
         held: Option<&HeldLease>,
         row: Option<Status>,
         moment: Moment,
@@ -480,7 +481,7 @@ impl Registry {
     {
         let expected = self.check_join(held)?;
         let context = Context {
-            row: row_of(instance.overridden).or(row),
+            row: row_of(instance.overridden()).or(row),
             expected,
             rate: self.rate,
         };

@@ -8,7 +8,7 @@ ghost use Rattle.eu_core.specs.Decided.{lease_left};
 ghost use Rattle.eu_core.specs.Stepped.{copies_of};
 
 use crate::decision::LeaseChange;
-use eu_base::Instance;
+use eu_base::SharedInstance;
 use eu_model::Reply;
 use eu_store::HeldLease;
 use std::alloc::{AllocError, Global};
@@ -79,7 +79,7 @@ pub(crate) fn copies_left(
     change: &LeaseChange,
     held: Option<&HeldLease>,
     number: u32,
-) -> Result<Vec<Instance>, AllocError>
+) -> Result<Vec<SharedInstance>, AllocError>
     ensures { IfOk result (λ v. v.items ≡ copies_of number (option_map (λ (l : Listed). l.instance) (lease_left change.now (option_copied held.entry)))) }
 {
     if number == 0 {
@@ -94,7 +94,7 @@ fn made_copies(
     change: &LeaseChange,
     held: Option<&HeldLease>,
     number: u32,
-) -> Result<Vec<Instance>, AllocError>
+) -> Result<Vec<SharedInstance>, AllocError>
     ensures { IfOk result (λ v. v.items ≡ copies_of number (option_map (λ (l : Listed). l.instance) (lease_left change.now (option_copied held.entry)))) }
 {
     let mut copies = Vec::with_capacity(alloc, number as usize)?;
@@ -112,15 +112,15 @@ fn instance_left(
     alloc: Global,
     change: &LeaseChange,
     held: Option<&HeldLease>,
-) -> Result<Option<Instance>, AllocError>
+) -> Result<Option<SharedInstance>, AllocError>
     ensures { IfOk result (λ left. left ≡ option_map (λ (l : Listed). l.instance) (lease_left change.now (option_copied held.entry))) }
 {
     match (change, held) {
-        (LeaseChange::Stays, Some(held)) => Ok(Some(held.instance().to_instance(alloc)?)),
+        (LeaseChange::Stays, Some(held)) => Ok(Some(held.instance().share()?)),
         (LeaseChange::Amended(amendment), Some(held)) => {
-            Ok(Some(held.instance_amended(alloc, amendment)?))
+            Ok(Some(held.instance_amended(amendment)?))
         }
-        (LeaseChange::Begun(begun), _) => Ok(Some(begun.instance().to_instance(alloc)?)),
+        (LeaseChange::Begun(begun), _) => Ok(Some(begun.instance().share()?)),
         _ => Ok(None),
     }
 }

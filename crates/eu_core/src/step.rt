@@ -14,7 +14,7 @@ ghost use Rattle.eu_core.specs.Stepped.{Acts, Steps};
 use crate::decision::Decision;
 use crate::registry::Registry;
 use crate::replies::{Answered, copies_left, for_log, owning_nothing, replies_for, split};
-use eu_base::{Config, Fault, Instance, Key, Moment, Status};
+use eu_base::{Config, Fault, Key, Moment, SharedInstance, Status};
 use eu_clock::Chooser;
 use eu_model::{Command, Reply};
 use eu_store::HeldLease;
@@ -26,7 +26,7 @@ pub struct Stepped {
     /// The reply for each use.
     pub answered: Answered<Reply>,
     /// The copies; none where no lease is held under the command's key after the step, or where it names no key.
-    pub held: Vec<Instance>,
+    pub held: Vec<SharedInstance>,
 }
 
 impl Registry {
@@ -208,7 +208,7 @@ fn key_of(command: &Command) -> Option<&Key>
     ensures { option_map (λ (k : Bor Key). k.now) result ≡ key_of command.now }
 {
     match command {
-        Command::Register { instance, .. } | Command::Adopt { instance } => Some(&instance.key),
+        Command::Register { instance, .. } | Command::Adopt { instance } => Some(instance.key()),
         Command::Renew { key, .. }
         | Command::Cancel { key, .. }
         | Command::SetStatus { key, .. }

@@ -1,6 +1,6 @@
 //! Commands of a client.
 use crate::values::{instance, key};
-use eu_base::{BoxedInstance, Fault};
+use eu_base::Fault;
 use eu_model::Command;
 use std::alloc::Global;
 
@@ -13,7 +13,7 @@ pub fn registration(alloc: Global, id: &str) -> Result<Command, Fault> {
 pub fn registration_for(alloc: Global, id: &str, secs: u32) -> Result<Command, Fault> {
     let instance = instance(alloc, id, 5, secs)?;
     Ok(Command::Register {
-        instance: BoxedInstance::new(alloc, instance)?,
+        instance,
         replicated: false,
     })
 }

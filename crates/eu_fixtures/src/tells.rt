@@ -20,7 +20,7 @@ fn tell_tasks(out: &mut String, tasks: &[Task]) -> Result<(), AllocError> {
 /// Writes a reply: of a conflict the stamp that is held, of an eviction the ids, of a batch the actions and the ids.
 pub fn tell_reply(out: &mut String, reply: &Reply) -> Result<(), AllocError> {
     match reply {
-        Reply::Conflict(held) => write!(out, "Conflict {}", held.last_dirty.value()),
+        Reply::Conflict(held) => write!(out, "Conflict {}", held.last_dirty().value()),
         Reply::Evicted(victims) => {
             out.push_str("Evicted")?;
             tell_keys(out, victims.as_slice())
@@ -44,18 +44,18 @@ fn tell_lease(out: &mut String, listed: &Listed) -> Result<(), AllocError> {
     write!(
         out,
         "{}/{} {} {}",
-        instance.key.app.as_str(),
-        instance.key.id.as_str(),
-        instance.status.name(),
-        instance.overridden.name()
+        instance.key().app.as_str(),
+        instance.key().id.as_str(),
+        instance.status().name(),
+        instance.overridden().name()
     )?;
     write!(
         out,
         " {} {} {} {:?}",
-        instance.last_dirty.value(),
-        instance.secs.secs(),
-        instance.interval.secs(),
-        instance.rest
+        instance.last_dirty().value(),
+        instance.secs().secs(),
+        instance.interval().secs(),
+        instance.rest()
     )?;
     write!(out, " {} {} {};", times.registered, times.updated, times.up)
 }

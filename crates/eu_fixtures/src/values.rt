@@ -2,7 +2,8 @@
 ghost use Rattle.std.specs.Prelude.{◌≤◌, ◌^◌};
 
 use eu_base::{
-    App, Config, Fault, Id, Instance, Key, LeaseSecs, Moment, RenewalSecs, Rest, Stamp, Status,
+    App, Config, Fault, Id, Instance, Key, LeaseSecs, Moment, RenewalSecs, Rest, SharedInstance,
+    Stamp, Status,
 };
 use eu_clock::ListClock;
 use std::alloc::Global;
@@ -48,20 +49,28 @@ pub fn key_of(alloc: Global, app: &str, id: &str) -> Result<Key, Fault> {
 }
 
 /// An instance of application A at the host h that is UP, with that stamp, for so many seconds.
-pub fn instance(alloc: Global, id: &str, last_dirty: u64, secs: u32) -> Result<Instance, Fault> {
+pub fn instance(
+    alloc: Global,
+    id: &str,
+    last_dirty: u64,
+    secs: u32,
+) -> Result<SharedInstance, Fault> {
     let last_dirty = Stamp::new(last_dirty).ok_or(Fault::BadStamp)?;
     let secs = LeaseSecs::new(secs).ok_or(Fault::BadDuration)?;
     let rest = Rest::of_host(alloc, "h")?;
     match key(alloc, id) {
-        Ok(key) => Ok(Instance {
-            key,
-            status: Status::Up,
-            overridden: Status::Unknown,
-            last_dirty,
-            secs,
-            interval: RenewalSecs::DEFAULT,
-            rest,
-        }),
+        Ok(key) => Ok(SharedInstance::new(
+            alloc,
+            Instance {
+                key,
+                status: Status::Up,
+                overridden: Status::Unknown,
+                last_dirty,
+                secs,
+                interval: RenewalSecs::DEFAULT,
+                rest,
+            },
+        )?),
         Err(fault) => {
             drop(rest);
             Err(fault)

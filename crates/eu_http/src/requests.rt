@@ -5,7 +5,7 @@ ghost use Rattle.eu_base.specs.Gives.{Gives, result_map};
 
 use crate::exchange::Asked;
 use crate::wanted::Wanted;
-use eu_base::{App, BoxedInstance, Fault, Instance, Moment};
+use eu_base::{App, Fault, Instance, Moment, SharedInstance};
 use eu_framing::Request;
 use eu_json::{read_batch, read_instance};
 use eu_model::{Ask, Command, Query};
@@ -32,7 +32,7 @@ fn registration(
     ensures { Gives result (spec.registration app.now request.now.replicated request.now.body.items moment) }
 {
     let instance = instance_in(alloc, app, moment, &request.body)?;
-    let instance = BoxedInstance::new(alloc, instance)?;
+    let instance = SharedInstance::new(alloc, instance)?;
     Ok(Command::Register {
         instance,
         replicated: request.replicated,

@@ -142,7 +142,7 @@ fn did_item(alloc: Global, reply: &Reply) -> Result<ItemAnswer, AllocError>
         Reply::Registered { fresh: _ } | Reply::Done => Ok(coded(StatusCode::OK)),
         Reply::Conflict(instance) => Ok(ItemAnswer {
             code: StatusCode::CONFLICT.as_u16(),
-            instance: Some(instance.copy_boxed(alloc)?),
+            instance: Some(instance.share()?),
         }),
         _ => Ok(coded(StatusCode::NOT_FOUND)),
     }

@@ -8,7 +8,7 @@ ghost use Rattle.eu_journal_values.specs.Trees.{optional, rest_tree, task_rest, 
 ghost use Rattle.eu_journal_values.specs.Replies.{reply_rest};
 
 use crate::lines::{Head, JournalLine};
-use eu_base::{Id, Instance, Key, Moment, Status, Task};
+use eu_base::{Id, Key, Moment, SharedInstance, Status, Task};
 use eu_journal_values::{
     command_value, config_value, instance_value, key_value, reply_value, status_value, task_value,
     times_value,
@@ -18,11 +18,11 @@ use serde_json::{Value, json};
 use std::alloc::{AllocError, Global};
 
 /// The rest of an instance. `AllocError` where no memory is left.
-fn rest_value(alloc: Global, instance: &Instance) -> Result<Value, AllocError>
+fn rest_value(alloc: Global, instance: &SharedInstance) -> Result<Value, AllocError>
     ensures tree { IfOk result (λ v. view v ≡ rest_tree instance.now) }
     ensures whole { IfOk result (λ v. has_float (view v) ≡ false) }
 {
-    let members = instance.rest.to_members(alloc)?;
+    let members = instance.rest().to_members(alloc)?;
     Ok(Value::Object(members))
 }
 

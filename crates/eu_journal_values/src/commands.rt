@@ -14,7 +14,7 @@ use crate::write::{
     config_value, instance_value, key_value, optional_stamp_value, optional_status_value,
     status_value,
 };
-use eu_base::{BoxedInstance, Codes, Config, Instance, Key, Stamp, Status};
+use eu_base::{Codes, Config, Key, SharedInstance, Stamp, Status};
 use eu_model::Command;
 use serde_json::{Value, json};
 use std::alloc::{AllocError, Global};
@@ -64,7 +64,6 @@ fn register_of(alloc: Global, rest: &Value, object: &Value) -> Result<Command, L
     ensures { Gives result (register_of (view rest.now) (view object.now)) }
 {
     let instance = instance_in(alloc, rest, object)?;
-    let instance = BoxedInstance::new(alloc, instance)?;
     let replicated = truth_in(object, "replicated")?;
     Ok(Command::Register {
         instance,
@@ -139,7 +138,6 @@ fn adopt_of(alloc: Global, rest: &Value, object: &Value) -> Result<Command, Line
     ensures { Gives result (adopt_of (view rest.now) (view object.now)) }
 {
     let instance = instance_in(alloc, rest, object)?;
-    let instance = BoxedInstance::new(alloc, instance)?;
     Ok(Command::Adopt { instance })
 }
 
@@ -231,7 +229,11 @@ pub fn command_of(alloc: Global, rest: &Value, object: &Value) -> Result<Command
 }
 
 /// The JSON of a registration. `AllocError` where no memory is left.
-fn register_value(alloc: Global, instance: &Instance, replicated: bool) -> Result<Value, AllocError>
+fn register_value(
+    alloc: Global,
+    instance: &SharedInstance,
+    replicated: bool,
+) -> Result<Value, AllocError>
     ensures { IfOk result (λ v. view v ≡ command_tree (Command.Register instance.now replicated)) }
 {
     let instance = instance_value(alloc, instance)?;
@@ -318,7 +320,7 @@ fn unset_status_value(
 }
 
 /// The JSON of an adoption. `AllocError` where no memory is left.
-fn adopt_value(alloc: Global, instance: &Instance) -> Result<Value, AllocError>
+fn adopt_value(alloc: Global, instance: &SharedInstance) -> Result<Value, AllocError>
     ensures { IfOk result (λ v. view v ≡ command_tree (Command.Adopt instance.now)) }
 {
     let instance = instance_value(alloc, instance)?;

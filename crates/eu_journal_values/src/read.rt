@@ -11,7 +11,9 @@ use crate::members::{
     action_in, lease_secs_in, member_in, moment_in, number_in, renewal_secs_in, small_in, stamp_in,
     status_in, text_in, truth_in,
 };
-use eu_base::{App, Config, Fault, Id, Instance, Key, Moment, Rest, Stamp, Status, Task};
+use eu_base::{
+    App, Config, Fault, Id, Instance, Key, Moment, Rest, SharedInstance, Stamp, Status, Task,
+};
 use eu_model::Times;
 use serde_json::Value;
 use std::alloc::Global;
@@ -115,7 +117,11 @@ fn rest_of(alloc: Global, value: &Value) -> Result<Rest, LineFault>
 
 /// The instance of an object and its rest. `NotALine` where it is none; `OutOfMemory`.
 #[tactic(auto, unfolding(crate::specs::Reading::instance_from))]
-pub fn instance_from(alloc: Global, rest: &Value, object: &Value) -> Result<Instance, LineFault>
+pub fn instance_from(
+    alloc: Global,
+    rest: &Value,
+    object: &Value,
+) -> Result<SharedInstance, LineFault>
     ensures { Gives result (instance_from (view rest.now) (view object.now)) }
 {
     let key = key_in(alloc, object)?;
@@ -125,20 +131,23 @@ pub fn instance_from(alloc: Global, rest: &Value, object: &Value) -> Result<Inst
     let secs = lease_secs_in(object, "secs")?;
     let interval = renewal_secs_in(object, "interval")?;
     let rest = rest_of(alloc, rest)?;
-    Ok(Instance {
-        key,
-        status,
-        overridden,
-        last_dirty,
-        secs,
-        interval,
-        rest,
-    })
+    Ok(SharedInstance::new(
+        alloc,
+        Instance {
+            key,
+            status,
+            overridden,
+            last_dirty,
+            secs,
+            interval,
+            rest,
+        },
+    )?)
 }
 
 /// The instance of a member `instance`, and its rest. `NotALine` where it is none; `OutOfMemory`.
 #[tactic(auto, unfolding(crate::specs::Reading::instance_in))]
-pub fn instance_in(alloc: Global, rest: &Value, object: &Value) -> Result<Instance, LineFault>
+pub fn instance_in(alloc: Global, rest: &Value, object: &Value) -> Result<SharedInstance, LineFault>
     ensures { Gives result (instance_in (view rest.now) (view object.now)) }
 {
     instance_from(alloc, rest, member_in(object, "instance")?)
@@ -149,7 +158,7 @@ fn optional_instance_in(
     alloc: Global,
     rest: &Value,
     object: &Value,
-) -> Result<Option<Instance>, LineFault>
+) -> Result<Option<SharedInstance>, LineFault>
     ensures { Gives result (optional_instance_in (view rest.now) (view object.now)) }
 {
     match member_in(object, "instance")? {

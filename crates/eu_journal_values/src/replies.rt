@@ -8,13 +8,13 @@ use crate::faults::LineFault;
 use crate::members::{number_in, text_in, truth_in};
 use crate::read::instance_in;
 use crate::write::instance_value;
-use eu_base::{BoxedInstance, Instance, Keys, Tasks};
+use eu_base::{Keys, SharedInstance, Tasks};
 use eu_model::Reply;
 use serde_json::{Value, json};
 use std::alloc::{AllocError, Global};
 
 /// The JSON of a conflict. `AllocError` where no memory is left.
-fn conflict_value(alloc: Global, held: &Instance) -> Result<Value, AllocError>
+fn conflict_value(alloc: Global, held: &SharedInstance) -> Result<Value, AllocError>
     ensures { IfOk result (λ v. view v ≡ reply_tree (Reply.Conflict held.now)) }
 {
     let instance = instance_value(alloc, held)?;
@@ -57,7 +57,7 @@ fn conflict_of(alloc: Global, rest: &Value, object: &Value) -> Result<Reply, Lin
     ensures { Gives result (conflict_of (view rest.now) (view object.now)) }
 {
     let held = instance_in(alloc, rest, object)?;
-    Ok(Reply::Conflict(BoxedInstance::new(alloc, held)?))
+    Ok(Reply::Conflict(held))
 }
 
 /// The answer to the end of a minute. `NotALine` where it is none.

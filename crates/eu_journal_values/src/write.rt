@@ -3,7 +3,7 @@ ghost use Rattle.std.specs.Prelude.{◌≡◌, IfOk};
 ghost use Rattle.serde_json.specs.View.{view};
 ghost use Rattle.eu_journal_values.specs.Trees.{config_tree, instance_tree, key_tree, optional, status_tree, task_tree, times_tree, whole_number};
 
-use eu_base::{Config, Instance, Key, Stamp, Status, Task};
+use eu_base::{Config, Key, SharedInstance, Stamp, Status, Task};
 use eu_model::Times;
 use serde_json::{Value, json};
 use std::alloc::{AllocError, Global};
@@ -69,24 +69,24 @@ pub fn times_value(alloc: Global, times: Times) -> Result<Value, AllocError>
 }
 
 /// The JSON of an instance, but for its rest. `AllocError` where no memory is left.
-pub fn instance_value(alloc: Global, instance: &Instance) -> Result<Value, AllocError>
+pub fn instance_value(alloc: Global, instance: &SharedInstance) -> Result<Value, AllocError>
     ensures { IfOk result (λ v. view v ≡ instance_tree instance.now) }
 {
-    let key = key_value(alloc, &instance.key)?;
+    let key = key_value(alloc, instance.key())?;
     json!(in alloc; {
-        "dirty": instance.last_dirty.value(),
-        "interval": instance.interval.secs(),
+        "dirty": instance.last_dirty().value(),
+        "interval": instance.interval().secs(),
         "key": key,
-        "overridden": instance.overridden.name(),
-        "secs": instance.secs.secs(),
-        "status": instance.status.name(),
+        "overridden": instance.overridden().name(),
+        "secs": instance.secs().secs(),
+        "status": instance.status().name(),
     })
 }
 
 /// The JSON of an instance that may be there, but for its rest. `AllocError` where no memory is left.
 pub fn optional_instance_value(
     alloc: Global,
-    instance: &Option<Instance>,
+    instance: &Option<SharedInstance>,
 ) -> Result<Value, AllocError>
     ensures { IfOk result (λ v. view v ≡ optional instance_tree instance.now) }
 {

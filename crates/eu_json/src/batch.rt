@@ -13,7 +13,7 @@ use crate::numbers::stamp_in;
 use crate::read::{is_whole, of_object, parse};
 use crate::statuses::status_in;
 use eu_base::{
-    Action, App, BoxedInstance, Fault, Id, Instance, Key, MOST_SENT, Moment, Stamp, Status,
+    Action, App, Fault, Id, Instance, Key, MOST_SENT, Moment, SharedInstance, Stamp, Status,
 };
 use eu_model::Command;
 use serde_json::Value;
@@ -124,7 +124,7 @@ fn register_of(alloc: Global, item: Value, key: Key, moment: Moment) -> Result<C
     ensures { Gives result (command_of moment (view item) key Action.Register) }
 {
     let instance = instance_in(alloc, item, &key.app, moment)?;
-    let instance = BoxedInstance::new(alloc, instance)?;
+    let instance = SharedInstance::new(alloc, instance)?;
     Ok(Command::Register {
         instance,
         replicated: true,

@@ -10,7 +10,7 @@ ghost use Rattle.eu_json.specs.BatchLaw.{IsBatch, SaysTasks};
 ghost use Rattle.eu_json.specs.Tree.{instance_tree, list_tree};
 
 use crate::write::{append_instance, append_number};
-use eu_base::{Action, BoxedInstance, Instance, Status, Task};
+use eu_base::{Action, SharedInstance, Status, Task};
 use eu_text::append_quoted;
 use itoa::Buffer;
 use std::alloc::{AllocError, Global};
@@ -30,7 +30,11 @@ fn append_led_text(
 }
 
 /// Appends the instance as a whole, as a registration tells it. `AllocError` where no memory is left.
-fn append_info(alloc: Global, out: &mut Vec<u8>, instance: &Instance) -> Result<(), AllocError>
+fn append_info(
+    alloc: Global,
+    out: &mut Vec<u8>,
+    instance: &SharedInstance,
+) -> Result<(), AllocError>
     ensures { OnOk result ((s : List ℕ) → out.new.items ++ s ≡ out.old.items ++ (codes ",\"instanceInfo\":" ++ (compact_text (instance_tree instance.now None) ++ s))) }
 {
     out.extend_from_slice(b",\"instanceInfo\":")?;
@@ -44,18 +48,18 @@ fn append_statuses(
     alloc: Global,
     out: &mut Vec<u8>,
     status: Status,
-    instance: &Instance,
+    instance: &SharedInstance,
 ) -> Result<(), AllocError>
     ensures { OnOk result (out.new.items ≡ out.old.items ++ led (instance_members Action.Heartbeat (Some status) (Some instance.now))) }
 {
     let mut digits = Buffer::new();
-    let stamp = digits.format(instance.last_dirty.value());
+    let stamp = digits.format(instance.last_dirty().value());
     append_led_text(alloc, out, ",\"lastDirtyTimestamp\":", stamp)?;
     append_led_text(
         alloc,
         out,
         ",\"overriddenStatus\":",
-        instance.overridden.name(),
+        instance.overridden().name(),
     )?;
     append_led_text(alloc, out, ",\"status\":", status.name())?;
     Ok(())
@@ -66,7 +70,7 @@ fn append_registration(
     alloc: Global,
     out: &mut Vec<u8>,
     status: Status,
-    instance: &Instance,
+    instance: &SharedInstance,
 ) -> Result<(), AllocError>
     ensures { OnOk result (out.new.items ≡ out.old.items ++ led (instance_members Action.Register (Some status) (Some instance.now))) }
 {
@@ -81,11 +85,11 @@ fn append_parts(
     out: &mut Vec<u8>,
     action: Action,
     status: Option<Status>,
-    instance: &Instance,
+    instance: &SharedInstance,
 ) -> Result<(), AllocError>
     ensures { OnOk result (out.new.items ≡ out.old.items ++ led (instance_members action status (Some instance.now))) }
 {
-    let status = status.unwrap_or(instance.status);
+    let status = status.unwrap_or(instance.status());
     match action {
         Action::Register => append_registration(alloc, out, status, instance),
         Action::Heartbeat | Action::Cancel | Action::StatusUpdate | Action::DeleteStatusOverride =>
@@ -177,7 +181,7 @@ pub struct ItemAnswer {
     /// The HTTP status.
     pub code: u16,
     /// The instance that is held, for a conflict.
-    pub instance: Option<BoxedInstance>,
+    pub instance: Option<SharedInstance>,
 }
 
 /// Appends an answer that tells a code alone. `AllocError` where no memory is left.
@@ -194,7 +198,7 @@ fn append_conflict(
     alloc: Global,
     out: &mut Vec<u8>,
     code: u64,
-    instance: &Instance,
+    instance: &SharedInstance,
 ) -> Result<(), AllocError>
     ensures { OnOk result (out.new.items ≡ out.old.items ++ compact_text (entity_tree code (Some instance.now))) }
 {

@@ -4,7 +4,7 @@ ghost use Rattle.serde_json.specs.Written.{compact_text};
 ghost use Rattle.eu_json.specs.Tree.{application_tree, applications_tree, held_tree, item_tree, list_tree, listed_tree, runs};
 
 use crate::write::append_instance;
-use eu_base::Instance;
+use eu_base::SharedInstance;
 use eu_model::{Listed, StatusCounts, Times};
 use eu_page::hash_code;
 use eu_text::append_quoted;
@@ -34,7 +34,7 @@ fn append_item(alloc: Global, out: &mut Vec<u8>, held: &[Listed]) -> Result<(), 
     out.extend_from_slice(b"{\"instance\":")?;
     append_leases(alloc, out, held)?;
     out.extend_from_slice(b",\"name\":")?;
-    append_quoted(alloc, out, held[0].instance.key.app.as_str())?;
+    append_quoted(alloc, out, held[0].instance.key().app.as_str())?;
     out.extend_from_slice(b"}")?;
     Ok(())
 }
@@ -65,7 +65,7 @@ pub fn append_application(
 pub fn append_held(
     alloc: Global,
     out: &mut Vec<u8>,
-    instance: &Instance,
+    instance: &SharedInstance,
     times: Option<Times>,
 ) -> Result<(), AllocError>
     ensures { OnOk result (out.new.items ≡ out.old.items ++ compact_text (held_tree instance.now times)) }
@@ -84,7 +84,7 @@ fn run_len(held: &[Listed]) -> usize
     ensures runs { runs held.now ≡ take result held.now ∷ runs (drop result held.now) }
 {
     for place in 1..held.len() {
-        if held[place - 1].instance.key.app != held[place].instance.key.app {
+        if held[place - 1].instance.key().app != held[place].instance.key().app {
             return place;
         }
     }

@@ -7,7 +7,7 @@ ghost use Rattle.eu_base.specs.Values.{status_name};
 ghost use Rattle.eu_text.specs.Object.{IsTextOf};
 ghost use Rattle.eu_json.specs.Tree.{instance_tree, lease_tree};
 
-use eu_base::{Instance, Status};
+use eu_base::{SharedInstance, Status};
 use eu_model::Times;
 use eu_text::{Pieces, append_piece, append_text};
 use itoa::Buffer;
@@ -39,13 +39,13 @@ pub(crate) fn append_number(out: &mut Vec<u8>, lead: &str, number: u64) -> Resul
 /// Appends what is told of a lease.
 fn append_lease(
     out: &mut Vec<u8>,
-    instance: &Instance,
+    instance: &SharedInstance,
     times: Option<Times>,
 ) -> Result<(), AllocError>
     ensures { OnOk result (out.new.items ≡ out.old.items ++ compact_text (lease_tree instance.now times)) }
 {
-    let secs = u64::from(instance.secs.secs());
-    let interval = u64::from(instance.interval.secs());
+    let secs = u64::from(instance.secs().secs());
+    let interval = u64::from(instance.interval().secs());
     append_number(out, "{\"durationInSecs\":", secs)?;
     match times {
         None => append_number(out, ",\"renewalIntervalInSecs\":", interval)?,
@@ -69,18 +69,18 @@ fn append_members(
     alloc: Global,
     out: &mut Vec<u8>,
     pieces: Pieces<'_>,
-    instance: &Instance,
+    instance: &SharedInstance,
     times: Option<Times>,
 ) -> Result<(), AllocError>
     requires { (ms : Members) × (instance.now.rest ≡ object ms) × IsTextOf pieces.bytes.now pieces.cuts ms }
     ensures { OnOk result ((s : List ℕ) × (out.new.items ≡ out.old.items ++ 44 ∷ s) × (compact_text (instance_tree instance.now times) ≡ 123 ∷ s)) }
 {
     let Pieces { bytes, cuts } = pieces;
-    let (app, id) = (instance.key.app.as_str(), instance.key.id.as_str());
+    let (app, id) = (instance.key().app.as_str(), instance.key().id.as_str());
     let left = append_text(alloc, out, bytes, cuts.app, ",\"app\":", app)?;
     let left = append_text(alloc, out, left, cuts.instance_id, ",\"instanceId\":", id)?;
     let mut digits = Buffer::new();
-    let stamp = digits.format(instance.last_dirty.value());
+    let stamp = digits.format(instance.last_dirty().value());
     let left = append_text(
         alloc,
         out,
@@ -92,9 +92,9 @@ fn append_members(
     let left = append_piece(out, left, cuts.lease, ",\"leaseInfo\":")?;
     append_lease(out, instance, times)?;
     let left = append_piece(out, left, cuts.overridden, ",\"overriddenStatus\":")?;
-    out.extend_from_slice(quoted_status(instance.overridden).as_bytes())?;
+    out.extend_from_slice(quoted_status(instance.overridden()).as_bytes())?;
     let left = append_piece(out, left, cuts.status, ",\"status\":")?;
-    out.extend_from_slice(quoted_status(instance.status).as_bytes())?;
+    out.extend_from_slice(quoted_status(instance.status()).as_bytes())?;
     out.extend_from_slice(left)?;
     out.extend_from_slice(b"}")?;
     Ok(())
@@ -104,15 +104,15 @@ fn append_members(
 fn append_led(
     alloc: Global,
     out: &mut Vec<u8>,
-    instance: &Instance,
+    instance: &SharedInstance,
     times: Option<Times>,
 ) -> Result<(), AllocError>
     ensures { OnOk result ((s : List ℕ) × (out.new.items ≡ out.old.items ++ 44 ∷ s) × (compact_text (instance_tree instance.now times) ≡ 123 ∷ s)) }
 {
-    if let Some(text) = instance.rest.shared_text() {
+    if let Some(text) = instance.rest().shared_text() {
         return append_members(alloc, out, text.pieces(), instance, times);
     }
-    let text = instance.rest.to_text(alloc)?;
+    let text = instance.rest().to_text(alloc)?;
     append_members(alloc, out, text.pieces(), instance, times)
 }
 
@@ -128,7 +128,7 @@ fn append_led(
 pub(crate) fn append_instance(
     alloc: Global,
     out: &mut Vec<u8>,
-    instance: &Instance,
+    instance: &SharedInstance,
     times: Option<Times>,
 ) -> Result<(), AllocError>
     ensures { OnOk result (out.new.items ≡ out.old.items ++ compact_text (instance_tree instance.now times)) }

@@ -2,7 +2,7 @@
 ghost use Rattle.std.specs.Prelude.{◌≡◌, ◌↔◌, true, IfOk, IsOk, IsTrue};
 ghost use Rattle.eu_model.specs.Owned.{names_nothing, owns_nothing};
 
-use eu_base::{BoxedInstance, Codes, Config, Instance, Key, Keys, Moment, Stamp, Status, Tasks};
+use eu_base::{Codes, Config, Key, Keys, Moment, SharedInstance, Stamp, Status, Tasks};
 use std::alloc::{AllocError, Global};
 
 /// What changes a registry, or a server with peers. Each is one step of the lease machine, but for `Drain`, `Landed` and `Lost`, which
@@ -12,7 +12,7 @@ pub enum Command {
     /// An instance comes, or comes again (`AbstractInstanceRegistry.register`).
     Register {
         /// The instance.
-        instance: BoxedInstance,
+        instance: SharedInstance,
         /// Whether a peer sends it.
         replicated: bool,
     },
@@ -59,7 +59,7 @@ pub enum Command {
     /// A peer told of a newer instance than the one that is held here (`PeerEurekaNode.syncInstancesIfTimestampDiffers`).
     Adopt {
         /// The instance.
-        instance: BoxedInstance,
+        instance: SharedInstance,
     },
     /// A minute ends (`MeasuredRate`'s timer).
     EndMinute,
@@ -134,7 +134,7 @@ impl Command {
         }
     }
 
-    /// The same command once more. Takes memory for its key, its instance or its codes alone; `AllocError` where none is left.
+    /// The same command once more. Takes memory for its key or its codes alone; `AllocError` where none is left.
     pub fn copy(&self, alloc: Global) -> Result<Command, AllocError>
         ensures same { IfOk result (λ c. c ≡ self.now) }
         ensures memory { names_nothing self.now ≡ true → IsOk result }
@@ -143,7 +143,7 @@ impl Command {
             Command::Register {
                 instance,
                 replicated,
-            } => copy_register(alloc, instance, *replicated),
+            } => copy_register(instance, *replicated),
             Command::Renew {
                 key,
                 last_dirty,
@@ -163,7 +163,7 @@ impl Command {
                 last_dirty,
                 replicated,
             } => copy_unset_status(alloc, key, *status, *last_dirty, *replicated),
-            Command::Adopt { instance } => copy_adopt(alloc, instance),
+            Command::Adopt { instance } => copy_adopt(instance),
             Command::EndMinute => Ok(Command::EndMinute),
             Command::Update => Ok(Command::Update),
             Command::Reconfigure { config } => Ok(Command::Reconfigure { config: *config }),
@@ -187,7 +187,7 @@ fn is_stamp(stamp: Option<Stamp>, other: Option<Stamp>) -> bool
 }
 
 /// Whether it is this registration.
-fn is_register(command: &Command, instance: &Instance, replicated: bool) -> bool
+fn is_register(command: &Command, instance: &SharedInstance, replicated: bool) -> bool
     ensures { IsTrue result ↔ (command.now ≡ Command.Register instance.now replicated) }
 {
     match command {
@@ -279,7 +279,7 @@ fn is_unset_status(
 }
 
 /// Whether it is this adoption.
-fn is_adopt(command: &Command, instance: &Instance) -> bool
+fn is_adopt(command: &Command, instance: &SharedInstance) -> bool
     ensures { IsTrue result ↔ (command.now ≡ Command.Adopt instance.now) }
 {
     match command {
@@ -311,17 +311,12 @@ fn is_landed(command: &Command, peer: u32, codes: &Codes) -> bool
     }
 }
 
-/// A registration of a copy of the instance.
-fn copy_register(
-    alloc: Global,
-    instance: &BoxedInstance,
-    replicated: bool,
-) -> Result<Command, AllocError>
+/// A registration of the same instance.
+fn copy_register(instance: &SharedInstance, replicated: bool) -> Result<Command, AllocError>
     ensures { IfOk result (λ c. c ≡ Command.Register instance.now replicated) }
 {
-    let instance = instance.copy_boxed(alloc)?;
     Ok(Command::Register {
-        instance,
+        instance: instance.share()?,
         replicated,
     })
 }
@@ -391,11 +386,11 @@ fn copy_unset_status(
     })
 }
 
-/// An adoption of a copy of the instance.
-fn copy_adopt(alloc: Global, instance: &BoxedInstance) -> Result<Command, AllocError>
+/// An adoption of the same instance.
+fn copy_adopt(instance: &SharedInstance) -> Result<Command, AllocError>
     ensures { IfOk result (λ c. c ≡ Command.Adopt instance.now) }
 {
-    let instance = instance.copy_boxed(alloc)?;
+    let instance = instance.share()?;
     Ok(Command::Adopt { instance })
 }
 
@@ -422,7 +417,7 @@ pub enum Reply {
     /// The sender knows a newer instance than the registry, and is to register it.
     Stale,
     /// The registry holds a newer instance than the peer that asks: this one.
-    Conflict(BoxedInstance),
+    Conflict(SharedInstance),
     /// The renewals of the minute that ended.
     Last(u64),
     /// The number of clients that are expected now.
@@ -455,7 +450,7 @@ impl Reply {
         }
     }
 
-    /// The same reply once more. Takes memory for a `Conflict`, an `Evicted` and a `Batch` alone; `AllocError` where none is left.
+    /// The same reply once more. Takes memory for an `Evicted` and a `Batch` alone; `AllocError` where none is left.
     #[inline(always)]
     pub fn copy(&self, alloc: Global) -> Result<Reply, AllocError>
         ensures same { IfOk result (λ r. r ≡ self.now) }
@@ -467,7 +462,7 @@ impl Reply {
             Reply::NotFound => Ok(Reply::NotFound),
             Reply::Stale => Ok(Reply::Stale),
             Reply::Conflict(held) => {
-                let held = held.copy_boxed(alloc)?;
+                let held = held.share()?;
                 Ok(Reply::Conflict(held))
             }
             Reply::Last(renewals) => Ok(Reply::Last(*renewals)),

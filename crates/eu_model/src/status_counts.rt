@@ -33,7 +33,7 @@ impl StatusCounts {
             unknown: 0,
         };
         for listed in held {
-            counts.add(listed.instance.status);
+            counts.add(listed.instance.status());
         }
         counts
     }

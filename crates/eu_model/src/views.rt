@@ -1,7 +1,7 @@
 //! What is seen of a registry.
 
 use crate::StatusCounts;
-use eu_base::{App, Instance, Items, Key};
+use eu_base::{App, Items, Key, SharedInstance};
 
 /// What may be asked of a registry without changing it.
 #[derive(Debug, Drop)]
@@ -68,7 +68,7 @@ pub type Listing = Items<Listed>;
 #[derive(Debug, Drop)]
 pub struct Listed {
     /// The instance.
-    pub instance: Instance,
+    pub instance: SharedInstance,
     /// Its moments.
     pub times: Times,
 }

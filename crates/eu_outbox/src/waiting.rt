@@ -6,7 +6,7 @@ ghost use Rattle.indexmap.specs.IndexMap.{spare};
 ghost use Rattle.eu_model.specs.Server.{bounded, live, put, is_old};
 ghost use Rattle.eu_outbox.specs.Steps.{IsApart, gave, gave_all, in_line, named, placed, task_of, task_shown};
 
-use eu_base::{Instance, MOST_SENT, MOST_WAITING, Moment, Status, TASK_AGE, Task, TaskName};
+use eu_base::{MOST_SENT, MOST_WAITING, Moment, SharedInstance, Status, TASK_AGE, Task, TaskName};
 use indexmap::IndexMap;
 use std::alloc::{AllocError, Global};
 use std::marker::Model;
@@ -16,7 +16,7 @@ use std::mem;
 #[derive(Debug, Drop)]
 pub(crate) struct Waiting {
     pub(crate) status: Option<Status>,
-    pub(crate) instance: Option<Instance>,
+    pub(crate) instance: Option<SharedInstance>,
     pub(crate) queued: Moment,
 }
 
@@ -280,7 +280,7 @@ fn copied(alloc: Global, name: &TaskName, waiting: &Waiting) -> Result<Task, All
 {
     let key = name.key.copy(alloc)?;
     let instance = match &waiting.instance {
-        Some(instance) => Some(instance.copy(alloc)?),
+        Some(instance) => Some(instance.share()?),
         None => None,
     };
     Ok(Task {

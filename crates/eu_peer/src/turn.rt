@@ -3,7 +3,7 @@ ghost use Rattle.std.specs.Prelude.{◌≡◌, map, IfOk, MatchOption};
 ghost use Rattle.eu_peer.specs.Turns as spec;
 
 use crate::peer::Peer;
-use eu_base::{Action, BoxedInstance, Codes, Fault, Moment, Task, Tasks};
+use eu_base::{Action, Codes, Fault, Moment, SharedInstance, Task, Tasks};
 use eu_clock::Clock;
 use eu_json::ItemAnswer;
 use eu_model::{Answer, Ask, Command, Desk, Reply};
@@ -44,7 +44,7 @@ fn codes_of(alloc: Global, answers: &[ItemAnswer]) -> Result<Codes, AllocError>
 }
 
 /// The newer instance that the peer holds, by its answer to a heartbeat.
-fn newer(task: &Task, answer: ItemAnswer) -> Option<BoxedInstance>
+fn newer(task: &Task, answer: ItemAnswer) -> Option<SharedInstance>
     ensures { result ≡ spec.newer task.now answer }
 {
     if task.action == Action::Heartbeat && answer.code == StatusCode::CONFLICT.as_u16() {
@@ -59,7 +59,7 @@ fn all_newer(
     alloc: Global,
     tasks: &[Task],
     answers: Vec<ItemAnswer>,
-) -> Result<Vec<BoxedInstance>, AllocError>
+) -> Result<Vec<SharedInstance>, AllocError>
     ensures { IfOk result (λ instances. instances.items ≡ spec.all_newer tasks.now answers.items) }
 {
     let mut instances = Vec::new(alloc);
@@ -75,7 +75,7 @@ fn all_newer(
 fn adopt_all<D: Desk>(
     alloc: Global,
     desk: &mut D,
-    instances: Vec<BoxedInstance>,
+    instances: Vec<SharedInstance>,
     moment: Moment,
 ) -> usize
     ensures { spec.Adopts D.asked moment desk.old instances.items result desk.new }

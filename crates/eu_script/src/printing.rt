@@ -6,8 +6,7 @@ ghost use Rattle.eu_core.specs.Shown.{shown};
 ghost use Rattle.eu_page.specs.Page.{shown_page};
 ghost use Rattle.eu_base.specs.Values.{action_name};
 
-use eu_base::{Fault, Instance, Key, Task};
-use eu_core::SharedInstance;
+use eu_base::{Fault, Key, SharedInstance, Task};
 use eu_model::{Counts, Reply, StatusCounts, Times};
 use eu_page::{page_of, status_page};
 use std::alloc::{AllocError, Global};
@@ -30,12 +29,12 @@ pub fn print_reply(out: &mut String, settled: &str, reply: &Reply) -> Result<(),
     }
 }
 
-fn print_conflict(out: &mut String, held: &Instance) -> Result<(), AllocError>
+fn print_conflict(out: &mut String, held: &SharedInstance) -> Result<(), AllocError>
     ensures { OnOk result (string_bytes out.new ≡ string_bytes out.old ++ conflict_text held.now) }
 {
-    let status = held.status.name();
-    let overridden = held.overridden.name();
-    let last_dirty = held.last_dirty.value();
+    let status = held.status().name();
+    let overridden = held.overridden().name();
+    let last_dirty = held.last_dirty().value();
     writeln!(out, "409 {status} {overridden} {last_dirty}")
 }
 

@@ -14,9 +14,9 @@ ghost use Rattle.eu_store.specs.Order.{at_place, at_places, instances_of, is_bel
 ghost use Rattle.eu_store.specs.Stored.{listing_of};
 ghost use Rattle.std.specs.FinMap as map;
 
+use crate::HeldLease;
 use crate::rows::rows;
-use crate::{HeldLease, SharedInstance};
-use eu_base::{App, Key};
+use eu_base::{App, Key, SharedInstance};
 use eu_model::{Listed, Times};
 use indexmap::IndexMap;
 use std::alloc::{AllocError, Global};
@@ -148,7 +148,7 @@ impl Directory {
         let mut leases = Vec::with_capacity(alloc, places.len())?;
         for place in places {
             let (_key, held) = entries.get_index(*place).unwrap();
-            leases.push(held.listed(alloc)?)?;
+            leases.push(held.listed()?)?;
         }
         Ok(leases)
     }

@@ -1,11 +1,11 @@
 //! What is held under a key.
 ghost use Rattle.std.specs.Prelude.{◌≡◌, IfOk, IsTrue};
 ghost use Rattle.eu_lease.specs.Term.{listed_with};
+ghost use Rattle.eu_model.specs.Change.{stamped};
 ghost use Rattle.eu_model.specs.PlainSteps.{plain_expired};
 ghost use Rattle.eu_store.specs.Stored.{amended, deadline_of, term_of};
 
-use crate::SharedInstance;
-use eu_base::{Instance, Moment, Stamp, Status};
+use eu_base::{Moment, SharedInstance, Stamp, Status};
 use eu_lease::Lease;
 use eu_model::{Listed, Times};
 use std::alloc::{AllocError, Global};
@@ -64,13 +64,12 @@ impl HeldLease {
         self.lease.times()
     }
 
-    /// Both once more, as they are listed. `AllocError` where no memory is left.
-    pub fn listed(&self, alloc: Global) -> Result<Listed, AllocError>
+    /// Both once more, as they are listed. `AllocError` where 2^63 share the instance.
+    pub fn listed(&self) -> Result<Listed, AllocError>
         ensures { IfOk result (λ l. l ≡ self.now) }
     {
-        let instance = self.instance.to_instance(alloc)?;
         Ok(Listed {
-            instance,
+            instance: self.instance.share()?,
             times: self.times(),
         })
     }
@@ -102,7 +101,7 @@ impl HeldLease {
                 last_dirty,
                 comes_up,
             } => {
-                self.instance.set_statuses(status, overridden, last_dirty);
+                restate(&mut self.instance, status, overridden, last_dirty);
                 self.lease.renew(moment);
                 if comes_up {
                     self.lease.service_up(moment);
@@ -113,23 +112,20 @@ impl HeldLease {
                 overridden,
                 lease,
             } => {
-                self.instance.rejoin(status, overridden, lease.secs());
+                self.instance.set_statuses(status, overridden);
+                self.instance.set_secs(lease.secs());
                 self.lease = lease;
             }
             Amendment::Replaced(by) => drop(mem::replace(self, by)),
         }
     }
 
-    /// A copy of the instance that it has once it is amended so. `AllocError` where no memory is left.
-    pub fn instance_amended(
-        &self,
-        alloc: Global,
-        amendment: &Amendment,
-    ) -> Result<Instance, AllocError>
+    /// The instance that it has once it is amended so. `AllocError` where 2^63 share it.
+    pub fn instance_amended(&self, amendment: &Amendment) -> Result<SharedInstance, AllocError>
         ensures { IfOk result (λ i. i ≡ (amended amendment.now self.now).instance) }
     {
         if let Amendment::Replaced(by) = amendment {
-            return by.instance.to_instance(alloc);
+            return by.instance.share();
         }
         let mut instance = self.instance.share()?;
         match amendment {
@@ -138,15 +134,36 @@ impl HeldLease {
                 overridden,
                 last_dirty,
                 ..
-            } => instance.set_statuses(*status, *overridden, *last_dirty),
+            } => restate(&mut instance, *status, *overridden, *last_dirty),
             Amendment::Rejoined {
                 status,
                 overridden,
                 lease,
-            } => instance.rejoin(*status, *overridden, lease.secs()),
+            } => {
+                instance.set_statuses(*status, *overridden);
+                instance.set_secs(lease.secs());
+            }
             _ => {}
         }
-        instance.to_instance(alloc)
+        Ok(instance)
+    }
+}
+
+/// Puts an instance in these statuses; a greater stamp replaces its own.
+fn restate(
+    instance: &mut SharedInstance,
+    status: Status,
+    overridden: Status,
+    last_dirty: Option<Stamp>,
+)
+    ensures { instance.new ≡ stamped last_dirty (record instance.old { status = status; overridden = overridden }) }
+{
+    instance.set_statuses(status, overridden);
+    match last_dirty {
+        Some(stamp) if stamp.value() > instance.last_dirty().value() => {
+            instance.set_last_dirty(stamp)
+        }
+        _ => {}
     }
 }
 

@@ -6,10 +6,8 @@ mod held;
 mod kept;
 mod leases;
 mod rows;
-mod shared;
 mod snapshot;
 
 pub use held::{Amendment, HeldLease};
 pub use leases::{Leases, Place};
-pub use shared::SharedInstance;
 pub use snapshot::Snapshot;

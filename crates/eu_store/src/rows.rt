@@ -42,7 +42,7 @@ pub(crate) fn listed_rows(
     let rows = rows(alloc, table, app)?;
     let mut leases = Vec::with_capacity(alloc, rows.len())?;
     for row in &rows {
-        leases.push(row.1.listed(alloc)?)?;
+        leases.push(row.1.listed()?)?;
     }
     Ok(leases)
 }

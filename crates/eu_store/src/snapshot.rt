@@ -3,16 +3,16 @@ ghost use Rattle.std.specs.Prelude.{◌≡◌, ◌∷◌, ◌++◌, [], IfOk, On
 ghost use Rattle.eu_store.specs.Order.{instance_at, instances_in, snapped, timed};
 ghost use Rattle.std.specs.Option.{option_copied, option_map, option_map_or};
 
-use crate::SharedInstance;
 use crate::directory::{PART_ROOM, Part};
+use eu_base::SharedInstance;
 use eu_model::{Listed, Times};
 use std::alloc::{AllocError, Global};
 use std::marker::Model;
 
 /// Everything that was held at one moment, in key order. Contracts see the listing.
 ///
-/// It's what a lock has to be held for: instances are shared, and only the moments of their leases are copied. The copies that a
-/// listing has of its own are made from it later.
+/// It's what a lock has to be held for: parts of the table are shared, and only the moments of the leases are copied. A listing is made
+/// from it later, and shares the instances.
 #[derive(Debug, Drop)]
 pub struct Snapshot {
     parts: Vec<Part>,
@@ -41,31 +41,26 @@ impl Snapshot {
         Snapshot { parts, rows }
     }
 
-    /// The listing, with copies of its own. `AllocError` where no memory is left.
+    /// The listing. `AllocError` where no memory is left.
     pub fn listed(&self, alloc: Global) -> Result<Vec<Listed>, AllocError>
         ensures { IfOk result (λ leases. leases.items ≡ self.now) }
     {
         let mut leases = Vec::with_capacity(alloc, self.rows.len())?;
         for row in &self.rows {
-            let found = listed_at(&self.parts, alloc, row.0, row.1)?;
+            let found = listed_at(&self.parts, row.0, row.1)?;
             append(&mut leases, found)?;
         }
         Ok(leases)
     }
 }
 
-/// What is listed of a place of the table, with these moments. `AllocError` where no memory is left.
-fn listed_at(
-    parts: &[Part],
-    alloc: Global,
-    place: usize,
-    times: Times,
-) -> Result<Option<Listed>, AllocError>
+/// What is listed of a place of the table, with these moments. `AllocError` where 2^63 share the instance.
+fn listed_at(parts: &[Part], place: usize, times: Times) -> Result<Option<Listed>, AllocError>
     ensures { IfOk result (λ found. found ≡ option_map (timed times) (instance_at (instances_in parts.now) place)) }
 {
     match shared_at(parts, place) {
         Some(instance) => Ok(Some(Listed {
-            instance: instance.to_instance(alloc)?,
+            instance: instance.share()?,
             times,
         })),
         None => Ok(None),

@@ -1,9 +1,12 @@
 //! Leases that are renewed, and of which the expired are looked for.
 
-use eu_base::{App, Fault, Id, Instance, Key, LeaseSecs, Moment, RenewalSecs, Rest, Stamp, Status};
+use eu_base::{
+    App, Fault, Id, Instance, Key, LeaseSecs, Moment, RenewalSecs, Rest, SharedInstance, Stamp,
+    Status,
+};
 use eu_clock::{Chooser, RngChooser};
 use eu_lease::Lease;
-use eu_store::{Amendment, HeldLease, Leases, SharedInstance};
+use eu_store::{Amendment, HeldLease, Leases};
 use std::alloc::Global;
 
 /// A moment at which leases that were made at 0 have expired, and those that were made then have not.
@@ -34,8 +37,7 @@ fn put(alloc: Global, leases: &mut Leases, key: &Key, moment: Moment) -> Result<
         rest: Rest::of_host(alloc, "h")?,
     };
     let lease = Lease::fresh(moment, instance.secs);
-    let shared = SharedInstance::of(alloc, &instance, Status::Up, Status::Unknown)?;
-    let held = HeldLease::new(shared, lease);
+    let held = HeldLease::new(SharedInstance::new(alloc, instance)?, lease);
     let key = key.copy(alloc)?;
     if leases.get(&key).is_none() {
         leases.insert(key, held);

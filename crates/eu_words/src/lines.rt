@@ -5,7 +5,7 @@ ghost use Rattle.eu_words.specs.Lines.{line_of, words_say, open_says, config_say
 
 use crate::openings::Opening;
 use crate::words::{Words, is_text};
-use eu_base::{BoxedInstance, Instance, Key, Moment, RenewalSecs, Rest};
+use eu_base::{Instance, Key, Moment, RenewalSecs, Rest, SharedInstance};
 use eu_lines::LineError;
 use eu_model::Command;
 use std::alloc::Global;
@@ -197,7 +197,7 @@ fn instance_at(
     alloc: Global,
     words: &mut Words<'_>,
     moment: Moment,
-) -> Result<BoxedInstance, LineError>
+) -> Result<SharedInstance, LineError>
     ensures { Takes result words.new (newcomer_at moment words.old) }
 {
     let key = words.key_at(alloc)?;
@@ -206,7 +206,7 @@ fn instance_at(
     let overridden = words.status_at()?;
     let last_dirty = words.last_dirty_at(moment)?;
     let rest = Rest::of_host(alloc, key.id.as_str())?;
-    Ok(BoxedInstance::new(
+    Ok(SharedInstance::new(
         alloc,
         Instance {
             key,

@@ -18,14 +18,13 @@
 //! The id of a lease or a task may have words in braces, as `i{2,4,5}`: then there is one for each of them. So may a command, which is
 //! then told once with each. Numbers may be told as `i{0..10}`.
 use eu_audit::audit;
-use eu_base::{
-    Action, BoxedInstance, Config, Fault, Id, Instance, Keys, Moment, Rest, Status, Task, Tasks,
-};
+use eu_base::{Action, Config, Fault, Id, Keys, Moment, Rest, SharedInstance, Status, Task, Tasks};
 use eu_fixtures::{key_of, moment, settings};
 use eu_lines::LineError;
 use eu_model::{Command, Entry, Listed, Listing, OverrideRows, Queue, Queues, Reply, State, Times};
 use eu_words::{Line, read_line};
 use std::alloc::Global;
+use std::mem::replace;
 
 /// A number.
 fn number(text: &str) -> Result<u64, Fault> {
@@ -97,7 +96,7 @@ fn config(alloc: Global, words: &str) -> Result<Config, Fault> {
 }
 
 /// The instance of these words.
-fn instance(alloc: Global, words: &str) -> Result<BoxedInstance, Fault> {
+fn instance(alloc: Global, words: &str) -> Result<SharedInstance, Fault> {
     let line = format!(in alloc; "adopt 0 {words}")?;
     let (_, command) = command(alloc, line.as_str())?;
     match command {
@@ -106,9 +105,9 @@ fn instance(alloc: Global, words: &str) -> Result<BoxedInstance, Fault> {
     }
 }
 
-fn instance_or_none(alloc: Global, words: Option<&str>) -> Result<Option<Instance>, Fault> {
+fn instance_or_none(alloc: Global, words: Option<&str>) -> Result<Option<SharedInstance>, Fault> {
     match words {
-        Some(words) => Ok(Some(instance(alloc, words)?.copy(alloc)?)),
+        Some(words) => Ok(Some(instance(alloc, words)?)),
         None => Ok(None),
     }
 }
@@ -230,18 +229,11 @@ pub fn entries(alloc: Global, lines: &str) -> Result<Vec<Entry>, Fault> {
 }
 
 /// An instance like another, but for its id and its host, which is the id.
-fn with_id(alloc: Global, like: &Instance, id: &str) -> Result<Instance, Fault> {
-    let key = key_of(alloc, like.key.app.as_str(), id)?;
-    let rest = Rest::of_host(alloc, id)?;
-    Ok(Instance {
-        key,
-        status: like.status,
-        overridden: like.overridden,
-        last_dirty: like.last_dirty,
-        secs: like.secs,
-        interval: like.interval,
-        rest,
-    })
+fn with_id(alloc: Global, like: &SharedInstance, id: &str) -> Result<SharedInstance, Fault> {
+    let mut instance = like.to_instance(alloc)?;
+    drop(replace(&mut instance.key.id, Id::read(alloc, id)?));
+    drop(replace(&mut instance.rest, Rest::of_host(alloc, id)?));
+    Ok(SharedInstance::new(alloc, instance)?)
 }
 
 /// The leases of a text, one for each id.
@@ -255,7 +247,7 @@ fn push_leases(alloc: Global, leases: &mut Vec<Listed>, text: &str) -> Result<()
         up,
     };
     let like = instance(alloc, words)?;
-    for id in each(alloc, like.key.id.as_str())? {
+    for id in each(alloc, like.key().id.as_str())? {
         let instance = with_id(alloc, &like, id.as_str())?;
         leases.push(Listed { instance, times })?;
     }

@@ -1,5 +1,5 @@
 //! Requests and a desk for sessions, and what a session over them tells.
-use eu_base::{App, Fault, Moment};
+use eu_base::{App, Fault, Moment, SharedInstance};
 use eu_clock::Clock;
 use eu_fixtures::{Brittle, REGISTRATION, clock, done};
 use eu_json::read_instance;
@@ -46,8 +46,9 @@ fn listed(alloc: Global) -> Result<Listed, Fault> {
         updated: 1000,
         up: 1000,
     };
+    let instance = read_instance(alloc, REGISTRATION, &app, moment)?;
     Ok(Listed {
-        instance: read_instance(alloc, REGISTRATION, &app, moment)?,
+        instance: SharedInstance::new(alloc, instance)?,
         times,
     })
 }
@@ -57,7 +58,7 @@ fn note(out: &mut String, ask: &Ask, moment: Moment) -> Result<(), AllocError> {
     let ms = moment.ms();
     match ask {
         Ask::Do(Command::Register { instance, .. }) => {
-            let last_dirty = instance.last_dirty.value();
+            let last_dirty = instance.last_dirty().value();
             write!(out, "register {last_dirty} at {ms};")
         }
         Ask::See(Query::One(key)) => {

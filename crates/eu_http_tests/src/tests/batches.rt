@@ -3,7 +3,7 @@ ghost use Rattle.std.specs.Prelude.{◌≤◌};
 
 use crate::tests::instances::is_instance;
 use crate::tests::responses::instance;
-use eu_base::{Action, App, BoxedInstance, Fault, Id, Instance, Key, Stamp, Status, Task};
+use eu_base::{Action, App, Fault, Id, Instance, Key, SharedInstance, Stamp, Status, Task};
 use eu_fixtures::{joined, moment};
 use eu_json::{ItemAnswer, append_answers, batch_text, read_batch};
 use eu_model::Command;
@@ -133,7 +133,7 @@ fn is_registration(alloc: Global, commands: &[Command], text: &str) -> Result<bo
 }
 
 /// The instance that a client registers, or none.
-fn held(alloc: Global, is_held: bool) -> Result<Option<Instance>, Fault> {
+fn held(alloc: Global, is_held: bool) -> Result<Option<SharedInstance>, Fault> {
     if is_held {
         Ok(Some(instance(alloc)?))
     } else {
@@ -474,10 +474,7 @@ fn items_are_read_in_order(rt: HostRuntime) {
 
 /// Whether that is what is written of one answer.
 pub fn is_answer(alloc: Global, code: u16, is_held: bool, text: &str) -> Result<bool, Fault> {
-    let instance = match held(alloc, is_held)? {
-        Some(instance) => Some(BoxedInstance::new(alloc, instance)?),
-        None => None,
-    };
+    let instance = held(alloc, is_held)?;
     let answer = ItemAnswer { code, instance };
     let mut out = Vec::new(alloc);
     append_answers(alloc, &mut out, slice::from_ref(&answer))?;

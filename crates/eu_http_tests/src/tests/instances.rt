@@ -1,12 +1,16 @@
 //! Instances that are read and written, by bodies as clients send them.
-use eu_base::{App, Fault, Instance, Moment, Status};
+use eu_base::{App, Fault, Moment, SharedInstance, Status};
 use eu_fixtures::{LISTED, REGISTRATION, joined, push_each};
 use eu_json::{append_application, append_applications, append_held, read_instance};
 use eu_model::{Listed, Times};
 use std::alloc::{AllocError, Global};
 
 /// Whether that is what is written of an instance, without the moments of a lease.
-pub fn is_instance(alloc: Global, instance: &Instance, text: &str) -> Result<bool, AllocError> {
+pub fn is_instance(
+    alloc: Global,
+    instance: &SharedInstance,
+    text: &str,
+) -> Result<bool, AllocError> {
     let whole = joined(alloc, &[r#"{"instance":"#, text, "}"])?;
     let mut out = Vec::new(alloc);
     append_held(alloc, &mut out, instance, None)?;
@@ -14,14 +18,15 @@ pub fn is_instance(alloc: Global, instance: &Instance, text: &str) -> Result<boo
 }
 
 /// The text of an instance for that application at a moment.
-fn read_for(alloc: Global, text: &str, app: &str, ms: u64) -> Result<Instance, Fault> {
+fn read_for(alloc: Global, text: &str, app: &str, ms: u64) -> Result<SharedInstance, Fault> {
     let moment = Moment::new(ms).ok_or(Fault::BadValue)?;
     let app = App::read(alloc, app)?;
-    read_instance(alloc, text, &app, moment)
+    let instance = read_instance(alloc, text, &app, moment)?;
+    Ok(SharedInstance::new(alloc, instance)?)
 }
 
 /// The text of an instance for application A at moment 1000.
-fn read(alloc: Global, text: &str) -> Result<Instance, Fault> {
+fn read(alloc: Global, text: &str) -> Result<SharedInstance, Fault> {
     read_for(alloc, text, "A", 1000)
 }
 
@@ -36,14 +41,14 @@ fn is_refused(alloc: Global, text: &str, fault: Fault) -> bool {
 }
 
 /// Whether it is the instance of `REGISTRATION`.
-fn is_registered(instance: &Instance) -> bool {
-    instance.key.app.as_str() == "A"
-        && instance.key.id.as_str() == "i1"
-        && instance.status == Status::Up
-        && instance.overridden == Status::Unknown
-        && instance.last_dirty.value() == 5
-        && instance.secs.secs() == 90
-        && instance.interval.secs() == 30
+fn is_registered(instance: &SharedInstance) -> bool {
+    instance.key().app.as_str() == "A"
+        && instance.key().id.as_str() == "i1"
+        && instance.status() == Status::Up
+        && instance.overridden() == Status::Unknown
+        && instance.last_dirty().value() == 5
+        && instance.secs().secs() == 90
+        && instance.interval().secs() == 30
 }
 
 fn is_read(alloc: Global) -> Result<bool, Fault> {
@@ -297,7 +302,7 @@ fn another_application_is_refused(rt: HostRuntime) {
 }
 
 /// The instance of a body that has this member beside those that each has.
-fn with(alloc: Global, before: &str, json: &str, after: &str) -> Result<Instance, Fault> {
+fn with(alloc: Global, before: &str, json: &str, after: &str) -> Result<SharedInstance, Fault> {
     let members =
         r#"{"instance":{"hostName":"h","app":"a","ipAddr":"x","dataCenterInfo":{"name":"MyOwn"}"#;
     let text = joined(alloc, &[members, before, json, after, "}}"])?;
@@ -307,7 +312,7 @@ fn with(alloc: Global, before: &str, json: &str, after: &str) -> Result<Instance
 /// Whether the instance with this `instanceId` has that id.
 fn has_id(alloc: Global, member: &str, id: &str) -> Result<bool, Fault> {
     let instance = with(alloc, member, "", "")?;
-    let has = instance.key.id.as_str() == id;
+    let has = instance.key().id.as_str() == id;
     drop(instance);
     Ok(has)
 }
@@ -347,7 +352,7 @@ fn an_id_has_255_bytes_at_most(rt: HostRuntime) {
 /// The status and the overridden status of the instance with this member.
 fn statuses(alloc: Global, before: &str, json: &str) -> Result<(Status, Status), Fault> {
     let instance = with(alloc, before, json, "")?;
-    let statuses = (instance.status, instance.overridden);
+    let statuses = (instance.status(), instance.overridden());
     drop(instance);
     Ok(statuses)
 }
@@ -416,7 +421,7 @@ fn overridden_statuses_in_any_case(rt: HostRuntime) {
 /// The stamp of the instance with this member.
 fn last_dirty(alloc: Global, before: &str, json: &str) -> Result<u64, Fault> {
     let instance = with(alloc, before, json, "")?;
-    let last_dirty = instance.last_dirty.value();
+    let last_dirty = instance.last_dirty().value();
     drop(instance);
     Ok(last_dirty)
 }
@@ -458,7 +463,7 @@ fn stamps_as_numbers_and_as_texts(rt: HostRuntime) {
 /// The duration and the interval of the instance with this member.
 fn terms(alloc: Global, before: &str, json: &str, after: &str) -> Result<(u32, u32), Fault> {
     let instance = with(alloc, before, json, after)?;
-    let terms = (instance.secs.secs(), instance.interval.secs());
+    let terms = (instance.secs().secs(), instance.interval().secs());
     drop(instance);
     Ok(terms)
 }

@@ -1,5 +1,5 @@
 //! Requests as clients send them, and responses byte for byte.
-use eu_base::{App, BoxedInstance, Config, Fault, Instance, Key, Keys, Stamp, Status};
+use eu_base::{App, Config, Fault, Instance, Key, Keys, SharedInstance, Stamp, Status};
 use eu_fixtures::{MISSING, REGISTRATION, moment, push_each};
 use eu_framing::{EMPTY_ROOM, Request, read_request};
 use eu_http::{Asked, Outcome, Wanted, answer, asks};
@@ -11,10 +11,11 @@ use eu_routes::Routes;
 use std::alloc::{AllocError, Global};
 
 /// The instance that `REGISTRATION` says, at 1000.
-pub fn instance(alloc: Global) -> Result<Instance, Fault> {
+pub fn instance(alloc: Global) -> Result<SharedInstance, Fault> {
     let now = moment(1000)?;
     let app = App::read(alloc, "A")?;
-    read_instance(alloc, REGISTRATION, &app, now)
+    let instance = read_instance(alloc, REGISTRATION, &app, now)?;
+    Ok(SharedInstance::new(alloc, instance)?)
 }
 
 fn listed(alloc: Global) -> Result<Listed, Fault> {
@@ -138,7 +139,7 @@ fn tell_settings(out: &mut String, config: &Config) -> Result<(), AllocError> {
 fn tell_change(out: &mut String, command: &Command) -> Result<(), AllocError> {
     match command {
         Command::Register { instance, .. } => {
-            tell_stamp_of(out, "register", &instance.key, Some(instance.last_dirty))
+            tell_stamp_of(out, "register", instance.key(), Some(instance.last_dirty()))
         }
         Command::Renew {
             key,
@@ -405,7 +406,7 @@ fn replies_are_written(rt: HostRuntime) {
 
 /// The answer that an instance conflicts with one that is held.
 pub fn conflict(alloc: Global) -> Result<Answer, Fault> {
-    let held = BoxedInstance::new(alloc, instance(alloc)?)?;
+    let held = instance(alloc)?;
     Ok(Answer::Did(Reply::Conflict(held)))
 }
 

@@ -1,6 +1,7 @@
 //! The text of a journal, line by line, and lines that are refused. The digest was computed by another program.
 use eu_base::{
-    App, Fault, Id, Instance, Key, Keys, LeaseSecs, Moment, RenewalSecs, Rest, Stamp, Status,
+    App, Fault, Id, Instance, Key, Keys, LeaseSecs, Moment, RenewalSecs, Rest, SharedInstance,
+    Stamp, Status,
 };
 use eu_fixtures::{settings, text_of};
 use eu_journal::JournalLine;
@@ -34,11 +35,11 @@ fn key(alloc: Global) -> Result<Key, Fault> {
     Ok(Key { app, id })
 }
 
-fn instance(alloc: Global) -> Result<Instance, Fault> {
+fn instance(alloc: Global) -> Result<SharedInstance, Fault> {
     let last_dirty = Stamp::new(1_700_000_000_000).ok_or(Fault::BadStamp)?;
     let key = key(alloc)?;
     let rest = Rest::of_host(alloc, "a")?;
-    Ok(Instance {
+    let instance = Instance {
         key,
         status: Status::Up,
         overridden: Status::Unknown,
@@ -46,7 +47,8 @@ fn instance(alloc: Global) -> Result<Instance, Fault> {
         secs: LeaseSecs::DEFAULT,
         interval: RenewalSecs::DEFAULT,
         rest,
-    })
+    };
+    Ok(SharedInstance::new(alloc, instance)?)
 }
 
 fn state(

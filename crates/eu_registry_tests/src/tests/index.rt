@@ -1,6 +1,6 @@
 //! The leases beside a plain list of them, on the same drawn calls.
 use crate::tests::store::{held, put};
-use eu_base::{Fault, Instance, Moment, Status};
+use eu_base::{Fault, Moment, SharedInstance, Status};
 use eu_clock::{Chooser, RngChooser};
 use eu_fixtures::{ids, instance, key, moment};
 use eu_lease::Lease;
@@ -125,7 +125,7 @@ fn hint(alloc: Global, leases: &Leases, drawn: Drawn) -> Result<Place, Fault> {
 /// What a call makes of a lease that is held.
 fn amendment(
     alloc: Global,
-    instance: &Instance,
+    instance: &SharedInstance,
     moment: Moment,
     call: u64,
 ) -> Result<Amendment, Fault> {
@@ -134,9 +134,9 @@ fn amendment(
         3 => Ok(Amendment::Rejoined {
             status: Status::Up,
             overridden: Status::Unknown,
-            lease: Lease::fresh(moment, instance.secs),
+            lease: Lease::fresh(moment, instance.secs()),
         }),
-        4 => Ok(Amendment::Replaced(held(alloc, instance, moment)?)),
+        4 => Ok(Amendment::Replaced(held(instance, moment)?)),
         call => Ok(Amendment::InStatuses {
             moment,
             status: Status::Down,
@@ -151,7 +151,7 @@ fn amendment(
 fn change(alloc: Global, leases: &mut Leases, drawn: Drawn) -> Result<bool, Fault> {
     let id = format!(in alloc; "j{}", drawn.number)?;
     let instance = instance(alloc, id.as_str(), 0, drawn.secs)?;
-    let (key, moment) = (&instance.key, moment(drawn.ms)?);
+    let (key, moment) = (instance.key(), moment(drawn.ms)?);
     let hint = hint(alloc, leases, drawn)?;
     match drawn.call {
         0 => Ok(leases.take(key, hint).is_some()),

@@ -1,11 +1,11 @@
 //! A table of leases: what is said to it, and what comes of that, worked out by hand.
 use crate::tests::lines::{Told, cut, first_wrong, number, read_app, read_said, tell_done};
 use crate::tests::texts::{tell_ids, tell_lease, tell_listing};
-use eu_base::{Fault, Instance, Key, Moment, Status};
+use eu_base::{Fault, Key, Moment, SharedInstance, Status};
 use eu_fixtures::{instance, key, moment};
 use eu_lease::Lease;
 use eu_model::Command;
-use eu_store::{Amendment, HeldLease, Leases, Place, SharedInstance, Snapshot};
+use eu_store::{Amendment, HeldLease, Leases, Place, Snapshot};
 use eu_words::Line;
 use std::alloc::{AllocError, Global};
 
@@ -28,21 +28,20 @@ pub struct Desk {
 }
 
 /// A lease of an instance, made at that moment.
-pub fn held(alloc: Global, instance: &Instance, moment: Moment) -> Result<HeldLease, AllocError> {
-    let lease = Lease::fresh(moment, instance.secs);
-    let shared = SharedInstance::of(alloc, instance, instance.status, instance.overridden)?;
-    Ok(HeldLease::new(shared, lease))
+pub fn held(instance: &SharedInstance, moment: Moment) -> Result<HeldLease, AllocError> {
+    let lease = Lease::fresh(moment, instance.secs());
+    Ok(HeldLease::new(instance.share()?, lease))
 }
 
 /// Puts a lease under its key, in the place of one that is held. Tells whether one is.
 pub fn put(
     alloc: Global,
     leases: &mut Leases,
-    instance: &Instance,
+    instance: &SharedInstance,
     moment: Moment,
 ) -> Result<bool, Fault> {
-    let key = instance.key.copy(alloc)?;
-    let held = held(alloc, instance, moment)?;
+    let key = instance.key().copy(alloc)?;
+    let held = held(instance, moment)?;
     leases.reserve()?;
     if leases.get(&key).is_none() {
         leases.insert(key, held);
@@ -70,7 +69,7 @@ pub fn put_each(alloc: Global, leases: &mut Leases, ids: &str) -> Result<(), Fau
 /// The key of the lease that a command is on.
 fn key_of(command: &Command) -> Result<&Key, Fault> {
     match command {
-        Command::Register { instance, .. } | Command::Adopt { instance } => Ok(&instance.key),
+        Command::Register { instance, .. } | Command::Adopt { instance } => Ok(instance.key()),
         Command::Renew { key, .. }
         | Command::Cancel { key, .. }
         | Command::SetStatus { key, .. }
@@ -102,9 +101,9 @@ fn amendment(command: &Command, moment: Moment) -> Result<Amendment, Fault> {
             comes_up: true,
         }),
         Command::Adopt { instance } => Ok(Amendment::Rejoined {
-            status: instance.status,
-            overridden: instance.overridden,
-            lease: Lease::fresh(moment, instance.secs),
+            status: instance.status(),
+            overridden: instance.overridden(),
+            lease: Lease::fresh(moment, instance.secs()),
         }),
         _ => Err(Fault::BadValue),
     }

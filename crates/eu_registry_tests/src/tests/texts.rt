@@ -1,6 +1,6 @@
 //! What comes of calls, as text.
-use eu_base::{Fault, Key};
-use eu_core::{SharedInstance, Stepped};
+use eu_base::{Fault, Key, SharedInstance};
+use eu_core::Stepped;
 use eu_model::{Listed, Reply, State, Times};
 use std::alloc::AllocError;
 
@@ -15,7 +15,7 @@ pub fn tell_ids(out: &mut String, keys: &[Key]) -> Result<(), AllocError> {
 /// Writes a reply: of a conflict the stamp that is held, of an eviction the ids.
 fn tell_reply(out: &mut String, reply: &Reply) -> Result<(), AllocError> {
     match reply {
-        Reply::Conflict(held) => write!(out, "Conflict {}", held.last_dirty.value()),
+        Reply::Conflict(held) => write!(out, "Conflict {}", held.last_dirty().value()),
         Reply::Evicted(victims) => {
             out.push_str("Evicted")?;
             tell_ids(out, victims.as_slice())
@@ -44,8 +44,8 @@ pub fn tell_step(out: &mut String, stepped: &Stepped) -> Result<(), AllocError> 
         tell_reply(out, logged)?;
     }
     for held in stepped.held.as_slice() {
-        let (last_dirty, secs) = (held.last_dirty.value(), held.secs.secs());
-        write!(out, "; {} {last_dirty} {secs}", held.status.name())?;
+        let (last_dirty, secs) = (held.last_dirty().value(), held.secs().secs());
+        write!(out, "; {} {last_dirty} {secs}", held.status().name())?;
     }
     Ok(())
 }
@@ -67,7 +67,7 @@ pub fn tell_lease(
 pub fn tell_listing(out: &mut String, leases: &[Listed]) -> Result<(), AllocError> {
     write!(out, "{}", leases.len())?;
     for listed in leases {
-        let (id, status) = (listed.instance.key.id.as_str(), listed.instance.status);
+        let (id, status) = (listed.instance.key().id.as_str(), listed.instance.status());
         write!(out, " {id} {} {}", status.name(), listed.times.updated)?;
     }
     Ok(())

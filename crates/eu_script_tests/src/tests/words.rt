@@ -1,5 +1,5 @@
 //! Lines with what each says, by the table of lines and the limits of their fields.
-use eu_base::{Config, Instance, Key, Moment, Stamp};
+use eu_base::{Config, Key, Moment, SharedInstance, Stamp};
 use eu_lines::LineError;
 use eu_model::Command;
 use eu_words::{Line, read_line};
@@ -16,11 +16,11 @@ fn tell_instance(
     text: &mut String,
     verb: &str,
     moment: &Moment,
-    instance: &Instance,
+    instance: &SharedInstance,
 ) -> Result<(), AllocError> {
-    tell_key(text, verb, moment, &instance.key)?;
-    let (secs, last_dirty) = (instance.secs.secs(), instance.last_dirty.value());
-    let (status, overridden) = (instance.status, instance.overridden);
+    tell_key(text, verb, moment, instance.key())?;
+    let (secs, last_dirty) = (instance.secs().secs(), instance.last_dirty().value());
+    let (status, overridden) = (instance.status(), instance.overridden());
     write!(text, " {secs} {status:?} {overridden:?} {last_dirty}")
 }
 

@@ -74,7 +74,7 @@ fn is_of_one_client(outcome: &Outcome) -> bool {
     let closed = &outcome.closed;
     let leases = closed.end.leases.as_slice();
     let is_held = match leases.first() {
-        Some(lease) => is_of_the_client(&lease.instance.key),
+        Some(lease) => is_of_the_client(lease.instance.key()),
         None => false,
     };
     let is_whole = outcome.served == 1 && closed.first == 0 && closed.totals.added == 1;

@@ -1,7 +1,7 @@
 //! Sessions with a desk that finds all done, and what they tell, byte for byte.
 use crate::tests::books::{USUAL, opened};
 use crate::tests::told::{spelled, told};
-use eu_base::{App, Fault, Moment};
+use eu_base::{App, Fault, Moment, SharedInstance};
 use eu_clock::ListClock;
 use eu_fixtures::{Parts, REGISTRATION, done, joined};
 use eu_json::read_instance;
@@ -45,7 +45,7 @@ fn note(out: &mut String, ask: &Ask, ms: u64) -> Result<(), AllocError> {
                 instance,
                 replicated: false,
             },
-        ) => write!(out, "register {} at {ms};", instance.last_dirty.value()),
+        ) => write!(out, "register {} at {ms};", instance.last_dirty().value()),
         Ask::See(Query::One(key)) => {
             write!(out, "{} {} at {ms};", key.app.as_str(), key.id.as_str())
         }
@@ -61,8 +61,9 @@ fn listed(alloc: Global) -> Result<Listed, Fault> {
         updated: 1000,
         up: 1000,
     };
+    let instance = read_instance(alloc, REGISTRATION, &app, moment)?;
     Ok(Listed {
-        instance: read_instance(alloc, REGISTRATION, &app, moment)?,
+        instance: SharedInstance::new(alloc, instance)?,
         times,
     })
 }

@@ -1,7 +1,7 @@
 //! Values from Eureka's own names and from the limits of each type.
 use eu_base::{
     Action, App, Codes, Config, Fault, Id, Instance, Key, LeaseSecs, Moment, RenewalSecs, Rest,
-    Stamp, Status, Task,
+    SharedInstance, Stamp, Status, Task,
 };
 use eu_fixtures::{Told, first_wrong, key_of, moment, number_of, two};
 use serde_json::Value;
@@ -250,7 +250,7 @@ fn task(alloc: Global, queued: &str) -> Result<Task, Fault> {
         action: Action::StatusUpdate,
         key,
         status: Some(Status::Up),
-        instance: Some(instance),
+        instance: Some(SharedInstance::new(alloc, instance)?),
         queued,
     })
 }

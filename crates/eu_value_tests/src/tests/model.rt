@@ -1,5 +1,5 @@
 //! Commands, replies and lists: how they are copied, compared and counted.
-use eu_base::{Action, BoxedInstance, Config, Fault, Id, Key, Keys, Status, Task, Tasks};
+use eu_base::{Action, Config, Fault, Id, Key, Keys, Status, Task, Tasks};
 use eu_fixtures::{
     Told, first_wrong, instance, key, key_of, moment, number_of, read_command, settings, two,
 };
@@ -46,7 +46,7 @@ fn tasks(alloc: Global, status: &str) -> Result<Tasks, Fault> {
 /// A conflict with an instance of that stamp.
 fn conflict(alloc: Global, stamp: &str) -> Result<Reply, Fault> {
     let held = instance(alloc, "i1", number_of(stamp)?, 90)?;
-    Ok(Reply::Conflict(BoxedInstance::new(alloc, held)?))
+    Ok(Reply::Conflict(held))
 }
 
 /// A reply, told as a word and what it has: `conflict STAMP`, `evicted APP/ID ..`, `batch STATUS` of one task.
@@ -87,7 +87,7 @@ fn tell_reply(reply: &Reply, out: &mut String) -> Result<(), AllocError> {
     match reply {
         Reply::Registered { fresh: true } => out.push_str("fresh"),
         Reply::Last(renewals) => write!(out, "last {renewals}"),
-        Reply::Conflict(held) => write!(out, "conflict {}", held.last_dirty.value()),
+        Reply::Conflict(held) => write!(out, "conflict {}", held.last_dirty().value()),
         Reply::Evicted(victims) => {
             out.push_str("evicted")?;
             tell_keys(victims.as_slice(), out)
@@ -116,7 +116,7 @@ fn tell_command(command: &Command, out: &mut String) -> Result<(), AllocError> {
             instance,
             replicated,
         } => {
-            let (id, secs) = (instance.key.id.as_str(), instance.secs.secs());
+            let (id, secs) = (instance.key().id.as_str(), instance.secs().secs());
             write!(out, "register {id} {secs} {replicated}")
         }
         Command::Reconfigure { config } => {
@@ -270,7 +270,7 @@ fn listing(alloc: Global) -> Result<Listing, Fault> {
 fn shows_a_lease(alloc: Global) -> Result<bool, Fault> {
     let listing = listing(alloc)?;
     Ok(match listing.as_slice() {
-        [listed] => listed.instance.key.id.as_str() == "i1",
+        [listed] => listed.instance.key().id.as_str() == "i1",
         _ => false,
     })
 }
@@ -291,14 +291,14 @@ fn lists_show_what_they_hold(rt: HostRuntime) {
     assert!(rt; shows_a_row(rt.alloc()) == Ok(true));
 }
 
-/// The durations of an instance that lies on the heap, and of its copy.
-fn boxed_secs(alloc: Global) -> Result<(u32, u32), Fault> {
-    let boxed = BoxedInstance::new(alloc, instance(alloc, "i1", 7, 90)?)?;
-    let copy = boxed.copy_boxed(alloc)?;
-    Ok((boxed.secs.secs(), copy.secs.secs()))
+/// The durations of an instance, and of what shares it.
+fn shared_secs(alloc: Global) -> Result<(u32, u32), Fault> {
+    let instance = instance(alloc, "i1", 7, 90)?;
+    let copy = instance.share()?;
+    Ok((instance.secs().secs(), copy.secs().secs()))
 }
 
 #[test]
-fn instances_lie_on_the_heap(rt: HostRuntime) {
-    assert!(rt; boxed_secs(rt.alloc()) == Ok((90, 90)));
+fn instances_are_shared(rt: HostRuntime) {
+    assert!(rt; shared_secs(rt.alloc()) == Ok((90, 90)));
 }

@@ -10,7 +10,7 @@ fn listed(alloc: Global, statuses: &[Status]) -> Result<Vec<Listed>, Fault> {
     let mut held = Vec::new(alloc);
     for status in statuses {
         let mut instance = instance(alloc, "i1", 0, 90)?;
-        instance.status = *status;
+        instance.set_statuses(*status, Status::Unknown);
         held.push(Listed {
             instance,
             times: Times {

@@ -68,8 +68,8 @@ fn tell_seen(view: &View, out: &mut String) -> Result<(), AllocError> {
     match view {
         View::One(Some(listed)) => {
             let instance = &listed.instance;
-            let (status, over) = (instance.status.name(), instance.overridden.name());
-            write!(out, "{} {status} {over}", instance.last_dirty.value())
+            let (status, over) = (instance.status().name(), instance.overridden().name());
+            write!(out, "{} {status} {over}", instance.last_dirty().value())
         }
         _ => out.push_str("none"),
     }

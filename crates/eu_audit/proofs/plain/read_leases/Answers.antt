@@ -13,7 +13,7 @@ loop-lease-preserved c =
     let table = c.loop-lease.table in
     let before = c.in-Some.before.now in
     let lease = c.in-Some.lease.now in
-    let put = c.in_ok-put.ensures.ok ∙ (λ i. insert table (c.in_ok-key.ensures i) (c.in_ok-copied.ensures i)) in
+    let put = c.in_ok-put.ensures.ok ∙ (λ i. insert table ((c.in_ok-key.ensures ∙ c.key.ensures) i) (c.in_ok-copied.ensures i)) in
     let last = keyed_last before lease ∙ ap keyed (sym c.in-Some.ensures.cases.0) in
     record {
       whole = ap (put_all (keyed before)) put ∙ sym (put_last (keyed before) (lease.instance.key, lease) table) ∙ ap (λ es. put_all es table) last ∙ c.loop-lease.invariant.whole;

@@ -20,7 +20,7 @@ returns-clause-joins c =
     let own = c.status.ensures ∙ ap (λ (i : Instance). i.status) c.instance-own.ensures in
     let held = c.status-2.ensures ∙ ap (λ (i : Instance). i.status) c.instance-own.ensures in
     let term = c.begun-lease.ensures ∙ ap (λ (a : Term). let b : Term = record a { up = up_after a.up x.status c.args.moment } in b)
-    (c.anew-anew.ensures ∙ ap (λ a. anew a c.args.moment n.secs) c.lease.ensures) in
+    (c.anew-anew.ensures ∙ (λ i. anew (c.lease.ensures i) c.args.moment (c.secs.ensures i))) in
     joins_from _ _ n j c.args.replicated c.args.moment (Some l) (rejoined x.status x.overridden c.begun-lease.result l) row _ _
     refl refl refl refl
     (chosen_under l n c.requires)

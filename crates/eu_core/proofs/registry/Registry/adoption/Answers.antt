@@ -1,9 +1,10 @@
-use Rattle.std.proofs.Common.{◌≤◌, ◌^◌, true, sym, subst, refl, ◌∙◌}
+use Rattle.std.proofs.Common.{◌≤◌, ◌^◌, true, sym, subst, ap, refl, ◌∙◌}
 use Rattle.std.specs.FinMap.{get}
 use Rattle.std.specs.Option.{option_copied, option_or}
 use Rattle.eu_base.specs.declared.faults.Fault.TheVariants.{OutOfMemory}
 use Rattle.eu_model.specs.declared.commands.Command.TheVariants.{Adopt}
 use Rattle.eu_model.specs.Answers.{IsRefusal}
+use Rattle.eu_model.specs.Change.{row_of}
 use Rattle.eu_model.specs.PlainSteps.{plain_register}
 use Rattle.eu_model.proofs.AdoptLemmas.{adopts, adopt_answers, adopt_refused}
 use Rattle.eu_core.proofs.AdoptLemmas.{adopt_registers}
@@ -36,7 +37,7 @@ returns-clause-decides c =
     let d = c.in_ok-decide_join.field-0 in
     let held = option_copied a.held in
     let ok = c.in_ok-expected.ensures in
-    let row = c.or.ensures ∙ (λ i. option_or (c.row_of.ensures i) (c.requires.row i)) in
+    let row = c.or.ensures ∙ (λ i. option_or ((c.row_of.ensures ∙ ap row_of c.overridden.ensures) i) (c.requires.row i)) in
     let joins = c.in_ok-decide_join.ensures.joins in
     record {
       answers = answered p (Adopt n) t n.key d held _ (adopts n t p) c.requires.held

@@ -56,7 +56,7 @@ fn read_leases(alloc: Global, leases: &[Listed]) -> Result<Leases, AllocError>
     let mut left = leases;
     while let Some((lease, before)) = left.split_last() {
         let key = lease.instance.key().copy(alloc)?;
-        table.put(key, copied(alloc, lease)?)?;
+        table.put(key, copied(lease)?)?;
         left = before;
     }
     Ok(table)

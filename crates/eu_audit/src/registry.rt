@@ -156,7 +156,6 @@ impl Replica {
     /// What a registration changes. `AllocError` where no memory is left.
     fn registered(
         &self,
-        alloc: Global,
         instance: &SharedInstance,
         replicated: bool,
         moment: Moment,
@@ -167,37 +166,23 @@ impl Replica {
         let key = instance.key();
         let held = self.leases.get(key);
         let row = self.overrides.get(&key.id);
-        register(
-            alloc,
-            held,
-            row,
-            self.expected,
-            instance,
-            replicated,
-            moment,
-        )
+        register(held, row, self.expected, instance, replicated, moment)
     }
 
     /// What an adoption changes. `AllocError` where no memory is left.
-    fn adopted(
-        &self,
-        alloc: Global,
-        instance: &SharedInstance,
-        moment: Moment,
-    ) -> Result<Changed, AllocError>
+    fn adopted(&self, instance: &SharedInstance, moment: Moment) -> Result<Changed, AllocError>
         ensures changed { IfOk result (λ c. change_of c ≡ plain_adopt (map.get self.now.leases instance.now.key) (map.get self.now.overrides instance.now.key.id) self.now.expected instance.now moment) }
         ensures limits { IsWithinLimits self.now }
     {
         let key = instance.key();
         let held = self.leases.get(key);
         let row = self.overrides.get(&key.id);
-        adopt(alloc, held, row, self.expected, instance, moment)
+        adopt(held, row, self.expected, instance, moment)
     }
 
     /// What a renewal changes. `AllocError` where no memory is left.
     fn renewed(
         &self,
-        alloc: Global,
         key: &Key,
         last_dirty: Option<Stamp>,
         overridden: Option<Status>,
@@ -211,7 +196,7 @@ impl Replica {
         let row = self.overrides.get(&key.id);
         let expected = self.expected;
         renew(
-            alloc, held, row, expected, last_dirty, overridden, replicated, moment,
+            held, row, expected, last_dirty, overridden, replicated, moment,
         )
     }
 
@@ -233,7 +218,6 @@ impl Replica {
     /// What a status changes that is set. `AllocError` where no memory is left.
     fn status_set(
         &self,
-        alloc: Global,
         key: &Key,
         status: Status,
         last_dirty: Option<Stamp>,
@@ -246,15 +230,12 @@ impl Replica {
         let held = self.leases.get(key);
         let row = self.overrides.get(&key.id);
         let expected = self.expected;
-        set_status(
-            alloc, permitted, held, row, expected, status, last_dirty, moment,
-        )
+        set_status(permitted, held, row, expected, status, last_dirty, moment)
     }
 
     /// What a status changes that is unset. `AllocError` where no memory is left.
     fn status_unset(
         &self,
-        alloc: Global,
         key: &Key,
         suggested: Option<Status>,
         last_dirty: Option<Stamp>,
@@ -268,7 +249,7 @@ impl Replica {
         let row = self.overrides.get(&key.id);
         let expected = self.expected;
         unset_status(
-            alloc, permitted, held, row, expected, suggested, last_dirty, moment,
+            permitted, held, row, expected, suggested, last_dirty, moment,
         )
     }
 
@@ -287,7 +268,7 @@ impl Replica {
         if !self.can_join(key) {
             return Ok(None);
         }
-        let changed = self.registered(alloc, instance, replicated, moment)?;
+        let changed = self.registered(instance, replicated, moment)?;
         self.judge(alloc, key, changed, reply)
     }
 
@@ -305,7 +286,7 @@ impl Replica {
         if !self.can_join(key) {
             return Ok(None);
         }
-        let changed = self.adopted(alloc, instance, moment)?;
+        let changed = self.adopted(instance, moment)?;
         self.judge(alloc, key, changed, reply)
     }
 
@@ -322,7 +303,7 @@ impl Replica {
     ) -> Result<Option<Replica>, AllocError>
         ensures { IfOk result (Judged (PlainStep self (Command.Renew key.now last_dirty overridden replicated) moment reply.now)) }
     {
-        let changed = self.renewed(alloc, key, last_dirty, overridden, replicated, moment)?;
+        let changed = self.renewed(key, last_dirty, overridden, replicated, moment)?;
         if !self.can_count(changed.counted) {
             return Ok(None);
         }
@@ -349,7 +330,7 @@ impl Replica {
     ) -> Result<Option<Replica>, AllocError>
         ensures { IfOk result (λ next. (replicated : Bool) → Judged (PlainStep self (Command.SetStatus key.now status last_dirty replicated) moment reply.now) next) }
     {
-        let changed = self.status_set(alloc, key, status, last_dirty, moment)?;
+        let changed = self.status_set(key, status, last_dirty, moment)?;
         self.judge(alloc, key, changed, reply)
     }
 
@@ -365,7 +346,7 @@ impl Replica {
     ) -> Result<Option<Replica>, AllocError>
         ensures { IfOk result (λ next. (replicated : Bool) → Judged (PlainStep self (Command.UnsetStatus key.now suggested last_dirty replicated) moment reply.now) next) }
     {
-        let changed = self.status_unset(alloc, key, suggested, last_dirty, moment)?;
+        let changed = self.status_unset(key, suggested, last_dirty, moment)?;
         self.judge(alloc, key, changed, reply)
     }
 

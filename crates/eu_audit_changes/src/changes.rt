@@ -7,7 +7,7 @@ ghost use Rattle.eu_audit_changes.specs.Changed.{change_of, under_listed};
 
 use eu_base::{MOST_EXPECTED, Moment, SharedInstance, Status};
 use eu_model::{Listed, Reply, Times};
-use std::alloc::{AllocError, Global};
+use std::alloc::AllocError;
 
 /// What a command on one lease leaves at the key of the lease and at its id, and what it is answered.
 #[derive(Debug, Drop)]
@@ -27,7 +27,6 @@ pub struct Changed {
 impl Changed {
     /// Nothing changes but, perhaps, the row.
     pub(crate) fn unchanged(
-        alloc: Global,
         held: Option<&Listed>,
         row: Option<Status>,
         expected: u64,
@@ -36,7 +35,7 @@ impl Changed {
         ensures { IfOk result (λ c. change_of c ≡ uncounted (option_copied held.entry) row expected reply) }
     {
         let lease = match held {
-            Some(held) => Some(copied(alloc, held)?),
+            Some(held) => Some(copied(held)?),
             None => None,
         };
         Ok(Changed {
@@ -49,8 +48,8 @@ impl Changed {
     }
 }
 
-/// The same lease once more. `AllocError` where no memory is left.
-pub fn copied(alloc: Global, held: &Listed) -> Result<Listed, AllocError>
+/// The same lease once more. `AllocError` where 2^63 share an instance.
+pub fn copied(held: &Listed) -> Result<Listed, AllocError>
     ensures { IfOk result (λ l. l ≡ held.now) }
 {
     Ok(Listed {
@@ -98,13 +97,6 @@ fn row_of(overridden: Status) -> Option<Status>
     }
 }
 
-/// The row that an instance tells.
-fn row_told(instance: &SharedInstance) -> Option<Status>
-    ensures { result ≡ row_of instance.now.overridden }
-{
-    row_of(instance.overridden())
-}
-
 /// The row after a registration.
 fn row_after(row: Option<Status>, overridden: Status) -> Option<Status>
     ensures { result ≡ row_after row overridden }
@@ -146,9 +138,8 @@ fn newer_overridden(held: Option<&SharedInstance>, instance: &SharedInstance) ->
     }
 }
 
-/// The instance that a registration takes. `AllocError` where no memory is left.
+/// The instance that a registration takes. `AllocError` where 2^63 share an instance.
 fn newer(
-    alloc: Global,
     held: Option<&SharedInstance>,
     instance: &SharedInstance,
 ) -> Result<SharedInstance, AllocError>
@@ -174,9 +165,8 @@ pub(crate) fn under_row(row: Option<Status>, mut instance: SharedInstance) -> Sh
     instance
 }
 
-/// The instance that a registration leaves. `AllocError` where no memory is left.
+/// The instance that a registration leaves. `AllocError` where 2^63 share an instance.
 fn joined(
-    alloc: Global,
     held: Option<&SharedInstance>,
     row: Option<Status>,
     instance: &SharedInstance,
@@ -185,7 +175,7 @@ fn joined(
     ensures { IfOk result (λ i. i ≡ joined (option_copied held.entry) row instance.now replicated) }
 {
     let new_row = row_after(row, newer_overridden(held, instance));
-    let mut left = under_row(new_row, newer(alloc, held, instance)?);
+    let mut left = under_row(new_row, newer(held, instance)?);
     let held_status = match held {
         Some(held) => Some(held.status()),
         None => None,
@@ -230,9 +220,8 @@ fn one_more(comes: bool, expected: u64) -> u64
 /// What a registration of the instance at the moment changes, where `held` is the lease of its key, `row` the override row of its id, and
 /// so many clients are expected. `replicated` says that a peer sends it.
 ///
-/// No more than 2^40 clients are expected, which is for the caller to see to. `AllocError` where no memory is left.
+/// No more than 2^40 clients are expected, which is for the caller to see to. `AllocError` where 2^63 share an instance.
 pub fn register(
-    alloc: Global,
     held: Option<&Listed>,
     row: Option<Status>,
     expected: u64,
@@ -246,7 +235,7 @@ pub fn register(
     let before = instance_of(held);
     let fresh = is_absent(held);
     let row_then = row_after(row, newer_overridden(before, instance));
-    let left = joined(alloc, before, row, instance, replicated)?;
+    let left = joined(before, row, instance, replicated)?;
     let times = Times {
         registered: moment.ms(),
         updated: moment.ms(),
@@ -264,12 +253,8 @@ pub fn register(
     })
 }
 
-/// The lease, where the row that an adopted instance tells overrides. `AllocError` where no memory is left.
-fn overridden_by(
-    alloc: Global,
-    row: Option<Status>,
-    held: Option<&Listed>,
-) -> Result<Option<Listed>, AllocError>
+/// The lease, where the row that an adopted instance tells overrides. `AllocError` where 2^63 share an instance.
+fn overridden_by(row: Option<Status>, held: Option<&Listed>) -> Result<Option<Listed>, AllocError>
     ensures { IfOk result (λ l. l ≡ option_map (under_listed row) (option_copied held.entry)) }
 {
     let Some(held) = held else {
@@ -285,9 +270,8 @@ fn overridden_by(
 /// What an adoption of a peer's instance at the moment changes, where `held` is the lease of its key, `row` the override row of its id,
 /// and so many clients are expected.
 ///
-/// No more than 2^40 clients are expected, which is for the caller to see to. `AllocError` where no memory is left.
+/// No more than 2^40 clients are expected, which is for the caller to see to. `AllocError` where 2^63 share an instance.
 pub fn adopt(
-    alloc: Global,
     held: Option<&Listed>,
     row: Option<Status>,
     expected: u64,
@@ -297,17 +281,9 @@ pub fn adopt(
     requires { expected ≤ MOST_EXPECTED }
     ensures { IfOk result (λ c. change_of c ≡ plain_adopt (option_copied held.entry) row expected instance.now moment) }
 {
-    let own = row_told(instance);
-    let held = overridden_by(alloc, own, held)?;
-    register(
-        alloc,
-        held.as_ref(),
-        own.or(row),
-        expected,
-        instance,
-        true,
-        moment,
-    )
+    let own = row_of(instance.overridden());
+    let held = overridden_by(own, held)?;
+    register(held.as_ref(), own.or(row), expected, instance, true, moment)
 }
 
 /// What a cancel changes, where `held` is the lease, and so many clients are expected. Takes no memory.

@@ -10,7 +10,7 @@ ghost use Rattle.eu_audit_changes.specs.Changed.{change_of};
 use crate::changes::{Changed, is_status, rule, under_row, up_after};
 use eu_base::{LeaseSecs, Moment, SharedInstance, Stamp, Status};
 use eu_model::{Listed, Reply, Times};
-use std::alloc::{AllocError, Global};
+use std::alloc::AllocError;
 
 /// Whether a lease has expired at a moment, if it is granted so many extra milliseconds. Takes no memory.
 pub fn expired(held: &Listed, moment: Moment, extra: u64) -> bool
@@ -63,9 +63,8 @@ fn in_statuses(mut instance: SharedInstance, status: Status, overridden: Status)
     instance
 }
 
-/// What a renewal is answered that finds this instance. `AllocError` where no memory is left.
+/// What a renewal is answered that finds this instance. `AllocError` where 2^63 share an instance.
 fn renew_reply(
-    alloc: Global,
     last_dirty: Option<Stamp>,
     instance: &SharedInstance,
     replicated: bool,
@@ -105,9 +104,8 @@ fn row_of_peer(
     }
 }
 
-/// A renewal that gives this status. `AllocError` where no memory is left.
+/// A renewal that gives this status. `AllocError` where 2^63 share an instance.
 fn renew_as(
-    alloc: Global,
     held: &Listed,
     row: Option<Status>,
     expected: u64,
@@ -121,7 +119,7 @@ fn renew_as(
 {
     let instance = held.instance.share()?;
     let instance = in_statuses(instance, status, held.instance.overridden());
-    let reply = renew_reply(alloc, last_dirty, &instance, replicated)?;
+    let reply = renew_reply(last_dirty, &instance, replicated)?;
     let new_row = row_of_peer(&reply, replicated, overridden, row);
     Ok(Changed {
         lease: Some(Listed {
@@ -139,9 +137,8 @@ fn renew_as(
 /// The sender knows the instance by the stamp `last_dirty`, if it gives one, and by the overridden status, if it gives one. `replicated` says
 /// that a peer sends it.
 ///
-/// `AllocError` where no memory is left.
+/// `AllocError` where 2^63 share an instance.
 pub fn renew(
-    alloc: Global,
     held: Option<&Listed>,
     row: Option<Status>,
     expected: u64,
@@ -153,20 +150,20 @@ pub fn renew(
     ensures { IfOk result (λ c. change_of c ≡ plain_renew (option_copied held.entry) row expected last_dirty overridden replicated moment) }
 {
     let Some(lease) = held else {
-        return Changed::unchanged(alloc, held, row, expected, Reply::NotFound);
+        return Changed::unchanged(held, row, expected, Reply::NotFound);
     };
     let own = lease.instance.status();
     let status = rule(own, row, Some(own), replicated);
     if is_status(status, Status::Unknown) {
-        return Changed::unchanged(alloc, held, row, expected, Reply::NotFound);
+        return Changed::unchanged(held, row, expected, Reply::NotFound);
     }
     renew_as(
-        alloc, lease, row, expected, last_dirty, overridden, replicated, moment, status,
+        lease, row, expected, last_dirty, overridden, replicated, moment, status,
     )
 }
 
-/// A lease that is renewed, and nothing else. `AllocError` where no memory is left.
-fn renewed_lease(alloc: Global, held: &Listed, moment: Moment) -> Result<Listed, AllocError>
+/// A lease that is renewed, and nothing else. `AllocError` where 2^63 share an instance.
+fn renewed_lease(held: &Listed, moment: Moment) -> Result<Listed, AllocError>
     ensures { IfOk result (λ l. l ≡ listed (renewed (raised held.now) moment)) }
 {
     let instance = held.instance.share()?;
@@ -176,9 +173,8 @@ fn renewed_lease(alloc: Global, held: &Listed, moment: Moment) -> Result<Listed,
     })
 }
 
-/// A lease that is renewed, with its instance in a status that is set. `AllocError` where no memory is left.
+/// A lease that is renewed, with its instance in a status that is set. `AllocError` where 2^63 share an instance.
 fn in_status(
-    alloc: Global,
     held: &Listed,
     status: Status,
     last_dirty: Option<Stamp>,
@@ -195,9 +191,8 @@ fn in_status(
     })
 }
 
-/// A lease that is renewed, with nothing that overrides. `AllocError` where no memory is left.
+/// A lease that is renewed, with nothing that overrides. `AllocError` where 2^63 share an instance.
 fn out_of_override(
-    alloc: Global,
     held: &Listed,
     suggested: Option<Status>,
     last_dirty: Option<Stamp>,
@@ -230,9 +225,8 @@ fn done(lease: Listed, row: Option<Status>, expected: u64) -> Changed
 /// expected. `permitted` says that eviction is permitted, so that a lease that has expired isn't visible; `last_dirty` is the stamp of the
 /// change, if one is given.
 ///
-/// `AllocError` where no memory is left.
+/// `AllocError` where 2^63 share an instance.
 pub fn set_status(
-    alloc: Global,
     permitted: bool,
     held: Option<&Listed>,
     row: Option<Status>,
@@ -244,12 +238,12 @@ pub fn set_status(
     ensures { IfOk result (λ c. change_of c ≡ plain_set_status (plain_seen permitted moment (option_copied held.entry)) (option_copied held.entry) row expected status last_dirty moment) }
 {
     let Some(lease) = seen(permitted, moment, held) else {
-        return Changed::unchanged(alloc, held, row, expected, Reply::NotFound);
+        return Changed::unchanged(held, row, expected, Reply::NotFound);
     };
     if is_status(lease.instance.status(), status) {
-        return Ok(done(renewed_lease(alloc, lease, moment)?, row, expected));
+        return Ok(done(renewed_lease(lease, moment)?, row, expected));
     }
-    let lease = in_status(alloc, lease, status, last_dirty, moment)?;
+    let lease = in_status(lease, status, last_dirty, moment)?;
     Ok(done(lease, Some(status), expected))
 }
 
@@ -257,9 +251,8 @@ pub fn set_status(
 /// expected. `permitted` says that eviction is permitted, so that a lease that has expired isn't visible; `suggested` is the status that
 /// the instance may have then, and `last_dirty` the stamp of the change, if they are given.
 ///
-/// `AllocError` where no memory is left.
+/// `AllocError` where 2^63 share an instance.
 pub fn unset_status(
-    alloc: Global,
     permitted: bool,
     held: Option<&Listed>,
     row: Option<Status>,
@@ -271,11 +264,11 @@ pub fn unset_status(
     ensures { IfOk result (λ c. change_of c ≡ plain_unset_status (plain_seen permitted moment (option_copied held.entry)) (option_copied held.entry) row expected suggested last_dirty moment) }
 {
     let Some(lease) = seen(permitted, moment, held) else {
-        return Changed::unchanged(alloc, held, row, expected, Reply::NotFound);
+        return Changed::unchanged(held, row, expected, Reply::NotFound);
     };
     let lease = match row {
-        Some(_) => out_of_override(alloc, lease, suggested, last_dirty, moment)?,
-        None => renewed_lease(alloc, lease, moment)?,
+        Some(_) => out_of_override(lease, suggested, last_dirty, moment)?,
+        None => renewed_lease(lease, moment)?,
     };
     Ok(done(lease, None, expected))
 }

@@ -63,18 +63,6 @@ impl SharedInstance {
         })
     }
 
-    /// The instance, with a copy of its own of what was given. `AllocError` where no memory is left.
-    pub fn to_instance(&self, alloc: Global) -> Result<Instance, AllocError>
-        ensures { IfOk result (λ i. i ≡ self.now) }
-    {
-        let mut instance = self.given.copy(alloc)?;
-        instance.status = self.status;
-        instance.overridden = self.overridden;
-        instance.last_dirty = self.last_dirty;
-        instance.secs = self.secs;
-        Ok(instance)
-    }
-
     /// Whether both are equal in every field. Takes no memory.
     pub fn same(&self, other: &SharedInstance) -> bool
         ensures { IsTrue result ↔ (self.now ≡ other.now) }

@@ -1,6 +1,6 @@
 //! Checkpoints of a book that holds many leases.
 
-use eu_base::{App, Config, Fault, Instance, Moment, SharedInstance};
+use eu_base::{App, Config, Fault, Moment, SharedInstance};
 use eu_book::Book;
 use eu_clock::FirstChooser;
 use eu_json::read_instance;
@@ -8,7 +8,7 @@ use eu_model::Command;
 use std::alloc::{AllocError, Global};
 
 /// An instance as a client registers it over HTTP, of one of a hundred applications.
-fn client(alloc: Global, number: u32, moment: Moment) -> Result<Instance, Fault> {
+fn client(alloc: Global, number: u32, moment: Moment) -> Result<SharedInstance, Fault> {
     let app = number % 100;
     let app = App::read(alloc, format!(in alloc; "A{app}")?.as_str())?;
     let name = app.as_str();
@@ -22,7 +22,7 @@ fn client(alloc: Global, number: u32, moment: Moment) -> Result<Instance, Fault>
 fn register(alloc: Global, book: &mut Book, number: u32, moment: Moment) -> Result<(), Fault> {
     let instance = client(alloc, number, moment)?;
     let command = Command::Register {
-        instance: SharedInstance::new(alloc, instance)?,
+        instance,
         replicated: false,
     };
     let receipt = book.apply(alloc, 0, command, moment, &mut FirstChooser)?;

@@ -14,7 +14,7 @@ use eu_base::{Fault, Moment, SharedInstance, Stamp, Status};
 use eu_lease::{Rate, is_status, override_rule};
 use eu_model::Reply;
 use eu_store::{Amendment, HeldLease};
-use std::alloc::{AllocError, Global};
+use std::alloc::AllocError;
 
 /// What is known beside the lease when a command on it is decided.
 #[derive(Clone, Copy)]
@@ -29,7 +29,6 @@ pub struct Context {
 
 /// A renewal (`AbstractInstanceRegistry.renew`, and `InstanceResource.renewLease` for the stamps).
 pub fn decide_renewal(
-    alloc: Global,
     held: Option<&HeldLease>,
     context: Context,
     last_dirty: Option<Stamp>,
@@ -55,7 +54,7 @@ pub fn decide_renewal(
         return Ok(unchanged(context, Reply::NotFound));
     }
     context.rate.check()?;
-    let reply = renew_reply(alloc, instance, status, last_dirty, replicated)?;
+    let reply = renew_reply(instance, status, last_dirty, replicated)?;
     let row_of_peer = row_of_peer(&reply, overridden, context.row, replicated);
     Ok(Decision {
         change: Change {
@@ -77,7 +76,6 @@ pub fn decide_renewal(
 /// The reply to a renewal that gives this instance this status, by the stamp that its sender knows. Takes memory for a
 /// `Conflict` alone, whose instance is a copy.
 fn renew_reply(
-    alloc: Global,
     instance: &SharedInstance,
     status: Status,
     last_dirty: Option<Stamp>,

@@ -16,7 +16,7 @@ use eu_base::{MOST_LEASES, Moment, SharedInstance, Status};
 use eu_lease::Lease;
 use eu_model::Reply;
 use eu_store::{Amendment, HeldLease};
-use std::alloc::{AllocError, Global};
+use std::alloc::AllocError;
 
 /// A lease that begins with its instance in this status.
 fn begun(mut lease: Lease, status: Status, moment: Moment) -> Lease
@@ -32,7 +32,6 @@ fn begun(mut lease: Lease, status: Status, moment: Moment) -> Lease
 /// A registration (`AbstractInstanceRegistry.register`), where as many clients are expected as with this one. `AllocError` where no
 /// memory is left.
 pub fn decide_join(
-    alloc: Global,
     instance: &SharedInstance,
     held: Option<&HeldLease>,
     context: Context,
@@ -43,17 +42,16 @@ pub fn decide_join(
     ensures new { IfOk result (λ d. (leases : FinMap key_cmp Listed) → option_copied held.entry ≡ map.get leases instance.now.key → (option_copied held.entry ≡ None → map.len leases < MOST_LEASES) → IsNew leases instance.now.key d.change.lease) }
 {
     match held {
-        None => join_new(alloc, instance, context, replicated, moment),
+        None => join_new(instance, context, replicated, moment),
         Some(held) if instance.last_dirty().value() < held.instance().last_dirty().value() => {
             Ok(join_under(instance, held, context, replicated, moment))
         }
-        Some(held) => join_over(alloc, instance, held, context, replicated, moment),
+        Some(held) => join_over(instance, held, context, replicated, moment),
     }
 }
 
-/// The registration of an instance whose key isn't held. `AllocError` where no memory is left.
+/// The registration of an instance whose key isn't held. `AllocError` where 2^63 share an instance.
 fn join_new(
-    alloc: Global,
     instance: &SharedInstance,
     context: Context,
     replicated: bool,
@@ -85,9 +83,8 @@ fn join_new(
     })
 }
 
-/// The registration of an instance whose key is held with a stamp that isn't greater. `AllocError` where no memory is left.
+/// The registration of an instance whose key is held with a stamp that isn't greater. `AllocError` where 2^63 share an instance.
 fn join_over(
-    alloc: Global,
     instance: &SharedInstance,
     held: &HeldLease,
     context: Context,

@@ -117,7 +117,7 @@ impl Registry {
     {
         let (place, held, row) = self.find(instance.key());
         let Decision { change, reply } = self.registration(
-            alloc, instance, held, row, replicated, moment,
+            instance, held, row, replicated, moment,
         )?;
         self.carry_out(alloc, instance.key(), place, row, change)?;
         Ok(reply)
@@ -137,7 +137,7 @@ impl Registry {
         ensures err { OnErr result (self.new ≡ self.old) }
     {
         let (place, held, row) = self.find(instance.key());
-        let Decision { change, reply } = self.adoption(alloc, instance, held, row, moment)?;
+        let Decision { change, reply } = self.adoption(instance, held, row, moment)?;
         self.carry_out(alloc, instance.key(), place, row, change)?;
         Ok(reply)
     }
@@ -169,7 +169,7 @@ impl Registry {
     {
         let (place, held, row) = self.find(key);
         let Decision { change, reply } = self.renewal(
-            alloc, key, held, row, last_dirty, overridden, replicated, moment,
+            key, held, row, last_dirty, overridden, replicated, moment,
         )?;
         self.carry_out(alloc, key, place, row, change)?;
         Ok(reply)
@@ -444,7 +444,6 @@ impl Registry {
     /// What a registration does to the lease of its key, where that is held and its id has that row.
     pub(crate) fn registration(
         &self,
-        alloc: Global,
         instance: &SharedInstance,
         held: Option<&HeldLease>,
         row: Option<Status>,
@@ -462,13 +461,12 @@ impl Registry {
             expected,
             rate: self.rate,
         };
-        Ok(decide_join(alloc, instance, held, context, replicated, moment)?)
+        Ok(decide_join(instance, held, context, replicated, moment)?)
     }
 
     /// What an adoption does to the lease of its key, where that is held and its id has that row.
     pub(crate) fn adoption(
         &self,
-        alloc: Global,
         instance: &SharedInstance,
         held: Option<&HeldLease>,
         row: Option<Status>,
@@ -485,13 +483,12 @@ impl Registry {
             expected,
             rate: self.rate,
         };
-        Ok(decide_join(alloc, instance, held, context, true, moment)?)
+        Ok(decide_join(instance, held, context, true, moment)?)
     }
 
     /// What a renewal does to the lease of that key, where that is held and its id has that row.
     pub(crate) fn renewal(
         &self,
-        alloc: Global,
         key: &Key,
         held: Option<&HeldLease>,
         row: Option<Status>,
@@ -508,9 +505,7 @@ impl Registry {
         ensures memory { (last_dirty ≡ None) ⊎ (replicated ≡ false) → result ≢ Err Fault.OutOfMemory }
     {
         let context = self.context(row);
-        decide_renewal(
-            alloc, held, context, last_dirty, overridden, replicated, moment,
-        )
+        decide_renewal(held, context, last_dirty, overridden, replicated, moment)
     }
 
     /// What a status that is set does to the lease of that key, where that is held and its id has that row.

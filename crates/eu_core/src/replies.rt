@@ -99,7 +99,7 @@ fn made_copies(
 {
     let mut copies = Vec::with_capacity(alloc, number as usize)?;
     for _made in 0..number {
-        match instance_left(alloc, change, held)? {
+        match instance_left(change, held)? {
             Some(instance) => copies.push(instance)?,
             None => return Ok(copies),
         }
@@ -107,9 +107,8 @@ fn made_copies(
     Ok(copies)
 }
 
-/// A copy of the instance that is held once a change of a lease is carried out, if a lease is. `AllocError` where no memory is left.
+/// A copy of the instance that is held once a change of a lease is carried out, if a lease is. `AllocError` where 2^63 share it.
 fn instance_left(
-    alloc: Global,
     change: &LeaseChange,
     held: Option<&HeldLease>,
 ) -> Result<Option<SharedInstance>, AllocError>

@@ -58,7 +58,7 @@ impl Registry {
             return self.step_on_no_lease(alloc, command, moment, logs, chooser);
         };
         let (place, found, row) = self.find(key);
-        let decision = self.decide(alloc, command, key, found, row, moment)?;
+        let decision = self.decide(command, key, found, row, moment)?;
         let Decision { change, reply } = decision;
         let answer = reply.copy(alloc)?;
         let logged = for_log(alloc, &reply, logs)?;
@@ -101,7 +101,6 @@ impl Registry {
     /// What a command does to the lease of its key, where that is held and its id has that row.
     fn decide(
         &self,
-        alloc: Global,
         command: &Command,
         key: &Key,
         held: Option<&HeldLease>,
@@ -118,14 +117,13 @@ impl Registry {
             Command::Register {
                 instance,
                 replicated,
-            } => self.registration(alloc, instance, held, row, *replicated, moment),
+            } => self.registration(instance, held, row, *replicated, moment),
             Command::Renew {
                 last_dirty,
                 overridden,
                 replicated,
                 ..
             } => self.renewal(
-                alloc,
                 key,
                 held,
                 row,
@@ -145,7 +143,7 @@ impl Registry {
                 last_dirty,
                 ..
             } => Ok(self.status_unsetting(key, held, row, *status, *last_dirty, moment)),
-            Command::Adopt { instance } => self.adoption(alloc, instance, held, row, moment),
+            Command::Adopt { instance } => self.adoption(instance, held, row, moment),
             _ => unreachable!(),
         }
     }

@@ -41,7 +41,7 @@ fn told_batch(alloc: Global, answers: &[Result<Answer, Fault>]) -> Result<Respon
 {
     let mut items = Vec::with_capacity(alloc, answers.len())?;
     for answer in answers {
-        items.push(item_of(alloc, answer)?)?;
+        items.push(item_of(answer)?)?;
     }
     batch(alloc, &items)
 }

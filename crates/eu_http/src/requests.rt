@@ -5,7 +5,7 @@ ghost use Rattle.eu_base.specs.Gives.{Gives, result_map};
 
 use crate::exchange::Asked;
 use crate::wanted::Wanted;
-use eu_base::{App, Fault, Instance, Moment, SharedInstance};
+use eu_base::{App, Fault, Moment, SharedInstance};
 use eu_framing::Request;
 use eu_json::{read_batch, read_instance};
 use eu_model::{Ask, Command, Query};
@@ -13,7 +13,12 @@ use eu_routes::{Route, Routes};
 use std::alloc::{AllocError, Global};
 
 /// The instance that a body says.
-fn instance_in(alloc: Global, app: &App, moment: Moment, body: &[u8]) -> Result<Instance, Fault>
+fn instance_in(
+    alloc: Global,
+    app: &App,
+    moment: Moment,
+    body: &[u8],
+) -> Result<SharedInstance, Fault>
     ensures { Gives result (spec.instance_in app.now moment body.now) }
 {
     match str::from_utf8(body) {
@@ -32,7 +37,6 @@ fn registration(
     ensures { Gives result (spec.registration app.now request.now.replicated request.now.body.items moment) }
 {
     let instance = instance_in(alloc, app, moment, &request.body)?;
-    let instance = SharedInstance::new(alloc, instance)?;
     Ok(Command::Register {
         instance,
         replicated: request.replicated,

@@ -135,7 +135,7 @@ fn coded(status: StatusCode) -> ItemAnswer
 }
 
 /// What a batch tells of the reply to one of its commands.
-fn did_item(alloc: Global, reply: &Reply) -> Result<ItemAnswer, AllocError>
+fn did_item(reply: &Reply) -> Result<ItemAnswer, AllocError>
     ensures { IfOk result (λ item. item ≡ record { code = spec.code_of reply.now; instance = spec.entity_of reply.now }) }
 {
     match reply {
@@ -149,11 +149,11 @@ fn did_item(alloc: Global, reply: &Reply) -> Result<ItemAnswer, AllocError>
 }
 
 /// What a batch tells of one of its commands.
-pub fn item_of(alloc: Global, answer: &Result<Answer, Fault>) -> Result<ItemAnswer, AllocError>
+pub fn item_of(answer: &Result<Answer, Fault>) -> Result<ItemAnswer, AllocError>
     ensures { IfOk result (λ item. item ≡ spec.item_of answer.now) }
 {
     match answer {
-        Ok(Answer::Did(reply)) => did_item(alloc, reply),
+        Ok(Answer::Did(reply)) => did_item(reply),
         Ok(Answer::Saw(_)) => Ok(coded(StatusCode::NOT_FOUND)),
         Err(_) => Ok(coded(StatusCode::SERVICE_UNAVAILABLE)),
     }

@@ -12,9 +12,7 @@ use crate::members::{take, text_at};
 use crate::numbers::stamp_in;
 use crate::read::{is_whole, of_object, parse};
 use crate::statuses::status_in;
-use eu_base::{
-    Action, App, Fault, Id, Instance, Key, MOST_SENT, Moment, SharedInstance, Stamp, Status,
-};
+use eu_base::{Action, App, Fault, Id, Key, MOST_SENT, Moment, SharedInstance, Stamp, Status};
 use eu_model::Command;
 use serde_json::Value;
 use std::alloc::Global;
@@ -101,7 +99,12 @@ fn key_in(alloc: Global, item: &Value) -> Result<Key, Fault>
 }
 
 /// The instance of an item, with the faults of `read_instance`.
-fn instance_in(alloc: Global, item: Value, app: &App, moment: Moment) -> Result<Instance, Fault>
+fn instance_in(
+    alloc: Global,
+    item: Value,
+    app: &App,
+    moment: Moment,
+) -> Result<SharedInstance, Fault>
     requires { InfoFits (view item) }
     ensures { Gives result (instance_in app.now moment (get (codes "instanceInfo") (view item))) }
 {
@@ -124,7 +127,6 @@ fn register_of(alloc: Global, item: Value, key: Key, moment: Moment) -> Result<C
     ensures { Gives result (command_of moment (view item) key Action.Register) }
 {
     let instance = instance_in(alloc, item, &key.app, moment)?;
-    let instance = SharedInstance::new(alloc, instance)?;
     Ok(Command::Register {
         instance,
         replicated: true,

@@ -14,7 +14,7 @@ use crate::checks::{check_address, check_app, check_center, name_of};
 use crate::members::{take, without};
 use crate::numbers::{interval_in, secs_in, stamp_in};
 use crate::statuses::{overridden_at, status_in};
-use eu_base::{App, Fault, Id, Instance, Key, LONGEST_NAME, Moment, Rest, Status};
+use eu_base::{App, Fault, Id, Instance, Key, LONGEST_NAME, Moment, Rest, SharedInstance, Status};
 use eu_text::is_fit;
 use serde_json::Value;
 use std::alloc::{AllocError, Global};
@@ -95,7 +95,7 @@ pub fn of_object(
     instance: Value,
     app: &App,
     moment: Moment,
-) -> Result<Instance, Fault>
+) -> Result<SharedInstance, Fault>
     requires { IsRest (view instance) }
     ensures said { Gives result (of_object app.now moment (view instance)) }
     ensures memory { result ≡ Err Fault.OutOfMemory → IsOk (of_object app.now moment (view instance)) }
@@ -114,7 +114,7 @@ pub fn of_object(
     let app = app.copy(alloc)?;
     let rest = rest_of(alloc, instance)?;
     let key = Key { app, id };
-    Ok(Instance {
+    let instance = Instance {
         key,
         status,
         overridden,
@@ -122,7 +122,8 @@ pub fn of_object(
         secs,
         interval,
         rest,
-    })
+    };
+    Ok(SharedInstance::new(alloc, instance)?)
 }
 
 /// The instance that the body of a registration says for an application at a moment (`ApplicationResource.addInstance` and
@@ -162,7 +163,7 @@ pub fn read_instance(
     text: &str,
     app: &App,
     moment: Moment,
-) -> Result<Instance, Fault>
+) -> Result<SharedInstance, Fault>
     ensures said { Gives result (instance_of app.now moment text.now) }
     ensures memory { result ≡ Err Fault.OutOfMemory → text.now ≢ [] }
 {

@@ -1,5 +1,5 @@
 //! Requests and a desk for sessions, and what a session over them tells.
-use eu_base::{App, Fault, Moment, SharedInstance};
+use eu_base::{App, Fault, Moment};
 use eu_clock::Clock;
 use eu_fixtures::{Brittle, REGISTRATION, clock, done};
 use eu_json::read_instance;
@@ -47,10 +47,7 @@ fn listed(alloc: Global) -> Result<Listed, Fault> {
         up: 1000,
     };
     let instance = read_instance(alloc, REGISTRATION, &app, moment)?;
-    Ok(Listed {
-        instance: SharedInstance::new(alloc, instance)?,
-        times,
-    })
+    Ok(Listed { instance, times })
 }
 
 /// Writes an ask with its moment: a registration, a look at a lease, or another.

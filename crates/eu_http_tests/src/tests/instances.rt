@@ -21,8 +21,7 @@ pub fn is_instance(
 fn read_for(alloc: Global, text: &str, app: &str, ms: u64) -> Result<SharedInstance, Fault> {
     let moment = Moment::new(ms).ok_or(Fault::BadValue)?;
     let app = App::read(alloc, app)?;
-    let instance = read_instance(alloc, text, &app, moment)?;
-    Ok(SharedInstance::new(alloc, instance)?)
+    read_instance(alloc, text, &app, moment)
 }
 
 /// The text of an instance for application A at moment 1000.

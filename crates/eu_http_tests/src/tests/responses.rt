@@ -14,8 +14,7 @@ use std::alloc::{AllocError, Global};
 pub fn instance(alloc: Global) -> Result<SharedInstance, Fault> {
     let now = moment(1000)?;
     let app = App::read(alloc, "A")?;
-    let instance = read_instance(alloc, REGISTRATION, &app, now)?;
-    Ok(SharedInstance::new(alloc, instance)?)
+    read_instance(alloc, REGISTRATION, &app, now)
 }
 
 fn listed(alloc: Global) -> Result<Listed, Fault> {

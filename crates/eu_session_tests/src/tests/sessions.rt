@@ -1,7 +1,7 @@
 //! Sessions with a desk that finds all done, and what they tell, byte for byte.
 use crate::tests::books::{USUAL, opened};
 use crate::tests::told::{spelled, told};
-use eu_base::{App, Fault, Moment, SharedInstance};
+use eu_base::{App, Fault, Moment};
 use eu_clock::ListClock;
 use eu_fixtures::{Parts, REGISTRATION, done, joined};
 use eu_json::read_instance;
@@ -62,10 +62,7 @@ fn listed(alloc: Global) -> Result<Listed, Fault> {
         up: 1000,
     };
     let instance = read_instance(alloc, REGISTRATION, &app, moment)?;
-    Ok(Listed {
-        instance: SharedInstance::new(alloc, instance)?,
-        times,
-    })
+    Ok(Listed { instance, times })
 }
 
 /// What is told of a session with a desk that has these faults, and what the desk was asked.

@@ -1,5 +1,5 @@
 -- Each lease stands under the key of its instance: in plain data, and after each step from there. So a state is plain data again
-use Rattle.std.proofs.Common.{◌≡◌, ℕ, Bool, true, false, List, [], ◌∷◌, map, T, refl, sym, ap, ◌∙◌, subst}
+use Rattle.std.proofs.Common.{◌≡◌, ℕ, Bool, true, false, List, [], ◌∷◌, filter, map, T, refl, sym, ap, ◌∙◌, subst}
 use Rattle.std.specs.Prelude.{cond, ◌&&◌, nat_lt, Option, Some, None}
 use Rattle.std.specs.Option.{option_map, option_or}
 use Rattle.std.specs.declared.cmp.Ordering.{Ordering}
@@ -30,7 +30,6 @@ use Rattle.eu_model.specs.State.{server_of_state}
 use Rattle.eu_model.specs.Step.{Step}
 use Rattle.eu_model.proofs.ListingLemmas.{listing_shown}
 use Rattle.eu_model.proofs.MapLemmas.{get-map_values}
-use Rattle.eu_store.proofs.CountLemmas.{filter_true}
 use Rattle.eu_book.specs.Account.{Account, IsLawful}
 use Rattle.eu_book.specs.Listing.{ListingsAscend}
 use Rattle.eu_book.specs.Peers.{state_of}
@@ -260,6 +259,10 @@ book_back s a base lawful = server_back s a.entries a.state (subst (λ p. Runs p
 
 -- ---- listings
 
+all_of : {X : Type 0} (xs : List X) → filter (λ x. true) xs ≡ xs
+all_of [] = refl
+all_of (x ∷ xs) = ap (λ l. x ∷ l) (all_of xs)
+
 holds : (b : Bool) → T b → b ≡ true
 holds true h = refl
 holds false h = absurd h
@@ -269,5 +272,5 @@ listings_ascend s es q runs m is =
     let rows = entries q.registry.leases in
     let keyed = keyed-runs s es q runs in
     let under = own key_of_listed rows (entries_sorted q.registry.leases) (λ k. subst (IsAt key_of_listed k) (get-entries q.registry.leases k) (keyed k)) in
-    let shown = sym (listing_shown None q.registry m is) ∙ ap (map (λ (e : Key × Listed). e.1)) (filter_true rows) in
+    let shown = sym (listing_shown None q.registry m is) ∙ ap (map (λ (e : Key × Listed). e.1)) (all_of rows) in
     ap (λ ls. is_sorted key_cmp (by_key key_of_listed ls)) shown ∙ ap (is_sorted key_cmp) under ∙ holds (is_sorted key_cmp rows) (entries_sorted q.registry.leases)

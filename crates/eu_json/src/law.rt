@@ -1,5 +1,6 @@
-//! What is read again of what was written.
+//! Laws without code: what is read again of what was written, and what a listing of all has.
 ghost use Rattle.eu_json.specs.BatchLaw.{BatchesComeBack};
+ghost use Rattle.eu_json.specs.ListingLaw.{ItemsAreOfApplications, LeasesAreOfApplications};
 
 /// A law without code: each task of a batch asks its receiver for a command, and each text whose JSON is that of `batch_text` says, at any
 /// moment, these commands in their order. That is for up to 250 tasks, each with just those of status and instance that its action has (a `Register`
@@ -12,4 +13,16 @@ ghost use Rattle.eu_json.specs.BatchLaw.{BatchesComeBack};
 /// to be taken back, with their instance's stamp; each as a peer's.
 pub fn batches_come_back()
     ensures { BatchesComeBack }
+{}
+
+/// A law without code: a listing of all has one item for each application that holds a lease, in the order of their names, where
+/// its leases stand in the order of their instances' keys. The item has all leases of the application, in their order, and its
+/// name. So each lease is in one item, and the leases of all items, one item after the other, are all that is listed.
+///
+/// Keys are ordered by the bytes of the application's name, and then by those of the id. No application without a lease has an item
+/// (`Applications` and `Application` in Eureka; its wiki, "Eureka REST operations": a query for all applications). There the order
+/// of applications is left open.
+pub fn items_are_of_applications()
+    ensures items { ItemsAreOfApplications }
+    ensures leases { LeasesAreOfApplications }
 {}

@@ -15,7 +15,7 @@ use Rattle.eu_base.proofs.KeyLemmas.{names_total, names_exact, name_eq-ties}
 use Rattle.eu_model.specs.declared.views.Listed.{Listed}
 use Rattle.eu_model.proofs.EvictionLemmas.{first, second, less}
 use Rattle.eu_json.specs.Tree.{app_of, list_tree, listed_tree, item_tree, same_app, before_runs, runs}
-use Rattle.eu_json.specs.ListingLaw.{by_application, leases_of, item_of, ItemsAreOfApplications, LeasesAreOfApplications}
+use Rattle.eu_json.specs.ListingLaw.{by_application, applications, leases_of, item_of, IsInKeyOrder, ItemsAreOfApplications, LeasesAreOfApplications}
 
 -- ---- names
 
@@ -182,6 +182,13 @@ items held (e ∷ es) named =
     let others = items held es named.1 in
     λ i. item_by (leases_of held e.0) (name i) ∷ others i
 
+-- what each run is
+pub runs_are_of_applications : (held : List Listed) → IsInKeyOrder held → runs held ≡ map (leases_of held) (applications held)
+runs_are_of_applications [] order = ap (λ es. map (leases_of []) (names es)) (sym nobody)
+runs_are_of_applications (l ∷ ls) order =
+    let g = grouped l ls (subst T (sym order) tt) in
+    g.cut ∙ ap (λ es. map (leases_of (l ∷ ls)) (names es)) (sym g.are)
+
 pub items_are_of_applications : ItemsAreOfApplications
 items_are_of_applications [] order = ap (λ es. map (item_of []) (names es)) (sym nobody)
 items_are_of_applications (l ∷ ls) order =
@@ -209,8 +216,4 @@ joined-map held [] = refl
 joined-map held (app ∷ apps) = ap (λ r. leases_of held app ++ r) (joined-map held apps)
 
 pub leases_are_of_applications : LeasesAreOfApplications
-leases_are_of_applications [] order = ap (λ es. flat_map (leases_of []) (names es)) nobody
-leases_are_of_applications (l ∷ ls) order =
-    let held = l ∷ ls in
-    let g = grouped l ls (subst T (sym order) tt) in
-    ap (λ es. flat_map (leases_of held) (names es)) g.are ∙ sym (joined-map held (l.instance.key.app ∷ names g.others)) ∙ ap joined (sym g.cut) ∙ whole held
+leases_are_of_applications held order = sym (joined-map held (applications held)) ∙ ap joined (sym (runs_are_of_applications held order)) ∙ whole held

@@ -1,7 +1,8 @@
--- In key order the runs are the applications
+-- In key order the runs of a listing are the leases of its applications
 use Rattle.std.proofs.Common.{◌≡◌, ℕ, Bool, true, false, T, cond, List, [], ◌∷◌, ◌++◌, map, refl, sym, ap, ◌∙◌, subst}
-use Rattle.std.specs.Prelude.{⊤, codes}
+use Rattle.std.specs.Prelude.{⊤, codes, ◌&&◌}
 use Rattle.std.specs.List.{flat_map}
+use Rattle.std.specs.declared.cmp.Ordering.{Ordering}
 use Rattle.std.specs.declared.cmp.Ordering.TheVariants.{Less, Equal, Greater}
 use Rattle.std.specs.Ordering.{is_eq, is_lt, ordering_then, ordering_reverse}
 use Rattle.std.specs.FinMap.{entries, entries_sorted, entries-insert, is_sorted, len-entries, len-empty}
@@ -18,6 +19,9 @@ use Rattle.eu_json.specs.Tree.{app_of, list_tree, listed_tree, item_tree, same_a
 use Rattle.eu_json.specs.ListingLaw.{by_application, applications, leases_of, item_of, IsInKeyOrder, ItemsAreOfApplications, LeasesAreOfApplications}
 
 -- ---- names
+
+abbrev name_of : Listed → List ℕ
+name_of l = l.instance.key.app
 
 own_name : (a : List ℕ) → name_eq a a ≡ true
 own_name a = name_eq-ties a a ∙ ap is_eq (tied_itself names_total a)
@@ -42,16 +46,27 @@ below_later a j k low later =
 abbrev Rises : List Listed → Type 0
 Rises held = T (is_sorted key_cmp (map (λ l. (l.instance.key, l)) held))
 
-abbrev later_keys : Listed → List Listed → Bool
-later_keys l ls = below_all key_cmp l.instance.key (map (λ m. (m.instance.key, m)) ls)
+abbrev is_before : Listed → List Listed → Bool
+is_before l ls = below_all key_cmp l.instance.key (map (λ m. (m.instance.key, m)) ls)
+
+abbrev Below : List ℕ → List (List ℕ × Listed) → Type 0
+Below a es = T (below_all name_cmp a es)
+
+-- a lease of another application is passed over
+skipped : (l : Listed) (ls : List Listed) (a : List ℕ) → name_eq (name_of l) a ≡ false → leases_of (l ∷ ls) a ≡ leases_of ls a
+skipped l ls a apart = ap (λ b. cond b (l ∷ leases_of ls a) (leases_of ls a)) apart
+
+-- and one of this one is taken
+taken : (l : Listed) (ls : List Listed) → leases_of (l ∷ ls) (name_of l) ≡ l ∷ leases_of ls (name_of l)
+taken l ls = ap (λ b. cond b (l ∷ leases_of ls (name_of l)) (leases_of ls (name_of l))) (own_name (name_of l))
 
 -- behind a lease none is of an application below its own
-none_below : (a : List ℕ) (l : Listed) (ls : List Listed) → name_cmp a l.instance.key.app ≡ Less → T (later_keys l ls) → leases_of ls a ≡ []
-none_below a l [] low later = refl
-none_below a l (m ∷ ls) low later =
-    let after = below_later a l.instance.key m.instance.key low (less (key_cmp l.instance.key m.instance.key) (first (is_lt (key_cmp l.instance.key m.instance.key)) (later_keys l ls) later)) in
-    ap (λ b. cond b (m ∷ leases_of ls a) (leases_of ls a)) (above_differs m.instance.key.app a after)
-    ∙ none_below a l ls low (second (is_lt (key_cmp l.instance.key m.instance.key)) (later_keys l ls) later)
+none_behind : (a : List ℕ) (l : Listed) (ls : List Listed) → name_cmp a (name_of l) ≡ Less → T (is_before l ls) → leases_of ls a ≡ []
+none_behind a l [] low before = refl
+none_behind a l (m ∷ ls) low before =
+    let order = key_cmp l.instance.key m.instance.key in
+    let after = below_later a l.instance.key m.instance.key low (less order (first (is_lt order) (is_before l ls) before)) in
+    skipped m ls a (above_differs (name_of m) a after) ∙ none_behind a l ls low (second (is_lt order) (is_before l ls) before)
 
 -- ---- the names of a map's entries
 
@@ -65,88 +80,87 @@ AreNamed held (e ∷ es) = (app_of (leases_of held e.0) ≡ e.0) × AreNamed hel
 
 -- a lease of a lower application is none of theirs
 module _ (l : Listed) (ls : List Listed) where
-  passed : (a : List ℕ) → name_cmp l.instance.key.app a ≡ Less → leases_of (l ∷ ls) a ≡ leases_of ls a
-  passed a low = ap (λ b. cond b (l ∷ leases_of ls a) (leases_of ls a)) (below_differs l.instance.key.app a low)
+  lower : (a : List ℕ) (es : List (List ℕ × Listed)) → T (is_lt (name_cmp (name_of l) a) && below_all name_cmp (name_of l) es) → leases_of (l ∷ ls) a ≡ leases_of ls a
+  lower a es low =
+      let order = name_cmp (name_of l) a in
+      skipped l ls a (below_differs (name_of l) a (less order (first (is_lt order) (below_all name_cmp (name_of l) es) low)))
 
-  passed_all : (es : List (List ℕ × Listed)) → T (below_all name_cmp l.instance.key.app es) → map (leases_of (l ∷ ls)) (names es) ≡ map (leases_of ls) (names es)
-  passed_all [] low = refl
-  passed_all (e ∷ es) low =
-      let one = is_lt (name_cmp l.instance.key.app e.0) in
-      let more = below_all name_cmp l.instance.key.app es in
-      let here = passed e.0 (less (name_cmp l.instance.key.app e.0) (first one more low)) in
-      let others = passed_all es (second one more low) in
+  behind : (a : List ℕ) (es : List (List ℕ × Listed)) → T (is_lt (name_cmp (name_of l) a) && below_all name_cmp (name_of l) es) → Below (name_of l) es
+  behind a es low = second (is_lt (name_cmp (name_of l) a)) (below_all name_cmp (name_of l) es) low
+
+  same_leases : (es : List (List ℕ × Listed)) → Below (name_of l) es → map (leases_of (l ∷ ls)) (names es) ≡ map (leases_of ls) (names es)
+  same_leases [] low = refl
+  same_leases (e ∷ es) low =
+      let here = lower e.0 es low in
+      let others = same_leases es (behind e.0 es low) in
       λ i. here i ∷ others i
 
-  named_all : (es : List (List ℕ × Listed)) → T (below_all name_cmp l.instance.key.app es) → AreNamed ls es → AreNamed (l ∷ ls) es
-  named_all [] low named = tt
-  named_all (e ∷ es) low named =
-      let one = is_lt (name_cmp l.instance.key.app e.0) in
-      let more = below_all name_cmp l.instance.key.app es in
-      (ap app_of (passed e.0 (less (name_cmp l.instance.key.app e.0) (first one more low))) ∙ named.0, named_all es (second one more low) named.1)
+  same_names : (es : List (List ℕ × Listed)) → Below (name_of l) es → AreNamed ls es → AreNamed (l ∷ ls) es
+  same_names [] low named = tt
+  same_names (e ∷ es) low named = (ap app_of (lower e.0 es low) ∙ named.0, same_names es (behind e.0 es low) named.1)
 
 -- ---- the runs
 
 -- what is so of leases in key order: the first name is that of the first lease, and the runs are the leases of the names
-pub record IsGrouped (l : Listed) (ls : List Listed) : Type 0 where
-  pub value : Listed
-  pub others : List (List ℕ × Listed)
-  pub are : entries (by_application (l ∷ ls)) ≡ (l.instance.key.app, value) ∷ others
-  pub cut : runs (l ∷ ls) ≡ map (leases_of (l ∷ ls)) (l.instance.key.app ∷ names others)
-  pub named : AreNamed (l ∷ ls) ((l.instance.key.app, value) ∷ others)
-
--- the leases of a lease's own application begin with it
-with_itself : (l : Listed) (ls : List Listed) → leases_of (l ∷ ls) l.instance.key.app ≡ l ∷ leases_of ls l.instance.key.app
-with_itself l ls = ap (λ b. cond b (l ∷ leases_of ls l.instance.key.app) (leases_of ls l.instance.key.app)) (own_name l.instance.key.app)
+record IsGrouped (l : Listed) (ls : List Listed) : Type 0 where
+  value : Listed
+  others : List (List ℕ × Listed)
+  are : entries (by_application (l ∷ ls)) ≡ (name_of l, value) ∷ others
+  cut : runs (l ∷ ls) ≡ map (leases_of (l ∷ ls)) (name_of l ∷ names others)
+  named : AreNamed (l ∷ ls) ((name_of l, value) ∷ others)
 
 -- the entries ascend
-ascend : (held : List Listed) (e : List ℕ × Listed) (es : List (List ℕ × Listed)) → entries (by_application held) ≡ e ∷ es → T (below_all name_cmp e.0 es)
+ascend : (held : List Listed) (e : List ℕ × Listed) (es : List (List ℕ × Listed)) → entries (by_application held) ≡ e ∷ es → Below e.0 es
 ascend held e es are = first (below_all name_cmp e.0 es) (is_sorted name_cmp es) (subst (λ xs. T (is_sorted name_cmp xs)) are (entries_sorted (by_application held)))
 
+-- a lease before others of which it is so: those behind it in the run of the next, and the further runs
 module _ (l m : Listed) (ls : List Listed) (g : IsGrouped m ls) where
-  entries_more : entries (by_application (l ∷ m ∷ ls)) ≡ put name_cmp l.instance.key.app l ((m.instance.key.app, g.value) ∷ g.others)
-  entries_more = entries-insert names_total (by_application (m ∷ ls)) l.instance.key.app l ∙ ap (put name_cmp l.instance.key.app l) g.are
+  abbrev next : List Listed
+  next = leases_of ls (name_of m)
 
-  -- a lease of a lower application has a run of its own
-  grouped_alone : name_cmp l.instance.key.app m.instance.key.app ≡ Less → T (later_keys m ls) → IsGrouped l (m ∷ ls)
-  grouped_alone low later =
-      let es = (m.instance.key.app, g.value) ∷ g.others in
-      let are : entries (by_application (l ∷ m ∷ ls)) ≡ (l.instance.key.app, l) ∷ es = entries_more ∙ ap (λ o. by_order o ((l.instance.key.app, l) ∷ es) ((m.instance.key.app, l) ∷ g.others) ((m.instance.key.app, g.value) ∷ put name_cmp l.instance.key.app l g.others)) low in
-      let below = ascend (l ∷ m ∷ ls) (l.instance.key.app, l) es are in
-      let none : leases_of (m ∷ ls) l.instance.key.app ≡ [] =
-      ap (λ b. cond b (m ∷ leases_of ls l.instance.key.app) (leases_of ls l.instance.key.app)) (above_differs m.instance.key.app l.instance.key.app low)
-      ∙ none_below l.instance.key.app m ls low later in
-      let mine = with_itself l (m ∷ ls) ∙ ap (λ run. l ∷ run) none in
-      let run = ap (before_runs l) (g.cut ∙ ap (λ r. r ∷ map (leases_of (m ∷ ls)) (names g.others)) (with_itself m ls))
-      ∙ ap (λ b. cond b ((l ∷ m ∷ leases_of ls m.instance.key.app) ∷ map (leases_of (m ∷ ls)) (names g.others)) ((l ∷ []) ∷ (m ∷ leases_of ls m.instance.key.app) ∷ map (leases_of (m ∷ ls)) (names g.others))) (below_differs l.instance.key.app m.instance.key.app low)
-      ∙ ap (λ r. (l ∷ []) ∷ r ∷ map (leases_of (m ∷ ls)) (names g.others)) (sym (with_itself m ls)) in
-      let others = passed_all l (m ∷ ls) es below in
+  abbrev further : List (List Listed)
+  further = map (leases_of (m ∷ ls)) (names g.others)
+
+  entries_by : (o : Ordering) → name_cmp (name_of l) (name_of m) ≡ o
+      → entries (by_application (l ∷ m ∷ ls)) ≡ by_order o ((name_of l, l) ∷ (name_of m, g.value) ∷ g.others) ((name_of m, l) ∷ g.others) ((name_of m, g.value) ∷ put name_cmp (name_of l) l g.others)
+  entries_by o is =
+      entries-insert names_total (by_application (m ∷ ls)) (name_of l) l ∙ ap (put name_cmp (name_of l) l) g.are
+      ∙ ap (λ r. by_order r ((name_of l, l) ∷ (name_of m, g.value) ∷ g.others) ((name_of m, l) ∷ g.others) ((name_of m, g.value) ∷ put name_cmp (name_of l) l g.others)) is
+
+  runs_by : (b : Bool) → name_eq (name_of l) (name_of m) ≡ b → runs (l ∷ m ∷ ls) ≡ cond b ((l ∷ m ∷ next) ∷ further) ((l ∷ []) ∷ (m ∷ next) ∷ further)
+  runs_by b is = ap (before_runs l) (g.cut ∙ ap (λ r. r ∷ further) (taken m ls)) ∙ ap (λ c. cond c ((l ∷ m ∷ next) ∷ further) ((l ∷ []) ∷ (m ∷ next) ∷ further)) is
+
+  -- one of a lower application has a run of its own
+  grouped_alone : name_cmp (name_of l) (name_of m) ≡ Less → T (is_before m ls) → IsGrouped l (m ∷ ls)
+  grouped_alone low before =
+      let es = (name_of m, g.value) ∷ g.others in
+      let are = entries_by Less low in
+      let below = ascend (l ∷ m ∷ ls) (name_of l, l) es are in
+      let none = skipped m ls (name_of l) (above_differs (name_of m) (name_of l) low) ∙ none_behind (name_of l) m ls low before in
+      let mine = taken l (m ∷ ls) ∙ ap (λ run. l ∷ run) none in
+      let others = ap (λ r. r ∷ further) (sym (taken m ls)) ∙ sym (same_leases l (m ∷ ls) es below) in
       record {
         value = l;
         others = es;
         are = are;
-        cut = run ∙ (λ i. sym mine i ∷ sym others i);
-        named = (ap app_of mine, named_all l (m ∷ ls) es below g.named);
+        cut = runs_by false (below_differs (name_of l) (name_of m) low) ∙ (λ i. sym mine i ∷ others i);
+        named = (ap app_of mine, same_names l (m ∷ ls) es below g.named);
       }
 
   -- one of the same application is in the run of that
-  grouped_with : name_cmp l.instance.key.app m.instance.key.app ≡ Equal → IsGrouped l (m ∷ ls)
+  grouped_with : name_cmp (name_of l) (name_of m) ≡ Equal → IsGrouped l (m ∷ ls)
   grouped_with tied =
-      let same : l.instance.key.app ≡ m.instance.key.app = names_exact l.instance.key.app m.instance.key.app tied in
-      let are : entries (by_application (l ∷ m ∷ ls)) ≡ (l.instance.key.app, l) ∷ g.others =
-      entries_more ∙ ap (λ o. by_order o ((l.instance.key.app, l) ∷ (m.instance.key.app, g.value) ∷ g.others) ((m.instance.key.app, l) ∷ g.others) ((m.instance.key.app, g.value) ∷ put name_cmp l.instance.key.app l g.others)) tied
-      ∙ ap (λ a. (a, l) ∷ g.others) (sym same) in
-      let below = ascend (l ∷ m ∷ ls) (l.instance.key.app, l) g.others are in
-      let mine : leases_of (l ∷ m ∷ ls) l.instance.key.app ≡ l ∷ m ∷ leases_of ls m.instance.key.app =
-      with_itself l (m ∷ ls) ∙ ap (λ a. l ∷ leases_of (m ∷ ls) a) same ∙ ap (λ run. l ∷ run) (with_itself m ls) in
-      let run = ap (before_runs l) (g.cut ∙ ap (λ r. r ∷ map (leases_of (m ∷ ls)) (names g.others)) (with_itself m ls))
-      ∙ ap (λ b. cond b ((l ∷ m ∷ leases_of ls m.instance.key.app) ∷ map (leases_of (m ∷ ls)) (names g.others)) ((l ∷ []) ∷ (m ∷ leases_of ls m.instance.key.app) ∷ map (leases_of (m ∷ ls)) (names g.others))) (name_eq-ties l.instance.key.app m.instance.key.app ∙ ap is_eq tied) in
-      let others = passed_all l (m ∷ ls) g.others below in
+      let same = names_exact (name_of l) (name_of m) tied in
+      let are = entries_by Equal tied ∙ ap (λ a. (a, l) ∷ g.others) (sym same) in
+      let below = ascend (l ∷ m ∷ ls) (name_of l, l) g.others are in
+      let mine = taken l (m ∷ ls) ∙ ap (λ a. l ∷ leases_of (m ∷ ls) a) same ∙ ap (λ run. l ∷ run) (taken m ls) in
+      let others = sym (same_leases l (m ∷ ls) g.others below) in
       record {
         value = l;
         others = g.others;
         are = are;
-        cut = run ∙ (λ i. sym mine i ∷ sym others i);
-        named = (ap app_of mine, named_all l (m ∷ ls) g.others below g.named.1);
+        cut = runs_by true (name_eq-ties (name_of l) (name_of m) ∙ ap is_eq tied) ∙ (λ i. sym mine i ∷ others i);
+        named = (ap app_of mine, same_names l (m ∷ ls) g.others below g.named.1);
       }
 
 nobody : entries (by_application []) ≡ []
@@ -154,18 +168,22 @@ nobody = nil_from_length (entries (by_application [])) (sym (len-entries (by_app
 
 grouped : (l : Listed) (ls : List Listed) → Rises (l ∷ ls) → IsGrouped l ls
 grouped l [] rises =
-    let are = entries-insert names_total (by_application []) l.instance.key.app l ∙ ap (put name_cmp l.instance.key.app l) nobody in
-    let mine = with_itself l [] in
-    record { value = l; others = []; are = are; cut = λ i. sym mine i ∷ []; named = (ap app_of mine, tt) }
+    let mine = taken l [] in
+    record {
+      value = l;
+      others = [];
+      are = entries-insert names_total (by_application []) (name_of l) l ∙ ap (put name_cmp (name_of l) l) nobody;
+      cut = λ i. sym mine i ∷ [];
+      named = (ap app_of mine, tt);
+    }
 grouped l (m ∷ ls) rises =
-    let below = later_keys l (m ∷ ls) in
-    let lower = is_lt (key_cmp l.instance.key m.instance.key) in
-    let rest = second below (is_sorted key_cmp (map (λ n. (n.instance.key, n)) (m ∷ ls))) rises in
-    let key = less (key_cmp l.instance.key m.instance.key) (first lower (later_keys l ls) (first below (is_sorted key_cmp (map (λ n. (n.instance.key, n)) (m ∷ ls))) rises)) in
-    let later = first (later_keys m ls) (is_sorted key_cmp (map (λ n. (n.instance.key, n)) ls)) rest in
+    let order = key_cmp l.instance.key m.instance.key in
+    let rest = second (is_before l (m ∷ ls)) (is_before m ls && is_sorted key_cmp (map (λ n. (n.instance.key, n)) ls)) rises in
+    let key = less order (first (is_lt order) (is_before l ls) (first (is_before l (m ∷ ls)) (is_before m ls && is_sorted key_cmp (map (λ n. (n.instance.key, n)) ls)) rises)) in
+    let before = first (is_before m ls) (is_sorted key_cmp (map (λ n. (n.instance.key, n)) ls)) rest in
     let g = grouped m ls rest in
-    elim (name_cmp l.instance.key.app m.instance.key.app) as (λ o. name_cmp l.instance.key.app m.instance.key.app ≡ o → ordering_then o (name_cmp l.instance.key.id m.instance.key.id) ≡ Less → IsGrouped l (m ∷ ls)) [
-      | Less ↦ λ is e. grouped_alone l m ls g is later
+    elim (name_cmp (name_of l) (name_of m)) as (λ o. name_cmp (name_of l) (name_of m) ≡ o → ordering_then o (name_cmp l.instance.key.id m.instance.key.id) ≡ Less → IsGrouped l (m ∷ ls)) [
+      | Less ↦ λ is e. grouped_alone l m ls g is before
       | Equal ↦ λ is e. grouped_with l m ls g is
       | Greater ↦ λ is e. absurd (subst (λ o. T (is_lt o)) (sym e) tt)
     ] refl key
@@ -193,7 +211,7 @@ pub items_are_of_applications : ItemsAreOfApplications
 items_are_of_applications [] order = ap (λ es. map (item_of []) (names es)) (sym nobody)
 items_are_of_applications (l ∷ ls) order =
     let g = grouped l ls (subst T (sym order) tt) in
-    ap (map item_tree) g.cut ∙ items (l ∷ ls) ((l.instance.key.app, g.value) ∷ g.others) g.named ∙ ap (λ es. map (item_of (l ∷ ls)) (names es)) (sym g.are)
+    ap (map item_tree) g.cut ∙ items (l ∷ ls) ((name_of l, g.value) ∷ g.others) g.named ∙ ap (λ es. map (item_of (l ∷ ls)) (names es)) (sym g.are)
 
 -- ---- the leases of all items
 

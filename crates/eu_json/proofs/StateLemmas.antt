@@ -71,8 +71,8 @@ module _ (s : Machine) (keyed : Keyed s) where
   leases : (app : List ℕ) → leases_of (listing None s) app ≡ listing (Some app) s
   leases app = ap (λ es. leases_of (all_of es) app) (sym entries_are) ∙ same_leases app records ∙ ap (those_of app) entries_are
 
-  by_application : IsByApplication s
-  by_application =
+  is_by_application : IsByApplication s
+  is_by_application =
       let apps = applications (listing None s) in
       record {
         keys = λ k r is. subst (IsAt key_of_record k) is (keyed k);
@@ -85,7 +85,7 @@ module _ (s : Machine) (keyed : Keyed s) where
 -- ---- runs
 
 pub opened_are_by_application : OpenedAreByApplication
-opened_are_by_application config expected peers es s run = by_application s.machine (keyed-opened config expected peers es s run)
+opened_are_by_application config expected peers es s run = is_by_application s.machine (keyed-opened config expected peers es s run)
 
 pub resumed_are_by_application : ResumedAreByApplication
-resumed_are_by_application base from es s is run = by_application s.machine (keyed-resumed base from es s is run)
+resumed_are_by_application base from es s is run = is_by_application s.machine (keyed-resumed base from es s is run)

@@ -15,22 +15,22 @@ pub fn batches_come_back()
     ensures { BatchesComeBack }
 {}
 
-/// A law without code: a listing of all has one item for each application that holds a lease, in the order of their names, where
-/// its leases stand in the order of their instances' keys. The item has all leases of the application, in their order, and its
-/// name. So each lease is in one item, and the leases of all items, one item after the other, are all that is listed.
+/// A law without code: where leases are in key order, a listing of all has one item for each application that holds a lease, in the
+/// order of the names. The item has the name of the application and all its leases, in their order. And each lease is in one item: the
+/// leases of all items, one item after the other, are all that are listed.
 ///
-/// Keys are ordered by the bytes of the application's name, and then by those of the id. No application without a lease has an item
-/// (`Applications` and `Application` in Eureka; its wiki, "Eureka REST operations": a query for all applications). There the order
-/// of applications is left open.
+/// Key order is that of the applications' names, by their bytes, and then that of the ids. (In Eureka an `Applications` has one
+/// `Application` for each name that has a lease, and none for a name without:
+/// `AbstractInstanceRegistry.getApplicationsFromMultipleRegions`. The order is left open there. This is what the wiki, "Eureka REST
+/// operations", answers to a query for all instances.)
 pub fn items_are_of_applications()
     ensures items { ItemsAreOfApplications }
     ensures leases { LeasesAreOfApplications }
 {}
 
-/// A law without code, over every run of the lease machine: in each state that entries lead to, from an opening or from plain data as
-/// a checkpoint has it, each lease stands under the key of its instance. So a listing of all has its leases in the order of their
-/// instances' keys, and it has one item for each application that holds a lease: the item that a listing of this application alone
-/// has.
+/// A law without code, over every run of the lease machine, from an opening or from plain data, as a checkpoint has it: in each state
+/// that entries lead to, each lease stands under the key of its instance. So a listing of all is in key order, and has one item for
+/// each application that holds a lease. The item is that of a query for the application alone.
 pub fn listings_are_by_application()
     ensures opened { OpenedAreByApplication }
     ensures resumed { ResumedAreByApplication }

@@ -97,6 +97,13 @@ fn row_of(overridden: Status) -> Option<Status>
     }
 }
 
+/// The row that an instance tells.
+fn row_told(instance: &SharedInstance) -> Option<Status>
+    ensures { result ≡ row_of instance.now.overridden }
+{
+    row_of(instance.overridden())
+}
+
 /// The row after a registration.
 fn row_after(row: Option<Status>, overridden: Status) -> Option<Status>
     ensures { result ≡ row_after row overridden }
@@ -281,7 +288,7 @@ pub fn adopt(
     requires { expected ≤ MOST_EXPECTED }
     ensures { IfOk result (λ c. change_of c ≡ plain_adopt (option_copied held.entry) row expected instance.now moment) }
 {
-    let own = row_of(instance.overridden());
+    let own = row_told(instance);
     let held = overridden_by(own, held)?;
     register(held.as_ref(), own.or(row), expected, instance, true, moment)
 }

@@ -28,8 +28,11 @@ use Rattle.eu_model.specs.Plain.{Plain, plain, listed}
 use Rattle.eu_model.specs.Server.{Runs, Server, PlainServer, ServerStep, Run}
 use Rattle.eu_model.specs.State.{server_of_state}
 use Rattle.eu_model.specs.Step.{Step}
+use Rattle.eu_model.proofs.ListingLemmas.{listing_shown}
 use Rattle.eu_model.proofs.MapLemmas.{get-map_values}
+use Rattle.eu_store.proofs.CountLemmas.{filter_true}
 use Rattle.eu_book.specs.Account.{Account, IsLawful}
+use Rattle.eu_book.specs.Listing.{ListingsAscend}
 use Rattle.eu_book.specs.Peers.{state_of}
 use Rattle.eu_model.proofs.EvictionLemmas.{first, second, less}
 
@@ -254,3 +257,17 @@ server_back s es q runs =
 -- so is a lawful book's, whose base is plain data
 pub book_back : (s : State) (a : Account) → server_of_state s ≡ a.base → IsLawful a → server_of_state (state_of a.state) ≡ a.state
 book_back s a base lawful = server_back s a.entries a.state (subst (λ p. Runs p a.entries a.state) (sym base) lawful.run)
+
+-- ---- listings
+
+holds : (b : Bool) → T b → b ≡ true
+holds true h = refl
+holds false h = absurd h
+
+pub listings_ascend : ListingsAscend
+listings_ascend s es q runs m is =
+    let rows = entries q.registry.leases in
+    let keyed = keyed-runs s es q runs in
+    let under = own key_of_listed rows (entries_sorted q.registry.leases) (λ k. subst (IsAt key_of_listed k) (get-entries q.registry.leases k) (keyed k)) in
+    let shown = sym (listing_shown None q.registry m is) ∙ ap (map (λ (e : Key × Listed). e.1)) (filter_true rows) in
+    ap (λ ls. is_sorted key_cmp (by_key key_of_listed ls)) shown ∙ ap (is_sorted key_cmp) under ∙ holds (is_sorted key_cmp rows) (entries_sorted q.registry.leases)

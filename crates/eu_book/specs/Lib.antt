@@ -4,3 +4,4 @@ pub mod AccountCode
 pub mod Checkpoint
 pub mod Desk
 pub mod Snapshot
+pub mod Listing

@@ -11,6 +11,7 @@ mod checkpoint;
 mod desk;
 mod entering;
 mod journal;
+mod law;
 mod peers;
 mod serving;
 mod snapshot;
@@ -18,4 +19,5 @@ mod tasks;
 
 pub use book::{Book, LoggedReceipt, Receipt};
 pub use journal::{Journal, Logged};
+pub use law::listings_ascend;
 pub use snapshot::ViewSnapshot;

@@ -39,11 +39,14 @@ pub fn bare(status: StatusCode) -> Response
     }
 }
 
-/// Room for a head, and nothing behind it yet.
-fn with_room(alloc: Global) -> Result<Vec<u8>, AllocError>
+/// How long the text of an instance usually is at most, in bytes. For a longer one the memory grows.
+const USUAL_LEN: usize = 1_536;
+
+/// Room for a head, and nothing behind it yet. There is memory for a text of so many bytes, so that none of that length is moved.
+fn with_room(alloc: Global, text_len: usize) -> Result<Vec<u8>, AllocError>
     ensures { IfOk result (λ bytes. length bytes.items ≡ HEAD_ROOM) }
 {
-    let mut bytes = Vec::new(alloc);
+    let mut bytes = Vec::with_capacity(alloc, text_len.saturating_add(HEAD_ROOM))?;
     bytes.extend_from_slice(&[0; HEAD_ROOM])?;
     Ok(bytes)
 }
@@ -93,7 +96,7 @@ pub fn telling(alloc: Global, status: StatusCode, fault: Fault) -> Result<Respon
 {
     let number = fault.number();
     let text = format!(in alloc; "{{\"fault\":{number}}}")?;
-    let mut bytes = with_room(alloc)?;
+    let mut bytes = with_room(alloc, text.len())?;
     bytes.extend_from_slice(text.as_bytes())?;
     Ok(json(status, bytes))
 }
@@ -116,7 +119,7 @@ pub fn did(alloc: Global, reply: &Reply) -> Result<Response, AllocError>
         Reply::Registered { fresh: _ } => Ok(bare(StatusCode::NO_CONTENT)),
         Reply::Done => Ok(bare(StatusCode::OK)),
         Reply::Conflict(instance) => {
-            let mut bytes = with_room(alloc)?;
+            let mut bytes = with_room(alloc, USUAL_LEN)?;
             append_held(alloc, &mut bytes, instance, None)?;
             Ok(json(StatusCode::CONFLICT, bytes))
         }
@@ -163,7 +166,7 @@ pub fn item_of(answer: &Result<Answer, Fault>) -> Result<ItemAnswer, AllocError>
 pub fn batch(alloc: Global, items: &[ItemAnswer]) -> Result<Response, AllocError>
     ensures { IfOk result (λ r. spec.response_of r ≡ spec.batch items.now) }
 {
-    let mut bytes = with_room(alloc)?;
+    let mut bytes = with_room(alloc, USUAL_LEN)?;
     append_answers(alloc, &mut bytes, items)?;
     Ok(json(StatusCode::OK, bytes))
 }
@@ -174,7 +177,7 @@ pub fn one(alloc: Global, seen: Option<&Listed>) -> Result<Response, AllocError>
 {
     match seen {
         Some(listed) => {
-            let mut bytes = with_room(alloc)?;
+            let mut bytes = with_room(alloc, USUAL_LEN)?;
             append_held(alloc, &mut bytes, &listed.instance, Some(listed.times))?;
             Ok(json(StatusCode::OK, bytes))
         }
@@ -189,7 +192,7 @@ pub fn of_app(alloc: Global, held: &[Listed]) -> Result<Response, AllocError>
     if held.is_empty() {
         return Ok(bare(StatusCode::NOT_FOUND));
     }
-    let mut bytes = with_room(alloc)?;
+    let mut bytes = with_room(alloc, held.len().saturating_mul(USUAL_LEN))?;
     append_application(alloc, &mut bytes, held)?;
     Ok(json(StatusCode::OK, bytes))
 }
@@ -198,7 +201,7 @@ pub fn of_app(alloc: Global, held: &[Listed]) -> Result<Response, AllocError>
 pub fn all(alloc: Global, held: &[Listed]) -> Result<Response, AllocError>
     ensures { IfOk result (λ r. spec.response_of r ≡ spec.all held.now) }
 {
-    let mut bytes = with_room(alloc)?;
+    let mut bytes = with_room(alloc, held.len().saturating_mul(USUAL_LEN))?;
     append_applications(alloc, &mut bytes, held)?;
     Ok(json(StatusCode::OK, bytes))
 }

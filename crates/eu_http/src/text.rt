@@ -1,5 +1,6 @@
 //! A response as it is written.
-ghost use Rattle.std.specs.Prelude.{◌≡◌, ◌≤◌, ◌++◌, false, drop, length, IfOk, IfSome, OnOk, string_bytes};
+ghost use Rattle.std.specs.Prelude.{◌≡◌, ◌≤◌, ◌++◌, codes, false, drop, length, IfOk, IfSome, OnOk, string_bytes};
+ghost use Rattle.http.specs.StatusCode.{status_text};
 ghost use Rattle.eu_http.specs.Response.{content_of, response_of};
 ghost use Rattle.eu_http.specs.Response as spec;
 
@@ -47,6 +48,16 @@ impl Content {
     }
 }
 
+/// Writes the status line.
+fn push_status(text: &mut String, status: StatusCode) -> Result<(), AllocError>
+    ensures { OnOk result (string_bytes text.new ≡ string_bytes text.old ++ spec.line (codes "HTTP/1.1 " ++ status_text status)) }
+{
+    match status {
+        StatusCode::OK => text.push_str("HTTP/1.1 200 OK\r\n"),
+        status => write!(text, "HTTP/1.1 {status}\r\n"),
+    }
+}
+
 /// Writes what the content is, where there is one.
 fn push_type(text: &mut String, content: &Content) -> Result<(), AllocError>
     ensures { OnOk result (string_bytes text.new ≡ string_bytes text.old ++ spec.type_line (content_of content.now)) }
@@ -85,7 +96,7 @@ fn head(alloc: Global, response: &Response, close: bool) -> Result<String, Alloc
 {
     let status = response.status;
     let mut text = String::with_capacity(alloc, HEAD_ROOM)?;
-    write!(text, "HTTP/1.1 {status}\r\n")?;
+    push_status(&mut text, status)?;
     push_type(&mut text, &response.content)?;
     push_length(&mut text, status, response.content.len())?;
     push_close(&mut text, close)?;

@@ -244,7 +244,7 @@ fn append_answer_list(
 /// an item for each answer, in order. An item has `statusCode`, a number, and where there is an instance `responseEntity`, the
 /// instance as it is listed, without moments of a lease.
 ///
-/// `AllocError` where no memory is left: `out` may then have a part of it.
+/// `AllocError` where no memory is left: then nothing is said of `out`.
 pub fn append_answers(
     alloc: Global,
     out: &mut Vec<u8>,

@@ -43,7 +43,7 @@ fn append_item(alloc: Global, out: &mut Vec<u8>, held: &[Listed]) -> Result<(), 
 /// name as `name` (`ApplicationResource.getApplication` in Eureka). There is at least one lease, and all are of one application:
 /// its name is that of the first.
 ///
-/// `AllocError` where no memory is left: `out` may then have a part of it.
+/// `AllocError` where no memory is left: then nothing is said of `out`.
 pub fn append_application(
     alloc: Global,
     out: &mut Vec<u8>,
@@ -61,7 +61,7 @@ pub fn append_application(
 /// Appends the JSON of one instance, as it is answered: an object with the one member `instance`. With the moments of its lease,
 /// where they are given (`InstanceResource.getInstanceInfo` in Eureka).
 ///
-/// `AllocError` where no memory is left: `out` may then have a part of it.
+/// `AllocError` where no memory is left: then nothing is said of `out`.
 pub fn append_held(
     alloc: Global,
     out: &mut Vec<u8>,
@@ -117,7 +117,7 @@ fn append_items(alloc: Global, out: &mut Vec<u8>, held: &[Listed]) -> Result<(),
 /// An item ends where a lease of another application follows. Where the leases are in key order, each application has one, by the law
 /// `items_are_of_applications`; they are so in each state that a run reaches, by `listings_are_by_application`.
 ///
-/// `AllocError` where no memory is left: `out` may then have a part of it.
+/// `AllocError` where no memory is left: then nothing is said of `out`.
 pub fn append_applications(
     alloc: Global,
     out: &mut Vec<u8>,

@@ -1,5 +1,5 @@
 -- Passes and the shared book, as contracts see them
-use Rattle.std.specs.Prelude.{◌≡◌, ℕ, List, [], ◌∷◌, ◌++◌, max, None}
+use Rattle.std.specs.Prelude.{◌≡◌, ℕ, List, [], ◌∷◌, ◌++◌, ◌≤◌, max, None}
 use Rattle.eu_base.specs.declared.faults.Fault.{Fault}
 use Rattle.eu_base.specs.declared.faults.Fault.TheVariants.{OutOfMemory}
 use Rattle.eu_book.specs.declared.journal.Logged.{Logged}
@@ -64,9 +64,9 @@ IsAnsweredBySome asks x p e x' p' =
 abbrev pub IsRefusedBySome : Command → ℕ → Fault → Type 0
 IsRefusedBySome c t f = (a : Account) × IsLawful a × Refuses a c t f × (f ≡ OutOfMemory → known_fault a.totals.steps a.state.queues c t ≡ None)
 
--- some lawful book shows it to the pass, which has then seen where its journal begins
+-- some lawful book, of at least the pass's own steps, shows it to the pass, which has then seen where its journal begins
 abbrev pub IsShownBySome : PassAccount → Query → ℕ → View → PassAccount → Type 0
-IsShownBySome p q t v p' = (a : Account) × IsLawful a × Shows a.state.registry (λ s. model_view.view s q t) v × (p'.journal_first ≡ max p.journal_first a.first)
+IsShownBySome p q t v p' = (a : Account) × IsLawful a × (p.tally.steps ≤ a.totals.steps) × Shows a.state.registry (λ s. model_view.view s q t) v × (p'.journal_first ≡ max p.journal_first a.first)
 
 -- some lawful book's journal begins anew for the pass, which has then seen where: after all steps
 abbrev pub IsBegunBySome : PassAccount → PassAccount → Type 0

@@ -14,7 +14,7 @@ use crate::sums::sum_up;
 use eu_base::{Config, Fault, MOST_PASSES, MOST_PEERS, Moment};
 use eu_book::{Book, Journal, Receipt, ViewSnapshot};
 use eu_clock::Chooser;
-use eu_model::{Command, Query, Tally};
+use eu_model::{Command, Query, Tally, View};
 use std::alloc::{AllocError, Global};
 use std::marker::Model;
 
@@ -244,18 +244,45 @@ impl<K: Label> Held<K> {
         })
     }
 
-    /// What a query sees at a moment, as far as the lock is held for it (`Book::snapshot`): `ViewSnapshot::into_view` makes the view of
-    /// it once the lock is let go. With it the number at which the journal begins. Nothing changes. `AllocError` where no memory is left.
-    pub fn snapshot(
+    /// What a query sees at a moment (`Book::read`), for a pass, which has seen then where the journal begins. The pass's log and tallies
+    /// stay. No fewer steps than were made for the pass had been made. `AllocError` where no memory is left, which leaves the pass as it
+    /// was.
+    pub fn read(
         &mut self,
         alloc: Global,
+        pass: &mut Pass<K>,
+        query: &Query,
+        moment: Moment,
+    ) -> Result<View, AllocError>
+        ensures view { IfOk result (λ v. Shows self.old.book.state.registry (λ s. view s query.now moment) v) }
+        ensures pass { OnOk result (pass.new ≡ after_view pass.old self.old.book.first) }
+        ensures after_own { pass.old.tally.steps ≤ self.old.book.totals.steps }
+        ensures same { self.new ≡ self.old }
+        ensures err { OnErr result (pass.new ≡ pass.old) }
+    {
+        let (snapshot, first) = self.snapshot(alloc, pass, query, moment)?;
+        let view = snapshot.into_view(alloc)?;
+        see(&mut pass.journal_first, &mut pass.is_stale, first);
+        Ok(view)
+    }
+
+    /// What a query sees at a moment, as far as the lock is held for it (`Book::snapshot`): `ViewSnapshot::into_view` makes the view of
+    /// it once the lock is let go. With it the number at which the journal begins.
+    pub(crate) fn snapshot(
+        &mut self,
+        alloc: Global,
+        pass: &mut Pass<K>,
         query: &Query,
         moment: Moment,
     ) -> Result<(ViewSnapshot, u64), AllocError>
         ensures view { IfOk result (λ r. Shows self.old.book.state.registry (λ s. view s query.now moment) (view_of r.0)) }
         ensures first { IfOk result (λ r. r.1 ≡ self.old.book.first) }
-        ensures same { self.new ≡ self.old }
+        ensures after_own { pass.old.tally.steps ≤ self.old.book.totals.steps }
+        ensures before { IsLawful self.old.book }
+        ensures same { (self.new ≡ self.old) × (pass.new ≡ pass.old) }
     {
+        let _totals = self.book.totals();
+        self.totals.audit(&mut pass.shares);
         let snapshot = self.book.snapshot(alloc, query, moment)?;
         Ok((snapshot, self.book.journal().first))
     }

@@ -134,8 +134,9 @@ impl<K: Label> Pass<K> {
         Ok(outcome.into_receipt())
     }
 
-    /// What a query sees of the shared book, at a moment (`Book::read`). The lock is held for no more than `Held::snapshot` takes.
-    /// `AllocError` where no memory is left, which leaves the pass as it was.
+    /// What a query sees of the shared book, at a moment (`Held::read`). No fewer steps than were made for the pass had been made by then.
+    /// The lock is held while the instances' pointers are taken; the view is made of them after. `AllocError` where no memory is left,
+    /// which leaves the pass as it was.
     pub fn read<R: Wait>(
         &mut self,
         rt: &R,
@@ -148,7 +149,7 @@ impl<K: Label> Pass<K> {
         ensures pass { (self.new.number ≡ self.old.number) × (self.new.log ≡ self.old.log) × (self.new.tally ≡ self.old.tally) × (self.old.journal_first ≤ self.new.journal_first) }
         ensures err { OnErr result (self.new ≡ self.old) }
     {
-        let (snapshot, first) = shared.lock(rt).snapshot(alloc, query, moment)?;
+        let (snapshot, first) = shared.lock(rt).snapshot(alloc, self, query, moment)?;
         let view = snapshot.into_view(alloc)?;
         see(&mut self.journal_first, &mut self.is_stale, first);
         Ok(view)

@@ -58,12 +58,11 @@ impl<K: Label> Asked<K> for Held<K> {
     fn read(
         &mut self,
         alloc: Global,
-        _pass: &mut Pass<K>,
+        pass: &mut Pass<K>,
         query: &Query,
         now: Moment,
     ) -> Result<View, AllocError> {
-        let (snapshot, _) = Held::snapshot(self, alloc, query, now)?;
-        snapshot.into_view(alloc)
+        Held::read(self, alloc, pass, query, now)
     }
 
     fn checkpoint(&mut self, alloc: Global, pass: &mut Pass<K>) -> Result<(), AllocError> {

@@ -7,5 +7,5 @@ use Rattle.eu_http.proofs.text.head.Goals as goal
 pub returns : goal.returns
 returns c =
     let r = response_of c.args.response.now in
-    rw (c.in_ok-push_str.ensures.bytes, c.in_ok-push_close.ensures, c.in_ok-push_length.ensures, c.in_ok-push_type.ensures, c.in_ok-write.ensures.bytes, c.in_ok-text.ensures.bytes, c.len.ensures)
+    rw (c.in_ok-push_str.ensures.bytes, c.in_ok-push_close.ensures, c.in_ok-push_length.ensures, c.in_ok-push_type.ensures, c.in_ok-push_status.ensures, c.in_ok-text.ensures.bytes, c.len.ensures)
     (in_order (line (codes "HTTP/1.1 " ++ status_text r.status)) (type_line r.content) (length_line r.status (length (text_of r.content))) (close_line c.args.close) (line []))

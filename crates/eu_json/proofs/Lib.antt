@@ -4,14 +4,12 @@ pub mod BatchLemmas
 pub mod CaseLemmas
 pub mod ItemLemmas
 pub mod KeptLemmas
-pub mod KeyedLemmas
 pub mod LeadLemmas
 pub mod MemberLemmas
 pub mod OrderLemmas
 pub mod PartLemmas
 pub mod RunLemmas
 pub mod SaidLemmas
-pub mod StateLemmas
 pub mod TextLemmas
 pub mod ToldLemmas
 pub mod TreeLemmas

@@ -1,18 +1,10 @@
 -- What a listing of all has: an item for each application that holds a lease
-use Rattle.std.specs.Prelude.{◌≡◌, ℕ, true, List, map, filter, codes, Some, None}
+use Rattle.std.specs.Prelude.{◌≡◌, ℕ, true, List, map, filter, codes}
 use Rattle.std.specs.List.{flat_map}
-use Rattle.std.specs.FinMap.{FinMap, from_entries, get, is_sorted, keys}
+use Rattle.std.specs.FinMap.{FinMap, from_entries, is_sorted, keys}
 use Rattle.serde_json.specs.Data.{Data, string, object, no_members, member}
-use Rattle.eu_base.specs.declared.names.Key.{Key}
-use Rattle.eu_base.specs.declared.settings.Config.{Config}
 use Rattle.eu_base.specs.Values.{name_cmp, name_eq, key_cmp}
-use Rattle.eu_model.specs.declared.commands.Entry.{Entry}
-use Rattle.eu_model.specs.declared.states.State.{State}
 use Rattle.eu_model.specs.declared.views.Listed.{Listed}
-use Rattle.eu_model.specs.Machine.{Machine, Record}
-use Rattle.eu_model.specs.Server.{Server, Run, opened, plain_server}
-use Rattle.eu_model.specs.State.{server_of_state}
-use Rattle.eu_model.specs.View.{listing}
 use Rattle.eu_json.specs.Tree.{list_tree, listed_tree, item_tree, runs}
 
 -- ---- the items of a listing of all, application by application
@@ -48,22 +40,3 @@ ItemsAreOfApplications = (held : List Listed) → IsInKeyOrder held → map item
 -- And each lease is in one item: the leases of these applications, one application after the other, are all
 abbrev pub LeasesAreOfApplications : Type 0
 LeasesAreOfApplications = (held : List Listed) → IsInKeyOrder held → flat_map (leases_of held) (applications held) ≡ held
-
--- ---- states that a run reaches
-
--- Each lease stands under the key of its instance. So a listing of all is in key order, and its items are those that the listing of each
--- application has by itself
-pub record IsByApplication (s : Machine) : Type 0 where
-  pub keys : (k : Key) (r : Record) → get s.leases k ≡ Some r → r.instance.key ≡ k
-  pub order : IsInKeyOrder (listing None s)
-  pub items : map item_tree (runs (listing None s)) ≡ map (λ app. item_tree (listing (Some app) s)) (applications (listing None s))
-
--- it is so wherever entries lead from an opening
-abbrev pub OpenedAreByApplication : Type 0
-OpenedAreByApplication =
-    (config : Config) (expected peers : ℕ) (es : List Entry) (s : Server) → Run (opened config expected peers) es s → IsByApplication s.machine
-
--- and wherever they lead from plain data, as a checkpoint has it
-abbrev pub ResumedAreByApplication : Type 0
-ResumedAreByApplication =
-    (base : State) (from : Server) (es : List Entry) (s : Server) → plain_server from ≡ server_of_state base → Run from es s → IsByApplication s.machine

@@ -1,6 +1,6 @@
 //! Laws without code: what is read again of what was written, and what a listing of all has.
 ghost use Rattle.eu_json.specs.BatchLaw.{BatchesComeBack};
-ghost use Rattle.eu_json.specs.ListingLaw.{ItemsAreOfApplications, LeasesAreOfApplications, OpenedAreByApplication, ResumedAreByApplication};
+ghost use Rattle.eu_json.specs.ListingLaw.{ItemsAreOfApplications, LeasesAreOfApplications};
 
 /// A law without code: each task of a batch asks its receiver for a command, and each text whose JSON is that of `batch_text` says, at any
 /// moment, these commands in their order. That is for up to 250 tasks, each with just those of status and instance that its action has (a `Register`
@@ -26,12 +26,4 @@ pub fn batches_come_back()
 pub fn items_are_of_applications()
     ensures items { ItemsAreOfApplications }
     ensures leases { LeasesAreOfApplications }
-{}
-
-/// A law without code, over every run of the lease machine, from an opening or from plain data, as a checkpoint has it: in each state
-/// that entries lead to, each lease stands under the key of its instance. So a listing of all is in key order, and has one item for
-/// each application that holds a lease. The item is that of a query for the application alone.
-pub fn listings_are_by_application()
-    ensures opened { OpenedAreByApplication }
-    ensures resumed { ResumedAreByApplication }
 {}

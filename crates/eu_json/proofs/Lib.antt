@@ -1,3 +1,4 @@
+pub mod ApplicationLemmas
 pub mod BackLemmas
 pub mod BatchLemmas
 pub mod CaseLemmas

@@ -3,3 +3,4 @@ pub mod Tree
 pub mod Parts
 pub mod Batch
 pub mod BatchLaw
+pub mod ListingLaw

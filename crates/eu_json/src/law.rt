@@ -1,5 +1,6 @@
-//! What is read again of what was written.
+//! Laws without code: what is read again of what was written, and what a listing of all has.
 ghost use Rattle.eu_json.specs.BatchLaw.{BatchesComeBack};
+ghost use Rattle.eu_json.specs.ListingLaw.{ItemsAreOfApplications, LeasesAreOfApplications};
 
 /// A law without code: each task of a batch asks its receiver for a command, and each text whose JSON is that of `batch_text` says, at any
 /// moment, these commands in their order. That is for up to 250 tasks, each with just those of status and instance that its action has (a `Register`
@@ -12,4 +13,17 @@ ghost use Rattle.eu_json.specs.BatchLaw.{BatchesComeBack};
 /// to be taken back, with their instance's stamp; each as a peer's.
 pub fn batches_come_back()
     ensures { BatchesComeBack }
+{}
+
+/// A law without code: where leases are in key order, a listing of all has one item for each application that holds a lease, in the
+/// order of the names. The item has the name of the application and all its leases, in their order. And each lease is in one item: the
+/// leases of all items, one item after the other, are all that are listed.
+///
+/// Key order is that of the applications' names, by their bytes, and then that of the ids. (In Eureka an `Applications` has one
+/// `Application` for each name that has a lease, and none for a name without:
+/// `AbstractInstanceRegistry.getApplicationsFromMultipleRegions`. The order is left open there. This is what the wiki, "Eureka REST
+/// operations", answers to a query for all instances.)
+pub fn items_are_of_applications()
+    ensures items { ItemsAreOfApplications }
+    ensures leases { LeasesAreOfApplications }
 {}

@@ -14,6 +14,6 @@ mod write;
 
 pub use batch::read_batch;
 pub use batch_write::{ItemAnswer, append_answers, batch_text};
-pub use law::batches_come_back;
+pub use law::{batches_come_back, items_are_of_applications};
 pub use listings::{append_application, append_applications, append_held};
 pub use read::read_instance;

@@ -114,7 +114,8 @@ fn append_items(alloc: Global, out: &mut Vec<u8>, held: &[Listed]) -> Result<(),
 /// members are `application`, with one item for each application, `apps__hashcode`, the hash code of the statuses, and
 /// `versions__delta`, which is `1`. An item has an application's leases' instances as `instance`, and its name as `name`.
 ///
-/// An item ends where a lease of another application follows: where the leases are in key order, each application has one.
+/// An item ends where a lease of another application follows. Where the leases are in key order, each application has one, by the law
+/// `items_are_of_applications`. They are so in each state that a run reaches, by the law `listings_ascend` of `eu_book`.
 ///
 /// `AllocError` where no memory is left: then nothing is said of `out`.
 pub fn append_applications(

@@ -281,7 +281,7 @@ impl<K: Label> Held<K> {
         ensures before { IsLawful self.old.book }
         ensures same { (self.new ≡ self.old) × (pass.new ≡ pass.old) }
     {
-        let _totals = self.book.totals();
+        let _lawful = self.book.journal();
         self.totals.audit(&mut pass.shares);
         let snapshot = self.book.snapshot(alloc, query, moment)?;
         Ok((snapshot, self.book.journal().first))

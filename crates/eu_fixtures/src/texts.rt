@@ -1,4 +1,5 @@
 //! Texts put together from their parts.
+use crate::tells::tell_ids;
 use eu_base::Key;
 use std::alloc::{AllocError, Global};
 
@@ -32,9 +33,7 @@ pub fn text_of(alloc: Global, lines: &[&str]) -> Result<String, AllocError> {
 /// The ids of these keys, each after a space.
 pub fn ids(alloc: Global, keys: &[Key]) -> Result<String, AllocError> {
     let mut text = String::new(alloc);
-    for key in keys {
-        write!(text, " {}", key.id.as_str())?;
-    }
+    tell_ids(&mut text, keys)?;
     Ok(text)
 }
 

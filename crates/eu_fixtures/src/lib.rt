@@ -25,6 +25,6 @@ pub use messages::{
 };
 pub use parts::Parts;
 pub use tells::{tell_done, tell_fault, tell_ids, tell_queues, tell_read, tell_reply, tell_state};
-pub use texts::{ids, joined, push_each, push_number, text_of};
+pub use texts::{ids, joined, push_each, push_number, text_of, written_out};
 pub use told::{Told, content_of, cut, first_wrong, number_of, numbered, small_of};
 pub use values::{at, clock, instance, key, key_of, moment, settings};

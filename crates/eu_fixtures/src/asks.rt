@@ -1,11 +1,20 @@
 //! What the words of a script ask for.
 use crate::told::{number_of, numbered};
 use crate::values::moment;
-use eu_base::{App, Fault, Moment};
+use eu_base::{App, Config, Fault, Moment};
 use eu_lines::LineError;
 use eu_model::{Ask, Command, Query};
 use eu_words::{Line, read_line};
 use std::alloc::Global;
+
+/// What a line of a script says.
+pub fn read_said(alloc: Global, words: &str) -> Result<Line, Fault> {
+    match read_line(alloc, words.as_bytes()) {
+        Ok(line) => Ok(line),
+        Err(LineError::OutOfMemory) => Err(Fault::OutOfMemory),
+        Err(LineError::Bad) => Err(Fault::BadValue),
+    }
+}
 
 /// What a line asks for, and when.
 fn ask_of(line: Line) -> Result<(Moment, Ask), Fault> {
@@ -18,15 +27,6 @@ fn ask_of(line: Line) -> Result<(Moment, Ask), Fault> {
     }
 }
 
-/// The same of a script's line.
-fn read_said(alloc: Global, words: &str) -> Result<(Moment, Ask), Fault> {
-    match read_line(alloc, words.as_bytes()) {
-        Ok(line) => ask_of(line),
-        Err(LineError::OutOfMemory) => Err(Fault::OutOfMemory),
-        Err(LineError::Bad) => Err(Fault::BadValue),
-    }
-}
-
 /// What asks for the leases of an application, and when.
 fn read_of(alloc: Global, words: &str) -> Result<(Moment, Ask), Fault> {
     let (ms, app) = numbered(words)?;
@@ -34,22 +34,29 @@ fn read_of(alloc: Global, words: &str) -> Result<(Moment, Ask), Fault> {
     Ok((moment(ms)?, Ask::See(Query::OfApp(app))))
 }
 
-/// The same of words as a script's line has them; or of `all MS` or `of MS APP`, for all leases, or those of an application.
+/// What a script's line asks for, and when; or `all MS` or `of MS APP`, for all leases, or those of an application.
 pub fn read_ask(alloc: Global, words: &str) -> Result<(Moment, Ask), Fault> {
     if let Some(ms) = words.strip_prefix("all ") {
         return Ok((moment(number_of(ms)?)?, Ask::See(Query::All)));
     }
     match words.strip_prefix("of ") {
         Some(words) => read_of(alloc, words),
-        None => read_said(alloc, words),
+        None => ask_of(read_said(alloc, words)?),
     }
 }
 
-/// The command of a script's line.
-pub fn read_command(alloc: Global, words: &str) -> Result<Command, Fault> {
-    match read_line(alloc, words.as_bytes()) {
-        Ok(Line::Apply { command, .. }) => Ok(command),
-        Ok(_) | Err(LineError::Bad) => Err(Fault::BadValue),
-        Err(LineError::OutOfMemory) => Err(Fault::OutOfMemory),
+/// The command of a script's line, and its moment.
+pub fn read_command(alloc: Global, words: &str) -> Result<(Moment, Command), Fault> {
+    match read_said(alloc, words)? {
+        Line::Apply { moment, command } => Ok((moment, command)),
+        _ => Err(Fault::BadValue),
+    }
+}
+
+/// The settings of a line `config T on P I M`, as a script has it.
+pub fn read_config(alloc: Global, words: &str) -> Result<Config, Fault> {
+    match read_command(alloc, words)? {
+        (_, Command::Reconfigure { config }) => Ok(config),
+        _ => Err(Fault::BadValue),
     }
 }

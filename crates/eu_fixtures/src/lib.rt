@@ -14,7 +14,7 @@ mod texts;
 mod told;
 mod values;
 
-pub use asks::{read_ask, read_command};
+pub use asks::{read_ask, read_command, read_config, read_said};
 pub use commands::{registration, registration_for, renewal};
 pub use desks::done;
 pub use failing::{Brittle, KINDS, Torn, reads_of};
@@ -24,7 +24,7 @@ pub use messages::{
     REGISTERED, REGISTRATION, RENEWAL, looked,
 };
 pub use parts::Parts;
-pub use tells::{tell_fault, tell_queues, tell_read, tell_reply, tell_state};
-pub use texts::{ids, joined, push_each, push_number, text_of};
-pub use told::{Told, first_wrong, number_of, numbered, two};
+pub use tells::{tell_done, tell_fault, tell_ids, tell_queues, tell_read, tell_reply, tell_state};
+pub use texts::{ids, joined, push_each, push_number, text_of, written_out};
+pub use told::{Told, content_of, cut, first_wrong, number_of, numbered, small_of};
 pub use values::{at, clock, instance, key, key_of, moment, settings};

@@ -3,7 +3,8 @@ use eu_base::{Fault, Id, Key, Status, Task};
 use eu_model::{Listed, Queue, Reply, State, View};
 use std::alloc::AllocError;
 
-fn tell_keys(out: &mut String, keys: &[Key]) -> Result<(), AllocError> {
+/// Writes the ids of these keys, each after a space.
+pub fn tell_ids(out: &mut String, keys: &[Key]) -> Result<(), AllocError> {
     for key in keys {
         write!(out, " {}", key.id.as_str())?;
     }
@@ -23,7 +24,7 @@ pub fn tell_reply(out: &mut String, reply: &Reply) -> Result<(), AllocError> {
         Reply::Conflict(held) => write!(out, "Conflict {}", held.last_dirty().value()),
         Reply::Evicted(victims) => {
             out.push_str("Evicted")?;
-            tell_keys(out, victims.as_slice())
+            tell_ids(out, victims.as_slice())
         }
         Reply::Batch(tasks) => {
             out.push_str("Batch")?;
@@ -31,6 +32,12 @@ pub fn tell_reply(out: &mut String, reply: &Reply) -> Result<(), AllocError> {
         }
         other => write!(out, "{other:?}"),
     }
+}
+
+/// Writes that something is done, if it is.
+pub fn tell_done(out: &mut String, done: Result<(), Fault>) -> Result<(), Fault> {
+    done?;
+    Ok(out.push_str("done")?)
 }
 
 /// Writes the number of a fault.

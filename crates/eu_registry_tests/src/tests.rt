@@ -1,10 +1,9 @@
-//! The tests, by what they are of, and the lines in which their tables are told.
+//! The tests, by what they are of.
 mod deadlines;
 mod desk;
 mod eviction;
 mod index;
 mod lease;
-mod lines;
 mod memory;
 mod meter;
 mod registry;

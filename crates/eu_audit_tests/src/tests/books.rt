@@ -1,11 +1,11 @@
 //! What a book writes: its journal is a run from its base to what it is.
-use crate::tests::forms::{command, each, entries, state, verdict};
+use crate::tests::forms::{each, entries, state, verdict};
 use crate::tests::replies::{BASE, END, LINES};
 use eu_audit::audit;
 use eu_base::{Config, Fault};
 use eu_book::Book;
 use eu_clock::{Chooser, FirstChooser, ListChooser};
-use eu_fixtures::settings;
+use eu_fixtures::{read_command, settings};
 use eu_model::Reply;
 use std::alloc::Global;
 
@@ -26,7 +26,7 @@ pub fn tell<C: Chooser>(
     line: &str,
     chooser: &mut C,
 ) -> Result<usize, Fault> {
-    let (moment, command) = command(alloc, line)?;
+    let (moment, command) = read_command(alloc, line)?;
     let receipt = book.apply(alloc, pass, command, moment, chooser)?;
     let evicted = match &receipt.reply {
         Reply::Evicted(victims) => victims.as_slice().len(),

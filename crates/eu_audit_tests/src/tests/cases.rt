@@ -1,6 +1,7 @@
 //! Tables of cases: servers, entries, and what the auditor is to say of them.
 use crate::tests::forms::{judged, stands};
 use eu_base::Fault;
+use eu_fixtures::content_of;
 use std::alloc::Global;
 
 /// What the lines that follow tell.
@@ -105,10 +106,10 @@ pub fn judge(alloc: Global, table: &str) -> Result<usize, usize> {
     let mut number = 0usize;
     for line in table.lines() {
         number = number.saturating_add(1);
-        let line = line.trim();
-        let tells = !line.is_empty() && !line.starts_with('#');
-        if tells && case.take(alloc, line) != Ok(true) {
-            return Err(number);
+        if let Some(line) = content_of(line) {
+            if case.take(alloc, line) != Ok(true) {
+                return Err(number);
+            }
         }
     }
     if case.is_open {

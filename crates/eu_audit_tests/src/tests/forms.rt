@@ -18,35 +18,14 @@
 //! The id of a lease or a task may have words in braces, as `i{2,4,5}`: then there is one for each of them. So may a command, which is
 //! then told once with each. Numbers may be told as `i{0..10}`.
 use eu_audit::audit;
-use eu_base::{Action, Config, Fault, Id, Keys, Moment, Rest, SharedInstance, Status, Task, Tasks};
-use eu_fixtures::{key_of, moment, settings};
-use eu_lines::LineError;
+use eu_base::{
+    Action, Config, Fault, Id, Instance, Keys, Moment, Rest, SharedInstance, Status, Task, Tasks,
+};
+use eu_fixtures::{
+    content_of, cut, key_of, moment, number_of, numbered, read_command, read_config, settings,
+};
 use eu_model::{Command, Entry, Listed, Listing, OverrideRows, Queue, Queues, Reply, State, Times};
-use eu_words::{Line, read_line};
 use std::alloc::Global;
-use std::mem::replace;
-
-/// A number.
-fn number(text: &str) -> Result<u64, Fault> {
-    match text.parse::<u64>() {
-        Ok(number) => Ok(number),
-        Err(_) => Err(Fault::BadValue),
-    }
-}
-
-/// The first word of a text, and what is behind it.
-fn cut(text: &str) -> (&str, &str) {
-    match text.split_once(' ') {
-        Some((word, rest)) => (word, rest),
-        None => (text, ""),
-    }
-}
-
-/// The number that a text begins with, and what is behind it.
-fn leading(text: &str) -> Result<(u64, &str), Fault> {
-    let (word, rest) = cut(text);
-    Ok((number(word)?, rest))
-}
 
 /// A text once with each of the words that it has in braces.
 pub fn each(alloc: Global, text: &str) -> Result<Vec<String>, Fault> {
@@ -57,7 +36,7 @@ pub fn each(alloc: Global, text: &str) -> Result<Vec<String>, Fault> {
     };
     let (words, back) = rest.split_once('}').ok_or(Fault::BadValue)?;
     if let Some((from, to)) = words.split_once("..") {
-        for word in number(from)?..number(to)? {
+        for word in number_of(from)?..number_of(to)? {
             texts.push(format!(in alloc; "{front}{word}{back}")?)?;
         }
         return Ok(texts);
@@ -68,39 +47,17 @@ pub fn each(alloc: Global, text: &str) -> Result<Vec<String>, Fault> {
     Ok(texts)
 }
 
-/// What a line of a script says.
-fn said(alloc: Global, line: &str) -> Result<Line, Fault> {
-    match read_line(alloc, line.as_bytes()) {
-        Ok(line) => Ok(line),
-        Err(LineError::OutOfMemory) => Err(Fault::OutOfMemory),
-        Err(LineError::Bad) => Err(Fault::BadValue),
-    }
-}
-
-/// A command, and its moment.
-pub fn command(alloc: Global, line: &str) -> Result<(Moment, Command), Fault> {
-    match said(alloc, line)? {
-        Line::Apply { moment, command } => Ok((moment, command)),
-        _ => Err(Fault::BadValue),
-    }
-}
-
 /// The settings of these words.
 fn config(alloc: Global, words: &str) -> Result<Config, Fault> {
     let line = format!(in alloc; "config 0 {words}")?;
-    let (_, command) = command(alloc, line.as_str())?;
-    match command {
-        Command::Reconfigure { config } => Ok(config),
-        _ => Err(Fault::BadValue),
-    }
+    read_config(alloc, line.as_str())
 }
 
 /// The instance of these words.
 fn instance(alloc: Global, words: &str) -> Result<SharedInstance, Fault> {
     let line = format!(in alloc; "adopt 0 {words}")?;
-    let (_, command) = command(alloc, line.as_str())?;
-    match command {
-        Command::Adopt { instance } => Ok(instance),
+    match read_command(alloc, line.as_str())? {
+        (_, Command::Adopt { instance }) => Ok(instance),
         _ => Err(Fault::BadValue),
     }
 }
@@ -131,7 +88,7 @@ fn push_tasks(alloc: Global, tasks: &mut Vec<Task>, text: &str) -> Result<(), Fa
     };
     let (action, rest) = cut(task);
     let action = Action::read(action).ok_or(Fault::BadValue)?;
-    let (queued, rest) = leading(rest)?;
+    let (queued, rest) = numbered(rest)?;
     let queued = moment(queued)?;
     let (word, rest) = cut(rest);
     let status = status_or_none(word)?;
@@ -171,8 +128,8 @@ fn keys(alloc: Global, names: &str) -> Result<Keys, Fault> {
 fn telling_reply(alloc: Global, text: &str) -> Result<Reply, Fault> {
     let (word, rest) = cut(text);
     match word {
-        "last" => Ok(Reply::Last(number(rest)?)),
-        "expected" => Ok(Reply::Expected(number(rest)?)),
+        "last" => Ok(Reply::Last(number_of(rest)?)),
+        "expected" => Ok(Reply::Expected(number_of(rest)?)),
         "conflict" => Ok(Reply::Conflict(instance(alloc, rest)?)),
         "evicted" => Ok(Reply::Evicted(keys(alloc, rest)?)),
         "batch" => Ok(Reply::Batch(batch(alloc, rest)?)),
@@ -196,7 +153,7 @@ fn reply(alloc: Global, text: &str) -> Result<Reply, Fault> {
 
 /// The entry of a command and its reply, numbered 0, of pass 0.
 pub fn entry(alloc: Global, line: &str, answer: &str) -> Result<Entry, Fault> {
-    let (moment, command) = command(alloc, line)?;
+    let (moment, command) = read_command(alloc, line)?;
     let reply = reply(alloc, answer)?;
     Ok(Entry {
         pass: 0,
@@ -216,12 +173,11 @@ fn push_entries(alloc: Global, entries: &mut Vec<Entry>, line: &str) -> Result<(
     Ok(())
 }
 
-/// The entries of these lines, of which empty ones are none.
+/// The entries of the lines of a table.
 pub fn entries(alloc: Global, lines: &str) -> Result<Vec<Entry>, Fault> {
     let mut entries = Vec::new(alloc);
     for line in lines.lines() {
-        let line = line.trim();
-        if !line.is_empty() {
+        if let Some(line) = content_of(line) {
             push_entries(alloc, &mut entries, line)?;
         }
     }
@@ -230,17 +186,25 @@ pub fn entries(alloc: Global, lines: &str) -> Result<Vec<Entry>, Fault> {
 
 /// An instance like another, but for its id and its host, which is the id.
 fn with_id(alloc: Global, like: &SharedInstance, id: &str) -> Result<SharedInstance, Fault> {
-    let mut instance = like.to_instance(alloc)?;
-    drop(replace(&mut instance.key.id, Id::read(alloc, id)?));
-    drop(replace(&mut instance.rest, Rest::of_host(alloc, id)?));
+    let key = key_of(alloc, like.key().app.as_str(), id)?;
+    let rest = Rest::of_host(alloc, id)?;
+    let instance = Instance {
+        key,
+        status: like.status(),
+        overridden: like.overridden(),
+        last_dirty: like.last_dirty(),
+        secs: like.secs(),
+        interval: like.interval(),
+        rest,
+    };
     Ok(SharedInstance::new(alloc, instance)?)
 }
 
 /// The leases of a text, one for each id.
 fn push_leases(alloc: Global, leases: &mut Vec<Listed>, text: &str) -> Result<(), Fault> {
-    let (registered, rest) = leading(text)?;
-    let (updated, rest) = leading(rest)?;
-    let (up, words) = leading(rest)?;
+    let (registered, rest) = numbered(text)?;
+    let (updated, rest) = numbered(rest)?;
+    let (up, words) = numbered(rest)?;
     let times = Times {
         registered,
         updated,
@@ -300,12 +264,11 @@ impl Draft {
     fn take(&mut self, alloc: Global, line: &str) -> Result<(), Fault> {
         let (word, rest) = cut(line);
         match word {
-            "" => {}
             "config" => self.config = config(alloc, rest)?,
-            "expected" => self.expected = number(rest)?,
-            "last" => self.last = number(rest)?,
-            "since" => self.since = number(rest)?,
-            "previous" => self.previous = Some(moment(number(rest)?)?),
+            "expected" => self.expected = number_of(rest)?,
+            "last" => self.last = number_of(rest)?,
+            "since" => self.since = number_of(rest)?,
+            "previous" => self.previous = Some(moment(number_of(rest)?)?),
             "lease" => push_leases(alloc, &mut self.leases, rest)?,
             "row" => self.rows.push(row(alloc, rest)?)?,
             "peer" => self.queues.push((Vec::new(alloc), Vec::new(alloc)))?,
@@ -338,11 +301,13 @@ impl Draft {
     }
 }
 
-/// The server of these lines, of which empty ones tell nothing.
+/// The server of the lines of a table.
 pub fn state(alloc: Global, lines: &str) -> Result<State, Fault> {
     let mut draft = Draft::new(alloc)?;
     for line in lines.lines() {
-        draft.take(alloc, line.trim())?;
+        if let Some(line) = content_of(line) {
+            draft.take(alloc, line)?;
+        }
     }
     draft.finish(alloc)
 }

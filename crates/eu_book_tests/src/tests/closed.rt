@@ -1,6 +1,6 @@
 //! Books that were closed, and books that weren't: what their lines say, and what comes of each.
 use eu_base::Fault;
-use eu_fixtures::{Told, first_wrong, renewal, tell_fault, tell_state};
+use eu_fixtures::{Told, first_wrong, renewal, tell_done, tell_fault, tell_state};
 use eu_settle::{Closed, PassLog, settle};
 use eu_shared::{Label, Pass, Shared, Unclosed, close};
 use std::alloc::{AllocError, Global};
@@ -71,10 +71,7 @@ fn tell_closed(
         "base" => Ok(tell_state(out, &closed.base)?),
         "end" => Ok(tell_state(out, &closed.end)?),
         "settle" => Ok(write!(out, "{:?}", settle(closed))?),
-        _ => {
-            change(alloc, closed, said)?;
-            Ok(out.push_str("done")?)
-        }
+        _ => tell_done(out, change(alloc, closed, said)),
     }
 }
 

@@ -6,7 +6,7 @@ use crate::tests::ends::ends;
 use crate::tests::fakes::told;
 use crate::tests::smuggling::is_read;
 use eu_base::Fault;
-use eu_fixtures::{BAD_CHUNK, BAD_HEAD, Torn, numbered};
+use eu_fixtures::{BAD_CHUNK, BAD_HEAD, Torn, written_out};
 use std::alloc::Global;
 
 /// What is looked at of what comes of it.
@@ -26,29 +26,10 @@ pub enum Way {
     Otherwise,
 }
 
-fn push_repeated(out: &mut String, words: &str) -> Result<(), Fault> {
-    let (count, part) = numbered(words)?;
-    for _ in 0..count {
-        out.push_str(part)?;
-    }
-    Ok(())
-}
-
-/// A text in which what stands between these is written out.
-fn spelled(alloc: Global, text: &str, open: char, close: char) -> Result<String, Fault> {
-    let mut out = String::new(alloc);
-    for part in text.split(close) {
-        let (before, repeated) = part.split_once(open).unwrap_or((part, "0 "));
-        out.push_str(before)?;
-        push_repeated(&mut out, repeated)?;
-    }
-    Ok(out)
-}
-
 /// The bytes of what is sent.
 fn bytes_of(alloc: Global, sent: &str) -> Result<Vec<u8>, Fault> {
-    let sent = spelled(alloc, sent, '⟨', '⟩')?;
-    let sent = spelled(alloc, &sent, '‹', '›')?;
+    let sent = written_out(alloc, sent, '⟨', '⟩')?;
+    let sent = written_out(alloc, &sent, '‹', '›')?;
     if sent.is_ascii() {
         return Ok(sent.into_bytes());
     }

@@ -5,6 +5,7 @@
 use clap::ArgMatches;
 use clap::error::ErrorKind;
 use eu_base::{Config, Fault};
+use eu_fixtures::{Told, first_wrong};
 use eu_options::{command, config_of, journal_of, seed_of, serving_of};
 use std::alloc::{AllocError, Global};
 
@@ -33,7 +34,7 @@ fn tell_command(out: &mut String, name: &str, found: &ArgMatches<'_>) -> Result<
 }
 
 /// Writes what words say.
-fn tell<'a>(alloc: Global, words: &'a [&'a str], out: &mut String) -> Result<(), Fault> {
+fn tell_words<'a>(alloc: Global, words: &'a [&'a str], out: &mut String) -> Result<(), Fault> {
     let matches = match command(alloc)?.try_get_matches_from(words) {
         Ok(matches) => matches,
         Err(error) if error.kind() == ErrorKind::OutOfMemory => return Err(Fault::OutOfMemory),
@@ -45,27 +46,15 @@ fn tell<'a>(alloc: Global, words: &'a [&'a str], out: &mut String) -> Result<(),
     }
 }
 
-/// Whether a line is so.
-fn is_so(alloc: Global, line: &str) -> Result<bool, Fault> {
-    let Some((words, wanted)) = line.split_once(" = ") else {
-        return Err(Fault::BadValue);
-    };
-    let words: Vec<&str> = words.split(", ").collect(alloc)?;
-    let mut out = String::new(alloc);
-    tell(alloc, words.as_slice(), &mut out)?;
-    Ok(out.as_str() == wanted)
-}
+/// The command line.
+#[derive(Drop)]
+struct Options;
 
-/// The number, from 1, of the first line of a text that isn't so.
-fn first_wrong(alloc: Global, text: &str) -> Option<usize> {
-    let mut number = 1usize;
-    for line in text.lines() {
-        if is_so(alloc, line) != Ok(true) {
-            return Some(number);
-        }
-        number = number.saturating_add(1);
+impl Told for Options {
+    fn tell(&mut self, alloc: Global, said: &str, out: &mut String) -> Result<(), Fault> {
+        let words: Vec<&str> = said.split(", ").collect(alloc)?;
+        tell_words(alloc, words.as_slice(), out)
     }
-    None
 }
 
 /// An audit has the options of a script.
@@ -79,7 +68,7 @@ eureka, audit, --journal, day one.jsonl = audit true 85 30 60000 None Some("day 
 
 #[test]
 fn options_set_what_they_name(rt: HostRuntime) {
-    assert_eq!(rt; first_wrong(rt.alloc(), SCRIPTS), None);
+    assert_eq!(rt; first_wrong(rt.alloc(), &mut Options, SCRIPTS), None);
 }
 
 /// A server needs a port and a number of sessions, and has one to sixteen workers.
@@ -97,7 +86,7 @@ eureka, serve, --port, 8761, --sessions, 7, --workers, 17 = refused"#;
 
 #[test]
 fn other_words_are_refused(rt: HostRuntime) {
-    assert_eq!(rt; first_wrong(rt.alloc(), REFUSED), None);
+    assert_eq!(rt; first_wrong(rt.alloc(), &mut Options, REFUSED), None);
 }
 
 const SERVERS: &str =
@@ -107,5 +96,5 @@ eureka, serve, --journal=x, --port, 0, --sessions, 0 = serve true 85 30 60000 No
 
 #[test]
 fn a_server_has_what_its_options_say(rt: HostRuntime) {
-    assert_eq!(rt; first_wrong(rt.alloc(), SERVERS), None);
+    assert_eq!(rt; first_wrong(rt.alloc(), &mut Options, SERVERS), None);
 }

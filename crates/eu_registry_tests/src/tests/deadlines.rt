@@ -1,7 +1,7 @@
 //! The index of deadlines.
-use crate::tests::lines::{Told, cut, first_wrong, leading, number};
 use eu_base::Fault;
 use eu_deadlines::Deadlines;
+use eu_fixtures::{Told, cut, first_wrong, number_of, numbered};
 use std::alloc::Global;
 
 /// Writes how many deadlines were read, and the positions, in order, whose deadlines are before that limit.
@@ -22,30 +22,35 @@ fn tell_before(
 
 /// Changes an index: `push DEADLINE` adds one, `set POSITION DEADLINE` sets one, and `remove POSITION` takes one out.
 fn change(index: &mut Deadlines, verb: &str, words: &str) -> Result<(), Fault> {
-    let (first, rest) = leading(words)?;
+    let (first, rest) = numbered(words)?;
     let position = first as usize;
     match verb {
         "push" => {
             index.reserve()?;
             index.push(first);
         }
-        "set" if position < index.len() => index.set(position, number(rest)?),
+        "set" if position < index.len() => index.set(position, number_of(rest)?),
         "remove" if position < index.len() => index.swap_remove(position),
         _ => return Err(Fault::BadValue),
     }
     Ok(())
 }
 
-/// `before LIMIT` tells the deadlines that are before it, `new` begins with none, and another verb changes them and tells how many there are then.
-impl Told for Deadlines {
+/// An index. `before LIMIT` tells the deadlines that are before it, `new` begins with none, and another verb changes them and tells how many there are then.
+#[derive(Drop)]
+struct Desk {
+    index: Deadlines,
+}
+
+impl Told for Desk {
     fn tell(&mut self, alloc: Global, said: &str, out: &mut String) -> Result<(), Fault> {
         let (verb, rest) = cut(said);
         match verb {
-            "before" => return tell_before(alloc, self, number(rest)?, out),
-            "new" => *self = Deadlines::new(alloc),
-            _ => change(self, verb, rest)?,
+            "before" => return tell_before(alloc, &self.index, number_of(rest)?, out),
+            "new" => self.index = Deadlines::new(alloc),
+            _ => change(&mut self.index, verb, rest)?,
         }
-        Ok(write!(out, "{}", self.len())?)
+        Ok(write!(out, "{}", self.index.len())?)
     }
 }
 
@@ -70,6 +75,8 @@ const INDEXED: &str = "
 
 #[test]
 fn deadlines_are_set_and_taken(rt: HostRuntime) {
-    let mut index = Deadlines::new(rt.alloc());
-    assert_eq!(rt; first_wrong(rt.alloc(), &mut index, INDEXED), None);
+    let mut desk = Desk {
+        index: Deadlines::new(rt.alloc()),
+    };
+    assert_eq!(rt; first_wrong(rt.alloc(), &mut desk, INDEXED), None);
 }

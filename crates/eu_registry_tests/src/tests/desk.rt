@@ -1,12 +1,13 @@
 //! A registry, what is said to it, and what comes of that.
-use crate::tests::lines::{
-    Told, cut, first_wrong, number, read_app, read_opening, read_said, tell_done,
+use crate::tests::texts::{
+    read_app, read_opening, tell_answer, tell_lease, tell_listing, tell_plain, tell_step,
 };
-use crate::tests::texts::{tell_answer, tell_lease, tell_listing, tell_plain, tell_step};
 use eu_base::{Fault, Moment};
 use eu_clock::{Chooser, ListChooser};
 use eu_core::{Registry, Stepped};
-use eu_fixtures::{instance, moment, settings};
+use eu_fixtures::{
+    Told, cut, first_wrong, instance, moment, number_of, read_said, settings, tell_done,
+};
 use eu_model::{Command, Reply};
 use eu_words::Line;
 use std::alloc::Global;
@@ -94,7 +95,7 @@ fn step<C: Chooser>(
 /// Has clients i0 and so on register at 0, so many in all, of which none is held.
 fn fill(alloc: Global, registry: &mut Registry, words: &str) -> Result<(), Fault> {
     let now = moment(0)?;
-    for number in 0..number(words)? {
+    for number in 0..number_of(words)? {
         let id = format!(in alloc; "i{number}")?;
         let instance = instance(alloc, id.as_str(), 0, 90)?;
         match registry.register(alloc, &instance, false, now)? {
@@ -123,7 +124,7 @@ impl Desk {
     fn draw(&mut self, alloc: Global, words: &str) -> Result<(), Fault> {
         let mut drawn = Vec::new(alloc);
         for word in words.split(' ') {
-            drawn.push(number(word)?)?;
+            drawn.push(number_of(word)?)?;
         }
         self.chooser = ListChooser::new(drawn);
         Ok(())

@@ -1,11 +1,9 @@
 //! Override rows, and an eviction by given words, with what it leaves worked out by hand.
-use crate::tests::lines::{Told, cut, first_wrong, tell_done};
 use crate::tests::store::put_each;
-use crate::tests::texts::tell_ids;
 use eu_base::{Config, Fault, Id, Status};
 use eu_clock::ListChooser;
 use eu_eviction::{Overrides, run_eviction};
-use eu_fixtures::moment;
+use eu_fixtures::{Told, cut, first_wrong, moment, tell_done, tell_ids};
 use eu_store::Leases;
 use std::alloc::Global;
 use std::test::Fail;

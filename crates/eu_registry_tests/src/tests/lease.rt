@@ -1,38 +1,43 @@
 //! Leases, with moments and statuses worked out by hand.
-use crate::tests::lines::{Told, cut, first_wrong, leading, number, small};
 use eu_base::{Fault, LeaseSecs, Status};
-use eu_fixtures::{at, moment};
+use eu_fixtures::{Told, at, cut, first_wrong, moment, number_of, numbered, small_of};
 use eu_lease::{Lease, override_rule};
 use std::alloc::Global;
 
 /// The lease made anew at a moment, for so many seconds.
 fn anew(lease: Lease, words: &str) -> Result<Lease, Fault> {
-    let (ms, secs) = leading(words)?;
-    let secs = LeaseSecs::new(small(secs)?).ok_or(Fault::BadDuration)?;
+    let (ms, secs) = numbered(words)?;
+    let secs = LeaseSecs::new(small_of(secs)?).ok_or(Fault::BadDuration)?;
     Ok(lease.anew(moment(ms)?, secs))
 }
 
-/// `fresh T` makes it, for the default duration; `renew T` renews it, `up T` has its instance come up, and `anew T SECS` makes it anew. Then it is
+/// A lease. `fresh T` makes it, for the default duration; `renew T` renews it, `up T` has its instance come up, and `anew T SECS` makes it anew. Then it is
 /// told when it was registered, when its instance came up, its last update, its deadline, and its duration. `expired T EXTRA` tells whether it has
 /// expired, and `times` its moments.
-impl Told for Lease {
+#[derive(Clone, Copy)]
+struct Desk {
+    lease: Lease,
+}
+
+impl Told for Desk {
     fn tell(&mut self, _alloc: Global, said: &str, out: &mut String) -> Result<(), Fault> {
         let (verb, rest) = cut(said);
+        let lease = &mut self.lease;
         match verb {
-            "fresh" => *self = Lease::fresh(moment(number(rest)?)?, LeaseSecs::DEFAULT),
-            "renew" => self.renew(moment(number(rest)?)?),
-            "up" => self.service_up(moment(number(rest)?)?),
-            "anew" => *self = anew(*self, rest)?,
+            "fresh" => *lease = Lease::fresh(moment(number_of(rest)?)?, LeaseSecs::DEFAULT),
+            "renew" => lease.renew(moment(number_of(rest)?)?),
+            "up" => lease.service_up(moment(number_of(rest)?)?),
+            "anew" => *lease = anew(*lease, rest)?,
             "expired" => {
-                let (ms, extra) = leading(rest)?;
-                let expired = self.expired(moment(ms)?, number(extra)?);
+                let (ms, extra) = numbered(rest)?;
+                let expired = lease.expired(moment(ms)?, number_of(extra)?);
                 return Ok(write!(out, "{expired}")?);
             }
-            "times" => return Ok(write!(out, "{:?}", self.times())?),
+            "times" => return Ok(write!(out, "{:?}", lease.times())?),
             _ => return Err(Fault::BadValue),
         }
-        let (registered, up, updated) = (self.registered(), self.up(), self.updated());
-        let (deadline, secs) = (self.deadline(), self.secs().secs());
+        let (registered, up, updated) = (lease.registered(), lease.up(), lease.updated());
+        let (deadline, secs) = (lease.deadline(), lease.secs().secs());
         Ok(write!(out, "{registered} {up} {updated} {deadline} {secs}")?)
     }
 }
@@ -59,8 +64,8 @@ const LASTING: &str = "
 
 #[test]
 fn a_lease_lasts_one_duration_and_a_renewed_one_two(rt: HostRuntime) {
-    let mut lease = Lease::fresh(at(0), LeaseSecs::DEFAULT);
-    assert_eq!(rt; first_wrong(rt.alloc(), &mut lease, LASTING), None);
+    let lease = Lease::fresh(at(0), LeaseSecs::DEFAULT);
+    assert_eq!(rt; first_wrong(rt.alloc(), &mut Desk { lease }, LASTING), None);
 }
 
 #[test]

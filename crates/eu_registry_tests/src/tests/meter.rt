@@ -1,7 +1,7 @@
 //! Rates and thresholds, worked out by hand.
-use crate::tests::lines::{Told, cut, first_wrong, number, read_config, read_opening, small};
+use crate::tests::texts::read_opening;
 use eu_base::{Config, Fault, Percent};
-use eu_fixtures::settings;
+use eu_fixtures::{Told, cut, first_wrong, number_of, read_config, settings, small_of};
 use eu_lease::{Rate, Threshold, evict_limit};
 use std::alloc::Global;
 use std::test::Fail;
@@ -46,10 +46,10 @@ impl Told for Meter {
                 let clients = self.threshold.one_more()?;
                 self.threshold.expect(clients);
             }
-            "left" => self.threshold.left_by(number(rest)? as usize),
-            "update" => self.threshold.update(small(rest)?),
+            "left" => self.threshold.left_by(number_of(rest)? as usize),
+            "update" => self.threshold.update(small_of(rest)?),
             "permitted" => {
-                let permitted = self.threshold.permitted(number(rest)?);
+                let permitted = self.threshold.permitted(number_of(rest)?);
                 return Ok(write!(out, "{permitted}")?);
             }
             _ => return Err(Fault::BadValue),

@@ -1,8 +1,9 @@
 //! A table of leases: what is said to it, and what comes of that, worked out by hand.
-use crate::tests::lines::{Told, cut, first_wrong, number, read_app, read_said, tell_done};
-use crate::tests::texts::{tell_ids, tell_lease, tell_listing};
+use crate::tests::texts::{read_app, tell_lease, tell_listing};
 use eu_base::{Fault, Key, Moment, SharedInstance, Status};
-use eu_fixtures::{instance, key, moment};
+use eu_fixtures::{
+    Told, cut, first_wrong, instance, key, moment, number_of, read_said, tell_done, tell_ids,
+};
 use eu_lease::Lease;
 use eu_model::Command;
 use eu_store::{Amendment, HeldLease, Leases, Place, Snapshot};
@@ -145,7 +146,7 @@ impl Desk {
     /// Begins anew with so many, each made at the moment of its number.
     fn fill(&mut self, alloc: Global, words: &str) -> Result<(), Fault> {
         *self = Desk::new(alloc);
-        for number in 0..number(words)? {
+        for number in 0..number_of(words)? {
             let id = format!(in alloc; "j{number}")?;
             put_one(alloc, &mut self.leases, id.as_str(), number)?;
         }
@@ -160,7 +161,7 @@ impl Desk {
     }
 
     fn tell_expired(&self, alloc: Global, words: &str, out: &mut String) -> Result<(), Fault> {
-        let now = moment(number(words)?)?;
+        let now = moment(number_of(words)?)?;
         let (counted, read) = self.leases.expired_counted(alloc, now, 0)?;
         write!(out, "{} {read}:", counted.len())?;
         drop(counted);
@@ -180,7 +181,7 @@ impl Desk {
     }
 
     fn tell_snapshot(&self, alloc: Global, words: &str, out: &mut String) -> Result<(), Fault> {
-        let Some(snapshot) = self.snapshots.get(number(words)? as usize) else {
+        let Some(snapshot) = self.snapshots.get(number_of(words)? as usize) else {
             return Err(Fault::BadValue);
         };
         let leases = snapshot.listed(alloc)?;

@@ -1,27 +1,22 @@
-//! What comes of calls, as text.
-use eu_base::{Fault, Key, SharedInstance};
+//! What calls are given, from text, and what comes of them, as text.
+use eu_base::{App, Config, Fault, SharedInstance};
 use eu_core::Stepped;
+use eu_fixtures::{cut, read_config, small_of, tell_fault, tell_reply};
 use eu_model::{Listed, Reply, State, Times};
-use std::alloc::AllocError;
+use std::alloc::{AllocError, Global};
 
-/// Writes ids, each behind a space.
-pub fn tell_ids(out: &mut String, keys: &[Key]) -> Result<(), AllocError> {
-    for key in keys {
-        write!(out, " {}", key.id.as_str())?;
+/// An application, if there is one in these words.
+pub fn read_app(alloc: Global, words: &str) -> Result<Option<App>, Fault> {
+    if words.is_empty() {
+        return Ok(None);
     }
-    Ok(())
+    Ok(Some(App::read(alloc, words)?))
 }
 
-/// Writes a reply: of a conflict the stamp that is held, of an eviction the ids.
-fn tell_reply(out: &mut String, reply: &Reply) -> Result<(), AllocError> {
-    match reply {
-        Reply::Conflict(held) => write!(out, "Conflict {}", held.last_dirty().value()),
-        Reply::Evicted(victims) => {
-            out.push_str("Evicted")?;
-            tell_ids(out, victims.as_slice())
-        }
-        other => write!(out, "{other:?}"),
-    }
+/// A number of clients, and the settings that a line `config T on P I M` behind it has.
+pub fn read_opening(alloc: Global, words: &str) -> Result<(u32, Config), Fault> {
+    let (expected, words) = cut(words);
+    Ok((small_of(expected)?, read_config(alloc, words)?))
 }
 
 /// Writes what a call is answered, but for a want of memory, which stays a fault.
@@ -29,7 +24,7 @@ pub fn tell_answer(out: &mut String, answer: Result<Reply, Fault>) -> Result<(),
     match answer {
         Ok(reply) => Ok(tell_reply(out, &reply)?),
         Err(Fault::OutOfMemory) => Err(Fault::OutOfMemory),
-        Err(fault) => Ok(write!(out, "refused {}", fault.number())?),
+        Err(fault) => Ok(tell_fault(out, fault)?),
     }
 }
 

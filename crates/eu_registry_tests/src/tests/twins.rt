@@ -1,6 +1,6 @@
 //! Want of memory. In a usual run no allocation is refused; `tools/sweep_memory.sh` refuses one after another.
-use crate::tests::lines::{Told, says};
 use eu_base::Fault;
+use eu_fixtures::{Told, content_of};
 use std::alloc::Global;
 
 /// An answer has so much room: then none is told without memory once the call was made.
@@ -57,7 +57,7 @@ fn tell_other<T: Told>(
     other.tell(alloc, said, out)
 }
 
-/// Whether that comes of a line, of both.
+/// Whether a line says nothing, or that comes of it, of both.
 fn comes<T: Told>(
     alloc: Global,
     tried: &mut T,
@@ -66,6 +66,9 @@ fn comes<T: Told>(
     line: &str,
     out: &mut String,
 ) -> Result<bool, Fault> {
+    let Some(line) = content_of(line) else {
+        return Ok(true);
+    };
     let (said, wanted) = line.split_once(" = ").ok_or(Fault::BadValue)?;
     tell_tried(alloc, tried, other, word, said, out)?;
     let comes = out.as_str() == wanted;
@@ -86,8 +89,7 @@ pub fn first_wrong_of_both<T: Told>(
     let mut number = 0usize;
     for line in table.lines() {
         number = number.saturating_add(1);
-        let line = line.trim();
-        if says(line) && comes(alloc, tried, other, word, line, &mut out) != Ok(true) {
+        if comes(alloc, tried, other, word, line, &mut out) != Ok(true) {
             return Ok(Some(number));
         }
     }

@@ -3,7 +3,7 @@ ghost use Rattle.std.specs.Prelude.{None};
 
 use eu_base::Fault;
 use eu_clock::{Clock, ListClock};
-use eu_fixtures::{clock, numbered};
+use eu_fixtures::{clock, written_out};
 use eu_model::Desk;
 use eu_routes::Routes;
 use eu_session::{SessionFault, serve_session};
@@ -86,22 +86,8 @@ pub fn told<D: Desk, R: Source>(
     Ok(told?)
 }
 
-fn push_repeated(out: &mut String, words: &str) -> Result<(), Fault> {
-    let (count, part) = numbered(words)?;
-    for _ in 0..count {
-        out.push_str(part)?;
-    }
-    Ok(())
-}
-
 /// A text with its marks written out: `¶` is CR LF, `␤` is LF, and `‹3 ab›` is `ababab`.
 pub fn spelled(alloc: Global, text: &str) -> Result<String, Fault> {
     let text = text.replace(alloc, "¶", "\r\n")?.replace(alloc, "␤", "\n")?;
-    let mut out = String::new(alloc);
-    for part in text.as_str().split('›') {
-        let (before, repeated) = part.split_once('‹').unwrap_or((part, "0 "));
-        out.push_str(before)?;
-        push_repeated(&mut out, repeated)?;
-    }
-    Ok(out)
+    written_out(alloc, text.as_str(), '‹', '›')
 }

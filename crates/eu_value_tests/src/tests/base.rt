@@ -1,9 +1,8 @@
 //! Values from Eureka's own names and from the limits of each type.
 use eu_base::{
-    Action, App, Codes, Config, Fault, Id, Instance, Key, LeaseSecs, Moment, RenewalSecs, Rest,
-    SharedInstance, Stamp, Status, Task,
+    Action, App, Codes, Config, Fault, Id, Key, Moment, Rest, SharedInstance, Stamp, Status, Task,
 };
-use eu_fixtures::{Told, first_wrong, key_of, moment, number_of, two};
+use eu_fixtures::{Told, cut, first_wrong, instance, key, key_of, moment, number_of};
 use serde_json::Value;
 use std::alloc::{AllocError, Global};
 
@@ -57,7 +56,7 @@ fn read_key(alloc: Global, text: &str) -> Result<Key, Fault> {
 }
 
 fn tell_keys(alloc: Global, text: &str, out: &mut String) -> Result<(), Fault> {
-    let (one, other) = two(text)?;
+    let (one, other) = cut(text);
     let one = read_key(alloc, one)?;
     let other = read_key(alloc, other)?;
     Ok(tell_order(&one, &other, out)?)
@@ -70,14 +69,14 @@ fn tell_key_copy(alloc: Global, text: &str, out: &mut String) -> Result<(), Faul
 }
 
 fn tell_apps(alloc: Global, text: &str, out: &mut String) -> Result<(), Fault> {
-    let (one, other) = two(text)?;
+    let (one, other) = cut(text);
     let one = App::read(alloc, one)?;
     let other = App::read(alloc, other)?;
     Ok(tell_order(&one, &other, out)?)
 }
 
 fn tell_ids(alloc: Global, text: &str, out: &mut String) -> Result<(), Fault> {
-    let (one, other) = two(text)?;
+    let (one, other) = cut(text);
     let one = Id::read(alloc, one)?;
     let other = Id::read(alloc, other)?;
     Ok(tell_order(&one, &other, out)?)
@@ -85,7 +84,7 @@ fn tell_ids(alloc: Global, text: &str, out: &mut String) -> Result<(), Fault> {
 
 impl Told for Names {
     fn tell(&mut self, alloc: Global, said: &str, out: &mut String) -> Result<(), Fault> {
-        let (word, text) = two(said)?;
+        let (word, text) = cut(said);
         match word {
             "app" => tell_app(alloc, text, out),
             "id" => tell_id(alloc, text, out),
@@ -186,77 +185,68 @@ fn settings_have_limits(rt: HostRuntime) {
     }
 }
 
-/// Values that are compared or copied. It is told whether two of them are the same: `instances STATUS STATUS` by their overridden status, `tasks MS MS` by when they were
-/// queued, `codes N N` by their last code. `copy STATUS` tells the copy of an instance.
+/// Values that are compared or shared. It is told whether two of them are the same: `instances STATUS STATUS` by their overridden status, `tasks MS MS` by when they were
+/// queued, `codes N N` by their last code. `share STATUS` tells what shares an instance, and whether it is the same.
 #[derive(Drop)]
 struct Plain;
 
-fn instance(alloc: Global, overridden: &str) -> Result<Instance, Fault> {
-    let overridden = Status::read(overridden.as_bytes()).ok_or(Fault::BadValue)?;
-    let last_dirty = Stamp::new(7).ok_or(Fault::BadStamp)?;
-    let key = key_of(alloc, "a", "i1")?;
-    let rest = Rest::of_host(alloc, "i1")?;
-    Ok(Instance {
-        key,
-        status: Status::Starting,
-        overridden,
-        last_dirty,
-        secs: LeaseSecs::DEFAULT,
-        interval: RenewalSecs::DEFAULT,
-        rest,
-    })
+fn overridden(alloc: Global, status: &str) -> Result<SharedInstance, Fault> {
+    let status = Status::read(status.as_bytes()).ok_or(Fault::BadValue)?;
+    let mut instance = instance(alloc, "i1", 7, 90)?;
+    instance.set_statuses(Status::Starting, status);
+    Ok(instance)
 }
 
 /// Tells the name, the statuses, the numbers and how many other members an instance has.
-fn tell_instance(alloc: Global, instance: &Instance, out: &mut String) -> Result<(), Fault> {
+fn tell_instance(alloc: Global, instance: &SharedInstance, out: &mut String) -> Result<(), Fault> {
     write!(
         out,
         "{} {} {} {}",
-        instance.key.app.as_str(),
-        instance.key.id.as_str(),
-        instance.status.name(),
-        instance.overridden.name(),
+        instance.key().app.as_str(),
+        instance.key().id.as_str(),
+        instance.status().name(),
+        instance.overridden().name(),
     )?;
     write!(
         out,
         " {} {} {}",
-        instance.last_dirty.value(),
-        instance.secs.secs(),
-        instance.interval.secs(),
+        instance.last_dirty().value(),
+        instance.secs().secs(),
+        instance.interval().secs(),
     )?;
-    let members = instance.rest.to_members(alloc)?;
+    let members = instance.rest().to_members(alloc)?;
     Ok(write!(out, " {}", members.len())?)
 }
 
-fn tell_copy(alloc: Global, overridden: &str, out: &mut String) -> Result<(), Fault> {
-    let instance = instance(alloc, overridden)?;
-    let copy = instance.copy(alloc)?;
-    tell_instance(alloc, &copy, out)?;
-    Ok(write!(out, " {}", instance.rest.same(&copy.rest))?)
+fn tell_shared(alloc: Global, status: &str, out: &mut String) -> Result<(), Fault> {
+    let instance = overridden(alloc, status)?;
+    let shared = instance.share()?;
+    tell_instance(alloc, &shared, out)?;
+    Ok(write!(out, " {}", shared.same(&instance))?)
 }
 
 fn tell_instances(alloc: Global, text: &str, out: &mut String) -> Result<(), Fault> {
-    let (one, other) = two(text)?;
-    let one = instance(alloc, one)?;
-    let other = instance(alloc, other)?;
+    let (one, other) = cut(text);
+    let one = overridden(alloc, one)?;
+    let other = overridden(alloc, other)?;
     Ok(write!(out, "{}", one.same(&other))?)
 }
 
 fn task(alloc: Global, queued: &str) -> Result<Task, Fault> {
     let queued = moment(number_of(queued)?)?;
-    let key = key_of(alloc, "a", "i1")?;
-    let instance = instance(alloc, "UP")?;
+    let key = key(alloc, "i1")?;
+    let instance = overridden(alloc, "UP")?;
     Ok(Task {
         action: Action::StatusUpdate,
         key,
         status: Some(Status::Up),
-        instance: Some(SharedInstance::new(alloc, instance)?),
+        instance: Some(instance),
         queued,
     })
 }
 
 fn tell_tasks(alloc: Global, text: &str, out: &mut String) -> Result<(), Fault> {
-    let (one, other) = two(text)?;
+    let (one, other) = cut(text);
     let one = task(alloc, one)?;
     let other = task(alloc, other)?;
     Ok(write!(out, "{}", one.same(&other))?)
@@ -268,7 +258,7 @@ fn codes(alloc: Global, last: &str) -> Result<Codes, Fault> {
 }
 
 fn tell_codes(alloc: Global, text: &str, out: &mut String) -> Result<(), Fault> {
-    let (one, other) = two(text)?;
+    let (one, other) = cut(text);
     let one = codes(alloc, one)?;
     let other = codes(alloc, other)?;
     Ok(write!(out, "{}", one.same(&other))?)
@@ -276,9 +266,9 @@ fn tell_codes(alloc: Global, text: &str, out: &mut String) -> Result<(), Fault> 
 
 impl Told for Plain {
     fn tell(&mut self, alloc: Global, said: &str, out: &mut String) -> Result<(), Fault> {
-        let (word, text) = two(said)?;
+        let (word, text) = cut(said);
         match word {
-            "copy" => tell_copy(alloc, text, out),
+            "share" => tell_shared(alloc, text, out),
             "instances" => tell_instances(alloc, text, out),
             "tasks" => tell_tasks(alloc, text, out),
             "codes" => tell_codes(alloc, text, out),
@@ -287,7 +277,7 @@ impl Told for Plain {
     }
 }
 
-const PLAIN: &str = "copy OUT_OF_SERVICE = A i1 STARTING OUT_OF_SERVICE 7 90 30 3 true
+const PLAIN: &str = "share OUT_OF_SERVICE = A i1 STARTING OUT_OF_SERVICE 7 90 30 3 true
 instances DOWN DOWN = true
 instances DOWN UNKNOWN = false
 tasks 5 5 = true
@@ -296,7 +286,7 @@ codes 404 404 = true
 codes 404 409 = false";
 
 #[test]
-fn values_are_copied_and_compared(rt: HostRuntime) {
+fn values_are_shared_and_compared(rt: HostRuntime) {
     assert_eq!(rt; first_wrong(rt.alloc(), &mut Plain, PLAIN), None);
 }
 

@@ -1,7 +1,7 @@
 //! Commands, replies and lists: how they are copied, compared and counted.
 use eu_base::{Action, Config, Fault, Id, Key, Keys, Status, Task, Tasks};
 use eu_fixtures::{
-    Told, first_wrong, instance, key, key_of, moment, number_of, read_command, settings, two,
+    Told, cut, first_wrong, instance, key, key_of, moment, number_of, read_command, settings,
 };
 use eu_model::{Command, Listed, Listing, OverrideRows, Reply, Tally, Times};
 use std::alloc::{AllocError, Global};
@@ -51,7 +51,7 @@ fn conflict(alloc: Global, stamp: &str) -> Result<Reply, Fault> {
 
 /// A reply, told as a word and what it has: `conflict STAMP`, `evicted APP/ID ..`, `batch STATUS` of one task.
 fn reply(alloc: Global, words: &str) -> Result<Reply, Fault> {
-    let (word, rest) = words.split_once(' ').unwrap_or((words, ""));
+    let (word, rest) = cut(words);
     match word {
         "fresh" => Ok(Reply::Registered { fresh: true }),
         "done" => Ok(Reply::Done),
@@ -146,7 +146,7 @@ fn tell_reply_copy(alloc: Global, words: &str, out: &mut String) -> Result<(), F
 }
 
 fn tell_copy(alloc: Global, words: &str, out: &mut String) -> Result<(), Fault> {
-    let command = read_command(alloc, words)?;
+    let (_, command) = read_command(alloc, words)?;
     let copy = command.copy(alloc)?;
     tell_command(&copy, out)?;
     Ok(write!(out, " {}", copy.same(&command))?)
@@ -161,14 +161,14 @@ fn tell_replies(alloc: Global, text: &str, out: &mut String) -> Result<(), Fault
 
 fn tell_commands(alloc: Global, text: &str, out: &mut String) -> Result<(), Fault> {
     let (one, other) = parts(text)?;
-    let one = read_command(alloc, one)?;
-    let other = read_command(alloc, other)?;
+    let (_, one) = read_command(alloc, one)?;
+    let (_, other) = read_command(alloc, other)?;
     Ok(write!(out, "{}", one.same(&other))?)
 }
 
 fn tell_tally(alloc: Global, text: &str, out: &mut String) -> Result<(), Fault> {
     let (line, words) = parts(text)?;
-    let command = read_command(alloc, line)?;
+    let (_, command) = read_command(alloc, line)?;
     let reply = reply(alloc, words)?;
     let Tally {
         steps,
@@ -181,7 +181,7 @@ fn tell_tally(alloc: Global, text: &str, out: &mut String) -> Result<(), Fault> 
 
 impl Told for Machine {
     fn tell(&mut self, alloc: Global, said: &str, out: &mut String) -> Result<(), Fault> {
-        let (word, text) = two(said)?;
+        let (word, text) = cut(said);
         match word {
             "copy-reply" => tell_reply_copy(alloc, text, out),
             "copy" => tell_copy(alloc, text, out),
@@ -289,16 +289,4 @@ fn shows_a_row(alloc: Global) -> Result<bool, Fault> {
 fn lists_show_what_they_hold(rt: HostRuntime) {
     assert!(rt; shows_a_lease(rt.alloc()) == Ok(true));
     assert!(rt; shows_a_row(rt.alloc()) == Ok(true));
-}
-
-/// The durations of an instance, and of what shares it.
-fn shared_secs(alloc: Global) -> Result<(u32, u32), Fault> {
-    let instance = instance(alloc, "i1", 7, 90)?;
-    let copy = instance.share()?;
-    Ok((instance.secs().secs(), copy.secs().secs()))
-}
-
-#[test]
-fn instances_are_shared(rt: HostRuntime) {
-    assert!(rt; shared_secs(rt.alloc()) == Ok((90, 90)));
 }

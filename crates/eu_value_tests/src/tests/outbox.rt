@@ -1,6 +1,6 @@
 //! Values from the rules of Eureka's batches, worked out by hand.
 use eu_base::{Action, Fault, Moment, Status, Task, Tasks};
-use eu_fixtures::{key, moment, number_of, two};
+use eu_fixtures::{cut, key, moment, number_of, numbered};
 use eu_outbox::Outbox;
 use std::alloc::{AllocError, Global};
 
@@ -147,8 +147,8 @@ fn fill_between(
     numbers: &str,
     now: Moment,
 ) -> Result<(), Fault> {
-    let (first, end) = two(numbers)?;
-    fill(alloc, outbox, number_of(first)?, number_of(end)?, now)
+    let (first, end) = numbered(numbers)?;
+    fill(alloc, outbox, first, number_of(end)?, now)
 }
 
 /// The action of a word.
@@ -164,9 +164,9 @@ fn action_of(word: &str) -> Result<Action, Fault> {
 /// Makes a call, which is told as `MS WORD ..`. `ACTION ID` puts a task, and `fill FROM TO` heartbeats of as many ids. `drain`, `lost` and `landed CODE ..` are what they say; `ends` is
 /// a drain of which less is told, and `batches N` one for so many. `refusals` tells what would be refused.
 fn step(alloc: Global, outbox: &mut Outbox, out: &mut String, call: &str) -> Result<(), Fault> {
-    let (ms, said) = two(call)?;
-    let now = moment(number_of(ms)?)?;
-    let (word, rest) = said.split_once(' ').unwrap_or((said, ""));
+    let (ms, said) = numbered(call)?;
+    let now = moment(ms)?;
+    let (word, rest) = cut(said);
     match word {
         "drain" => Ok(drain(alloc, outbox, out, now)?),
         "ends" => drain_ends(alloc, outbox, out, now),

@@ -10,7 +10,7 @@ use std::alloc::Global;
 
 /// Tells a book at 0 what a script's words say.
 fn tell(alloc: Global, book: &mut Book, words: &str) -> Result<(), Fault> {
-    let command = read_command(alloc, words)?;
+    let (_, command) = read_command(alloc, words)?;
     let receipt = book.apply(alloc, 0, command, at(0), &mut FirstChooser)?;
     drop(receipt);
     Ok(())

@@ -3,8 +3,8 @@ use eu_base::{Action, Fault, Moment, Task};
 use eu_book::{Book, Receipt};
 use eu_clock::{FirstChooser, ListClock};
 use eu_fixtures::{
-    Told, at, first_wrong, key, moment, number_of, read_ask, read_command, settings, tell_fault,
-    tell_read, tell_reply,
+    Told, at, cut, first_wrong, key, moment, number_of, read_ask, read_command, settings,
+    tell_fault, tell_read, tell_reply,
 };
 use eu_in_process::InProcess;
 use eu_model::{Ask, Query, View};
@@ -190,7 +190,7 @@ fn tell_code(
 fn sends_batch(alloc: Global, pair: &mut Pair, size: usize) -> Result<bool, Fault> {
     for number in 0..size {
         let words = format!(in alloc; "register 0 A j{number} 90 UP UNKNOWN 5 c")?;
-        let command = read_command(alloc, words.as_str())?;
+        let (_, command) = read_command(alloc, words.as_str())?;
         drop(words);
         let receipt = pair
             .here
@@ -223,7 +223,7 @@ fn tell_sizes(alloc: Global, pair: &mut Pair, most: &str, out: &mut String) -> R
 
 impl Told for Pair {
     fn tell(&mut self, alloc: Global, said: &str, out: &mut String) -> Result<(), Fault> {
-        let (word, rest) = said.split_once(' ').unwrap_or((said, ""));
+        let (word, rest) = cut(said);
         let (here, there) = (&mut self.here, &mut self.there);
         match word {
             "here" => tell_book(alloc, here, rest, out),

@@ -8,5 +8,5 @@ returns-clause-view g c = (
   c.snapshot.ensures.before,
   c.snapshot.ensures.after_own,
   (λ s e. c.in_ok-view.ensures ∙ c.in_ok-snapshot.ensures.view s e),
-  c.see.ensures.journal_first ∙ (λ i. max (ap (λ (p : PassAccount). p.journal_first) c.snapshot.ensures.same.1 i) (c.in_ok-snapshot.ensures.first i)),
+  c.see.ensures.journal_first ∙ (λ i. max (ap (λ (p : PassAccount). p.journal_first) (c.self.view_is ∙ c.snapshot.ensures.same.1) i) (c.in_ok-snapshot.ensures.first i)),
 )

@@ -1,5 +1,6 @@
 mod BookLemmas
 mod FaultLemmas
 pub mod KeepLemmas
+mod ListingLemmas
 mod SessionLemmas
 mod TurnLemmas

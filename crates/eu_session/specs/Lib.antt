@@ -2,3 +2,4 @@ pub mod Fault
 pub mod Session
 pub mod Steps
 pub mod Book
+pub mod Listings

@@ -3,11 +3,13 @@
 
 mod book;
 mod faults;
+mod law;
 mod session;
 mod turn;
 
 pub use book::sessions_are_runs;
 pub use faults::SessionFault;
+pub use law::listings_are_by_application;
 pub use session::serve_session;
 
 /// The most requests of a session.

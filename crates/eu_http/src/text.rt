@@ -53,9 +53,10 @@ fn push_status(text: &mut String, status: StatusCode) -> Result<(), AllocError>
     ensures { OnOk result (string_bytes text.new ≡ string_bytes text.old ++ spec.line (codes "HTTP/1.1 " ++ status_text status)) }
 {
     match status {
-        StatusCode::OK => text.push_str("HTTP/1.1 200 OK\r\n"),
-        status => write!(text, "HTTP/1.1 {status}\r\n"),
+        StatusCode::OK => text.push_str("HTTP/1.1 200 OK\r\n")?,
+        status => write!(text, "HTTP/1.1 {status}\r\n")?,
     }
+    Ok(())
 }
 
 /// Writes what the content is, where there is one.

@@ -55,8 +55,12 @@ pub fn read_command(alloc: Global, words: &str) -> Result<(Moment, Command), Fau
 
 /// The settings of a line `config T on P I M`, as a script has it.
 pub fn read_config(alloc: Global, words: &str) -> Result<Config, Fault> {
-    match read_command(alloc, words)? {
-        (_, Command::Reconfigure { config }) => Ok(config),
-        _ => Err(Fault::BadValue),
+    let (_, command) = read_command(alloc, words)?;
+    match command {
+        Command::Reconfigure { config } => Ok(config),
+        other => {
+            drop(other);
+            Err(Fault::BadValue)
+        }
     }
 }

@@ -16,23 +16,23 @@ cd "$(dirname "${BASH_SOURCE[0]}")/.."
 
 # The crate, the test, the refusals that it meets at least.
 tests='
-eu_registry_tests store_memory::memory_store 130
-eu_registry_tests memory::memory_core 150
+eu_registry_tests store_memory::memory_store 110
+eu_registry_tests memory::memory_core 100
 eu_value_tests memory::memory_outbox 610
-eu_book_tests memory::memory_book 410
-eu_book_tests shared_memory::memory_shared 30
-eu_book_tests shared_memory::memory_lock 40
+eu_book_tests memory::memory_book 320
+eu_book_tests shared_memory::memory_shared 28
+eu_book_tests shared_memory::memory_lock 28
 eu_http_tests request_memory::memory_request 40
 eu_http_tests request_memory::memory_routes 300
-eu_http_tests memory::memory_json 970
-eu_session_tests memory::memory_http 460
-eu_session_tests memory::memory_requests 290
-eu_workers_tests memory::memory_turn 170
-eu_script_tests memory::memory_script 200
-eu_script_tests memory::memory_run_audit 330
-eu_script_tests memory::memory_journal 1850
-eu_journal_tests memory::memory_journal_audit 600
-eu_audit_tests memory::a_refused_allocation_is_no_verdict 100
+eu_http_tests memory::memory_json 470
+eu_session_tests memory::memory_http 400
+eu_session_tests memory::memory_requests 150
+eu_workers_tests memory::memory_turn 130
+eu_script_tests memory::memory_script 150
+eu_script_tests memory::memory_run_audit 240
+eu_script_tests memory::memory_journal 1800
+eu_journal_tests memory::memory_journal_audit 640
+eu_audit_tests memory::a_refused_allocation_is_no_verdict 180
 '
 
 work=$(mktemp -d)

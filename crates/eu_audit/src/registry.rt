@@ -153,7 +153,7 @@ impl Replica {
         Ok(Some(self.with_change(alloc, key, changed)?))
     }
 
-    /// What a registration changes. `AllocError` where no memory is left.
+    /// What a registration changes. `AllocError` where 2^63 share an instance.
     fn registered(
         &self,
         instance: &SharedInstance,
@@ -169,7 +169,7 @@ impl Replica {
         register(held, row, self.expected, instance, replicated, moment)
     }
 
-    /// What an adoption changes. `AllocError` where no memory is left.
+    /// What an adoption changes. `AllocError` where 2^63 share an instance.
     fn adopted(&self, instance: &SharedInstance, moment: Moment) -> Result<Changed, AllocError>
         ensures changed { IfOk result (λ c. change_of c ≡ plain_adopt (map.get self.now.leases instance.now.key) (map.get self.now.overrides instance.now.key.id) self.now.expected instance.now moment) }
         ensures limits { IsWithinLimits self.now }
@@ -180,7 +180,7 @@ impl Replica {
         adopt(held, row, self.expected, instance, moment)
     }
 
-    /// What a renewal changes. `AllocError` where no memory is left.
+    /// What a renewal changes. `AllocError` where 2^63 share an instance.
     fn renewed(
         &self,
         key: &Key,
@@ -215,7 +215,7 @@ impl Replica {
         is_permitted(&self.config, self.expected, self.last)
     }
 
-    /// What a status changes that is set. `AllocError` where no memory is left.
+    /// What a status changes that is set. `AllocError` where 2^63 share an instance.
     fn status_set(
         &self,
         key: &Key,
@@ -233,7 +233,7 @@ impl Replica {
         set_status(permitted, held, row, expected, status, last_dirty, moment)
     }
 
-    /// What a status changes that is unset. `AllocError` where no memory is left.
+    /// What a status changes that is unset. `AllocError` where 2^63 share an instance.
     fn status_unset(
         &self,
         key: &Key,

@@ -259,7 +259,8 @@ book_back s a base lawful = server_back s a.entries a.state (subst (λ p. Runs p
 
 -- ---- listings
 
-all_of : {X : Type 0} (xs : List X) → filter (λ x. true) xs ≡ xs
+-- a listing of all passes over none
+pub all_of : {X : Type 0} (xs : List X) → filter (λ x. true) xs ≡ xs
 all_of [] = refl
 all_of (x ∷ xs) = ap (λ l. x ∷ l) (all_of xs)
 

@@ -73,8 +73,8 @@ pub fn decide_renewal(
     })
 }
 
-/// The reply to a renewal that gives this instance this status, by the stamp that its sender knows. Takes memory for a
-/// `Conflict` alone, whose instance is a copy.
+/// The reply to a renewal that gives this instance this status, by the stamp that its sender knows. `AllocError` for a
+/// `Conflict` alone, where 2^63 share its instance.
 fn renew_reply(
     instance: &SharedInstance,
     status: Status,

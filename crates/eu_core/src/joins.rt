@@ -29,8 +29,8 @@ fn begun(mut lease: Lease, status: Status, moment: Moment) -> Lease
     lease
 }
 
-/// A registration (`AbstractInstanceRegistry.register`), where as many clients are expected as with this one. `AllocError` where no
-/// memory is left.
+/// A registration (`AbstractInstanceRegistry.register`), where as many clients are expected as with this one. `AllocError` where
+/// 2^63 share an instance.
 pub fn decide_join(
     instance: &SharedInstance,
     held: Option<&HeldLease>,

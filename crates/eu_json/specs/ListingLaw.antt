@@ -9,7 +9,7 @@ use Rattle.eu_json.specs.Tree.{list_tree, listed_tree, item_tree, runs}
 
 -- ---- the items of a listing of all, application by application
 
--- the leases by their applications: a map in the order of names
+-- a lease for each application: a map in the order of names
 abbrev pub by_application : List Listed → FinMap name_cmp Listed
 by_application held = from_entries (map (λ l. (l.instance.key.app, l)) held)
 

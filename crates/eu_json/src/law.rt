@@ -21,8 +21,8 @@ pub fn batches_come_back()
 ///
 /// Key order is that of the applications' names, by their bytes, and then that of the ids. (In Eureka an `Applications` has one
 /// `Application` for each name that has a lease, and none for a name without:
-/// `AbstractInstanceRegistry.getApplicationsFromMultipleRegions`. The order is left open there. This is what the wiki, "Eureka REST
-/// operations", answers to a query for all instances.)
+/// `AbstractInstanceRegistry.getApplicationsFromMultipleRegions`. The order is left open there. The wiki, "Eureka REST operations", has
+/// the query for all instances.)
 pub fn items_are_of_applications()
     ensures items { ItemsAreOfApplications }
     ensures leases { LeasesAreOfApplications }

@@ -115,7 +115,7 @@ fn append_items(alloc: Global, out: &mut Vec<u8>, held: &[Listed]) -> Result<(),
 /// `versions__delta`, which is `1`. An item has an application's leases' instances as `instance`, and its name as `name`.
 ///
 /// An item ends where a lease of another application follows. Where the leases are in key order, each application has one, by the law
-/// `items_are_of_applications`. They are so in each state that a run reaches, by the law `listings_ascend` of `eu_book`.
+/// `items_are_of_applications`. They are so in each state that a run reaches, by the law `listings_are_by_application` of `eu_session`.
 ///
 /// `AllocError` where no memory is left: then nothing is said of `out`.
 pub fn append_applications(

@@ -19,7 +19,7 @@ use Rattle.eu_model.specs.View.{listing}
 use Rattle.eu_model.proofs.ListingLemmas.{listing_shown}
 use Rattle.eu_model.proofs.MapLemmas.{get-map_values, map_values-empty}
 use Rattle.eu_book.specs.Listing.{by_key}
-use Rattle.eu_book.proofs.KeyedLemmas.{IsAt, keyed-runs, listings_ascend, plain_back}
+use Rattle.eu_book.proofs.KeyedLemmas.{IsAt, all_of, keyed-runs, listings_ascend, plain_back}
 use Rattle.eu_json.specs.Tree.{item_tree}
 use Rattle.eu_json.specs.ListingLaw.{applications, leases_of}
 use Rattle.eu_json.proofs.ApplicationLemmas.{runs_are_of_applications}
@@ -29,11 +29,6 @@ use Rattle.eu_session.specs.Listings.{AreByApplication, IsByApplication, OpenedA
 
 abbrev own_key : Listed → Key
 own_key l = l.instance.key
-
--- a listing of all passes over none
-all_of : {X : Type 0} (xs : List X) → filter (λ x. true) xs ≡ xs
-all_of [] = refl
-all_of (x ∷ xs) = ap (λ ls. x ∷ ls) (all_of xs)
 
 -- the leases of an application are those under its keys
 under_keys : (app : List ℕ) (ls : List Listed) → leases_of ls app ≡ map (λ (e : Key × Listed). e.1) (filter (λ (e : Key × Listed). name_eq e.0.app app) (by_key ls))

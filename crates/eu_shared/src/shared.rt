@@ -1,7 +1,7 @@
 //! The book behind its lock.
 //!
-//! Each call takes the lock once, makes the one call of its name on what lies behind it (`Held`; an ask has copied its command before),
-//! and releases it; a journal that has begun anew is let go only then. What is behind a lock is known by its type alone: so a clause
+//! Each call takes the lock once, makes the one call of its name on what lies behind it (`Held`; an ask has copied its command before, and
+//! a read of all makes its listing after), and releases it; a journal that has begun anew is let go only then. What is behind a lock is known by its type alone: so a clause
 //! says of an answer that some lawful book gives it, and not which.
 ghost use Rattle.std.specs.Prelude.{◌≡◌, ◌∷◌, ◌++◌, ◌≤◌, [], map, vec_len, IfOk, IfErr, OnErr, OnOk, IsPermutation};
 ghost use Rattle.std.specs.List.Sorted.{IsNonDecreasingBy};
@@ -135,8 +135,8 @@ impl<K: Label> Pass<K> {
     }
 
     /// What a query sees of the shared book, at a moment (`Held::read`). No fewer steps than were made for the pass had been made by then.
-    /// The lock is held while the instances' pointers are taken; the view is made of them after. `AllocError` where no memory is left,
-    /// which leaves the pass as it was.
+    /// For a listing of all, the lock is held while the instances' pointers are taken, and the listing is made of them after; any other
+    /// view is made under it. `AllocError` where no memory is left, which leaves the pass as it was.
     pub fn read<R: Wait>(
         &mut self,
         rt: &R,

@@ -1,5 +1,5 @@
 #!/usr/bin/env bash
-# Times a checkpoint of a book: its journal begins anew with the leases that are held, and what it was is let go. Prints milliseconds of
+# Times a checkpoint of a book: its journal begins anew, and what it was is let go. Prints milliseconds of
 # processor time for each, five times, less the time in which the leases are registered.
 set -euo pipefail
 top=$(cd "$(dirname "${BASH_SOURCE[0]}")/.." && pwd)

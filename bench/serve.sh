@@ -1,7 +1,8 @@
 #!/usr/bin/env bash
 # Times heartbeats over connections of 100 each, with 4 workers: the server, a plain Rust server (bench/serve_plain.rs, or the program that
 # BASELINE names), and a server that answers without looking (the loopback's own speed). Then a million heartbeats (MILLIONS of them) of 1,
-# 1,000 and 60,000 leases, in which the journal begins anew every 65,536 steps. Then a soak: more clients than workers, connections that are
+# 1,000 and 60,000 leases, in which the journal begins anew every 65,536 steps. Then one client renews its lease while 60,000 others register, and
+# while one eviction takes all of them out. Then a soak: more clients than workers, connections that are
 # cut anywhere, and garbage (EACH connections of each client, 2,500 if it isn't set). Prints heartbeats a second, the median, the 99th and the
 # 99.9th percentile and the longest time in microseconds, and what memory the server had.
 set -euo pipefail
@@ -84,6 +85,10 @@ for leases in 1 1000 60000; do
     ended "$total"
     memory
 done
+
+serve "$program" 1000000 --preservation off --evict-ms 10000
+echo "a client's longest times beside 60,000 others, of a registration, of a renewal while they register, and of one while they go: $("$work/load" others "$port" 60000 12)"
+stop
 
 clients=16 each=${EACH:-2500}
 total=$((clients * each + 3))

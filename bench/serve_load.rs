@@ -9,10 +9,16 @@
 //! `serve_load soak PORT CONNECTIONS SESSIONS SEED`: each of so many threads makes so many connections: whole requests, requests that
 //! are cut anywhere, and garbage, at random. Prints how many connections were made, how many heartbeats were sent whole, and how many
 //! of them were done or refused; then whether a look at the lease is answered still.
+//!
+//! `serve_load others PORT LEASES SECONDS`: one client renews one lease without pause. Another registers so many instances that last for 1 s,
+//! and then waits for so many seconds, in which the server may evict them. Prints, in microseconds, the longest registration, the longest
+//! renewal meanwhile, and the longest renewal afterwards.
 
 use std::env;
 use std::io::{self, Read, Write};
 use std::net::{TcpListener, TcpStream};
+use std::sync::Arc;
+use std::sync::atomic::{AtomicBool, Ordering};
 use std::thread;
 use std::time::{Duration, Instant};
 
@@ -31,8 +37,13 @@ const LAST_ANSWER: &str = "HTTP/1.1 200 OK\r\nContent-Length: 0\r\nConnection: c
 
 /// Registers i1, i2 and so on; the last one of a connection closes it.
 fn registration(lease: usize, last: bool) -> String {
+    registration_for(lease, 90, last)
+}
+
+/// The same, for so many seconds.
+fn registration_for(lease: usize, seconds: u32, last: bool) -> String {
     let body = format!(
-        r#"{{"instance":{{"instanceId":"i{lease}","hostName":"h{lease}.example.org","app":"a","ipAddr":"10.0.0.1","status":"UP","lastDirtyTimestamp":"5","dataCenterInfo":{{"name":"MyOwn"}}}}}}"#
+        r#"{{"instance":{{"instanceId":"i{lease}","hostName":"h{lease}.example.org","app":"a","ipAddr":"10.0.0.1","status":"UP","lastDirtyTimestamp":"5","leaseInfo":{{"durationInSecs":{seconds}}},"dataCenterInfo":{{"name":"MyOwn"}}}}}}"#
     );
     let close = if last { "Connection: close\r\n" } else { "" };
     format!("POST /eureka/apps/a HTTP/1.1\r\nHost: x\r\n{close}Content-Length: {}\r\n\r\n{body}", body.len())
@@ -130,6 +141,45 @@ fn beats(port: u16, connections: usize, sessions: usize, leases: usize) -> io::R
     let longest = times.last().copied().unwrap_or(0) as f64 / 1000.0;
     let rate = times.len() as f64 / seconds;
     println!("{rate:.0} {:.0} {:.0} {:.0} {longest:.0}", at(0.5), at(0.99), at(0.999));
+    Ok(())
+}
+
+/// What others cost a client that renews its lease without pause.
+fn others(port: u16, leases: usize, seconds: u64) -> io::Result<()> {
+    register(port, 1)?;
+    let start = Instant::now();
+    let stop = Arc::new(AtomicBool::new(false));
+    let seen = stop.clone();
+    let client = thread::spawn(move || -> io::Result<Vec<(Instant, u64)>> {
+        let mut random = Random(1);
+        let mut times = Vec::new();
+        while !seen.load(Ordering::Relaxed) {
+            let mut session = Vec::with_capacity(REQUESTS);
+            beat(port, 1, &mut random, &mut session)?;
+            let now = Instant::now();
+            times.extend(session.into_iter().map(|time| (now, time)));
+        }
+        Ok(times)
+    });
+    let mut longest = 0;
+    for first in (2..=leases + 1).step_by(REQUESTS) {
+        let last = (leases + 1).min(first + REQUESTS - 1);
+        let mut stream = connect(port)?;
+        let mut buffer = Vec::new();
+        for lease in first..=last {
+            let request = registration_for(lease, 1, lease == last);
+            let asked = Instant::now();
+            stream.write_all(request.as_bytes())?;
+            read_head(&mut stream, &mut buffer)?;
+            longest = longest.max(asked.elapsed().as_nanos() as u64);
+        }
+    }
+    let registered = Instant::now();
+    thread::sleep(Duration::from_secs(seconds));
+    stop.store(true, Ordering::Relaxed);
+    let times = client.join().unwrap()?;
+    let most = |from: Instant, to: Instant| times.iter().filter(|(at, _)| *at >= from && *at < to).map(|(_, time)| *time).max().unwrap_or(0) / 1000;
+    println!("{} {} {}", longest / 1000, most(start, registered), most(registered, Instant::now()));
     Ok(())
 }
 
@@ -252,6 +302,7 @@ fn main() -> io::Result<()> {
         Some("echo") => echo(port, many),
         Some("beats") => beats(port, many, sessions, number(4).max(1) as usize),
         Some("soak") => soak(port, many, sessions, number(4)),
-        _ => Err(io::Error::other("echo, beats or soak")),
+        Some("others") => others(port, many, sessions as u64),
+        _ => Err(io::Error::other("echo, beats, soak or others")),
     }
 }

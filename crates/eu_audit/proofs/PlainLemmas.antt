@@ -11,17 +11,18 @@ use Rattle.eu_model.specs.declared.states.State.{State}
 use Rattle.eu_model.specs.declared.views.Listed.{Listed}
 use Rattle.eu_model.specs.Server.{PlainServer}
 use Rattle.eu_model.specs.State.{plain_of_state, server_of_state}
-use Rattle.eu_audit.specs.PlainForm.{keyed, has_plain_parts, is_in_order, is_plain_form}
+use Rattle.eu_model.specs.View.{by_key}
+use Rattle.eu_audit.specs.PlainForm.{has_plain_parts, is_in_order, is_plain_form}
 use Rattle.eu_audit.specs.Verdict.{IsListed}
 use Rattle.eu_audit.proofs.TableLemmas.{of_entries, to_entries}
 
-pub keyed_last : (leases : List Listed) (l : Listed) → keyed leases ++ (l.instance.key, l) ∷ [] ≡ keyed (leases ++ l ∷ [])
-keyed_last [] l = refl
-keyed_last (m ∷ leases) l = ap (λ es. (m.instance.key, m) ∷ es) (keyed_last leases l)
+pub by_key-last : (leases : List Listed) (l : Listed) → by_key leases ++ (l.instance.key, l) ∷ [] ≡ by_key (leases ++ l ∷ [])
+by_key-last [] l = refl
+by_key-last (m ∷ leases) l = ap (λ es. (m.instance.key, m) ∷ es) (by_key-last leases l)
 
-pub length-keyed : (leases : List Listed) → length (keyed leases) ≡ length leases
-length-keyed [] = refl
-length-keyed (l ∷ leases) = ap (λ n. suc n) (length-keyed leases)
+pub length-by_key : (leases : List Listed) → length (by_key leases) ≡ length leases
+length-by_key [] = refl
+length-by_key (l ∷ leases) = ap (λ n. suc n) (length-by_key leases)
 
 -- ---- what is listed
 
@@ -41,9 +42,9 @@ whole s x y = both (has_plain_parts s) (is_in_order s) x y
 -- what plain data lists is its plain form, and the data is in order
 pub listed_is : (p : PlainServer) (s : State) → IsListed p.registry s → p.queues ≡ s.queues → (is_in_order s ≡ true) × (p ≡ server_of_state s)
 listed_is p s (leases, overrides, (config, expected, last, since, previous)) queues =
-    let l = of_entries keys_total p.registry.leases (keyed s.leases) leases in
+    let l = of_entries keys_total p.registry.leases (by_key s.leases) leases in
     let r = of_entries names_total p.registry.overrides s.overrides overrides in (
-      both (is_sorted key_cmp (keyed s.leases)) (is_sorted name_cmp s.overrides) l.0 r.0,
+      both (is_sorted key_cmp (by_key s.leases)) (is_sorted name_cmp s.overrides) l.0 r.0,
       λ i. record {
         registry = record {
           config = config i;
@@ -61,8 +62,8 @@ listed_is p s (leases, overrides, (config, expected, last, since, previous)) que
 -- and the other way round
 pub is_listed : (p : PlainServer) (s : State) → is_in_order s ≡ true → p ≡ server_of_state s → IsListed p.registry s × (p.queues ≡ s.queues)
 is_listed p s order is =
-    let sorted = each (is_sorted key_cmp (keyed s.leases)) (is_sorted name_cmp s.overrides) order in
-    let plain : IsListed (plain_of_state s) s = (to_entries keys_total (keyed s.leases) sorted.0, to_entries names_total s.overrides sorted.1, (refl, refl, refl, refl, refl)) in
+    let sorted = each (is_sorted key_cmp (by_key s.leases)) (is_sorted name_cmp s.overrides) order in
+    let plain : IsListed (plain_of_state s) s = (to_entries keys_total (by_key s.leases) sorted.0, to_entries names_total s.overrides sorted.1, (refl, refl, refl, refl, refl)) in
     (subst (λ (q : PlainServer). IsListed q.registry s) (sym is) plain, ap (λ (q : PlainServer). q.queues) is)
 
 -- a queue that is read is plain, and that one

@@ -1,8 +1,7 @@
 -- Which plain data is a plain form of a server: each thing within its limit, once, and in its place
-use Rattle.std.specs.Prelude.{◌≡◌, ◌+◌, ◌^◌, Bool, true, ◌&&◌, List, length, map, nat_le}
+use Rattle.std.specs.Prelude.{◌≡◌, ◌+◌, ◌^◌, Bool, true, ◌&&◌, List, length, nat_le}
 use Rattle.std.specs.List.{list_all}
 use Rattle.std.specs.FinMap.{is_sorted}
-use Rattle.eu_base.specs.declared.names.Key.{Key}
 use Rattle.eu_base.specs.Values.{name_cmp, key_cmp}
 use Rattle.eu_base.specs.Limits.{last_moment, most_expected, most_leases, most_peers, most_renewals}
 use Rattle.eu_model.specs.declared.commands.Entry.{Entry}
@@ -11,11 +10,8 @@ use Rattle.eu_model.specs.declared.views.Listed.{Listed}
 use Rattle.eu_model.specs.Machine.{duration}
 use Rattle.eu_model.specs.State.{server_of_state}
 use Rattle.eu_model.specs.Server.{Runs}
+use Rattle.eu_model.specs.View.{by_key}
 use Rattle.eu_audit_queue.specs.PlainQueue.{is_plain_queue}
-
--- each lease under its instance's key
-abbrev pub keyed : List Listed → List (Key × Listed)
-keyed leases = map (λ l. (l.instance.key, l)) leases
 
 -- a lease's moments are 2^62 ms at most, and its last update one duration more
 abbrev pub is_plain_lease : Listed → Bool
@@ -30,7 +26,7 @@ are_plain_counts s =
 
 -- the keys of the leases strictly rise, and so do the ids of the rows
 abbrev pub is_in_order : State → Bool
-is_in_order s = is_sorted key_cmp (keyed s.leases) && is_sorted name_cmp s.overrides
+is_in_order s = is_sorted key_cmp (by_key s.leases) && is_sorted name_cmp s.overrides
 
 abbrev pub has_plain_parts : State → Bool
 has_plain_parts s = are_plain_counts s && list_all is_plain_lease s.leases && list_all is_plain_queue s.queues

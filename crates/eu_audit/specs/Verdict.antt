@@ -3,7 +3,7 @@ use Rattle.std.specs.Prelude.{◌≡◌, ◌≤◌, ◌^◌, length, Option, Som
 use Rattle.std.specs.FinMap.{len, entries}
 use Rattle.eu_model.specs.declared.states.State.{State}
 use Rattle.eu_model.specs.Plain.{Plain}
-use Rattle.eu_audit.specs.PlainForm.{keyed}
+use Rattle.eu_model.specs.View.{by_key}
 use Rattle.eu_base.specs.Limits.{most_expected, most_leases, most_renewals}
 
 -- some: the step leads there; none: it leads nowhere
@@ -31,4 +31,4 @@ HasNumbers p s =
 
 -- it lists what is kept, in order
 abbrev pub IsListed : Plain → State → Type 0
-IsListed p s = (entries p.leases ≡ keyed s.leases) × (entries p.overrides ≡ s.overrides) × HasNumbers p s
+IsListed p s = (entries p.leases ≡ by_key s.leases) × (entries p.overrides ≡ s.overrides) × HasNumbers p s

@@ -5,7 +5,8 @@ ghost use Rattle.std.specs.FinMap as map;
 ghost use Rattle.eu_base.specs.Values.{name_cmp, key_cmp};
 ghost use Rattle.eu_audit.specs.Verdict.{IsLimited};
 ghost use Rattle.eu_audit_queue.specs.PlainQueue.{is_plain_queue};
-ghost use Rattle.eu_audit.specs.PlainForm.{keyed, is_plain_lease, are_plain_counts, has_plain_parts};
+ghost use Rattle.eu_model.specs.View.{by_key};
+ghost use Rattle.eu_audit.specs.PlainForm.{is_plain_lease, are_plain_counts, has_plain_parts};
 
 use eu_audit_changes::copied;
 use eu_audit_queue::PeerQueue;
@@ -50,7 +51,7 @@ fn are_plain_counts(state: &State) -> bool
 
 /// The leases, each under its instance's key. `AllocError` where no memory is left.
 fn read_leases(alloc: Global, leases: &[Listed]) -> Result<Leases, AllocError>
-    ensures { IfOk result (λ t. t ≡ map.from_entries (keyed leases.now)) }
+    ensures { IfOk result (λ t. t ≡ map.from_entries (by_key leases.now)) }
 {
     let mut table = Leases::new(alloc);
     let mut left = leases;
@@ -77,9 +78,9 @@ fn read_rows(alloc: Global, overrides: &[(Id, Status)]) -> Result<Overrides, All
 
 /// The leases by their keys, where these strictly rise. `AllocError` where no memory is left.
 pub(crate) fn ordered_leases(alloc: Global, leases: &[Listed]) -> Result<Option<Leases>, AllocError>
-    ensures some { IfOk result (λ found. IfSome found (λ t. (t ≡ map.from_entries (keyed leases.now)) × (map.len t ≡ length leases.now))) }
-    ensures in_order { IfOk result (λ found. IfSome found (λ t. map.is_sorted key_cmp (keyed leases.now) ≡ true)) }
-    ensures none { result ≡ Ok None → map.is_sorted key_cmp (keyed leases.now) ≡ false }
+    ensures some { IfOk result (λ found. IfSome found (λ t. (t ≡ map.from_entries (by_key leases.now)) × (map.len t ≡ length leases.now))) }
+    ensures in_order { IfOk result (λ found. IfSome found (λ t. map.is_sorted key_cmp (by_key leases.now) ≡ true)) }
+    ensures none { result ≡ Ok None → map.is_sorted key_cmp (by_key leases.now) ≡ false }
 {
     let table = read_leases(alloc, leases)?;
     if !table.same(leases) {

@@ -12,19 +12,18 @@ use eu_text::{Member, ObjectText, is_fit, members_of};
 use serde_json::{Map, Value, json};
 use std::alloc::{AllocError, Global};
 use std::marker::Model;
-use std::sync::Arc;
 
 /// How the members are kept.
 #[derive(Debug, Drop)]
 enum Members {
     /// Those of a host of that name: they are the same for every host but for its name, which is all that is kept.
     OfHost(String),
-    /// Others, as their text, once for all copies.
-    Shared(Arc<ObjectText, Global>),
+    /// Others, as their text.
+    AsText(Box<ObjectText, Global>),
 }
 
 /// The members of an instance that the registry keeps as they came: a JSON object whose numbers are all whole. Contracts see
-/// the tree. They never change, so copies share them (but for those of a host, of which a copy has a name of its own).
+/// the tree. They never change.
 #[derive(Debug, Drop)]
 pub struct Rest {
     members: Members,
@@ -47,8 +46,8 @@ impl Model for Rest {
 }
 
 impl Rest {
-    /// The members of that value. None exactly where it isn't an object, has a number anywhere that isn't whole, or nests deeper than
-    /// 127 levels. `AllocError` where no memory is left.
+    /// The members of that value. None exactly where it isn't an object, has a number anywhere that isn't whole, nests deeper than
+    /// 127 levels, or has members anywhere that aren't in the order of their names, as all that is read are. `AllocError` where no memory is left.
     pub fn new(alloc: Global, value: Value) -> Result<Option<Rest>, AllocError>
         ensures some { IfOk result (λ o. IfSome o (λ r. r ≡ tree_of value)) }
         ensures found { IfOk result (λ o. IsSome o ↔ IsRest (tree_of value)) }
@@ -70,9 +69,9 @@ impl Rest {
         }
         let entries = entries_of(alloc, members)?;
         let text = ObjectText::new(alloc, entries.as_slice())?;
-        let text = Arc::new(alloc, text)?;
+        let text = Box::new(alloc, text)?;
         Ok(Rest {
-            members: Members::Shared(text),
+            members: Members::AsText(text),
         })
     }
 
@@ -94,17 +93,17 @@ impl Rest {
     {
         match &self.members {
             Members::OfHost(host) => members_of_host(alloc, host),
-            Members::Shared(text) => text.to_members(alloc),
+            Members::AsText(text) => text.to_members(alloc),
         }
     }
 
     /// The text of the members, where that is kept. Takes no memory.
-    pub fn shared_text(&self) -> Option<&ObjectText>
+    pub fn kept_text(&self) -> Option<&ObjectText>
         ensures { IfSome result (λ text. text.now ≡ self.now) }
     {
         match &self.members {
             Members::OfHost(_) => None,
-            Members::Shared(text) => Some(text),
+            Members::AsText(text) => Some(text),
         }
     }
 
@@ -123,20 +122,9 @@ impl Rest {
     {
         match (&self.members, &other.members) {
             (Members::OfHost(host), Members::OfHost(theirs)) => host.as_str() == theirs.as_str(),
-            (Members::Shared(text), Members::Shared(theirs)) => text.same(theirs),
+            (Members::AsText(text), Members::AsText(theirs)) => text.same(theirs),
             _ => false,
         }
-    }
-
-    /// The same members once more. Those that are kept as a text are shared by both. `AllocError` where no memory is left.
-    pub fn copy(&self) -> Result<Rest, AllocError>
-        ensures { IfOk result (λ r. r ≡ self.now) }
-    {
-        let members = match &self.members {
-            Members::OfHost(host) => Members::OfHost(host.clone()?),
-            Members::Shared(text) => Members::Shared(Arc::try_clone(text)?),
-        };
-        Ok(Rest { members })
     }
 }
 

@@ -39,30 +39,30 @@ fn fill(alloc: Global, book: &mut Book, leases: u32) -> Result<(), Fault> {
     Ok(())
 }
 
-/// Has a book begin its journal anew, and lets go of the journal that it was; how many leases its base had.
+/// Has a book begin its journal anew, and lets go of the journal that it was; how many entries that had.
 fn renew(alloc: Global, book: &mut Book) -> Result<u64, AllocError> {
     let journal = book.checkpoint(alloc)?;
-    let leases = journal.base.leases.as_slice().len() as u64;
+    let entries = journal.entries.len() as u64;
     drop(journal);
-    Ok(leases)
+    Ok(entries)
 }
 
-/// Fills a book, and has it do that so many times; how many leases the bases had in all.
+/// Fills a book, and has it do that so many times; how many entries the journals had in all.
 fn fill_and_renew(alloc: Global, book: &mut Book, leases: u32, times: u32) -> Result<u64, Fault> {
     fill(alloc, book, leases)?;
-    let mut based = 0u64;
+    let mut entered = 0u64;
     for _ in 0..times {
-        based = based.saturating_add(renew(alloc, book)?);
+        entered = entered.saturating_add(renew(alloc, book)?);
     }
-    Ok(based)
+    Ok(entered)
 }
 
-/// Has a book of so many leases begin its journal anew so many times, and lets go of each journal that it was; how many leases their
-/// bases had in all. `Full` where the leases are more than a registry holds; `OutOfMemory`.
-pub fn count_based(alloc: Global, leases: u32, times: u32) -> Result<u64, Fault> {
+/// Has a book of so many leases begin its journal anew so many times, and lets go of each journal that it was; how many entries they
+/// had in all. `Full` where the leases are more than a registry holds; `OutOfMemory`.
+pub fn count_entered(alloc: Global, leases: u32, times: u32) -> Result<u64, Fault> {
     let config = Config::new(true, 85, 30, 60_000)?;
     let mut book = Book::open(alloc, config, 1, 0)?;
-    let based = fill_and_renew(alloc, &mut book, leases, times);
+    let entered = fill_and_renew(alloc, &mut book, leases, times);
     drop(book);
-    based
+    entered
 }

@@ -5,7 +5,7 @@
 //!   bodies have, or the number of the first fault.
 //! - `eu_bench listing N` registers N instances, and prints how long the JSON of all is.
 //! - `eu_bench leases N` has a book hold N leases, and `eu_bench checkpoints N` has it begin its journal anew 20 times then; each prints how
-//!   many leases the bases had in all that were dropped.
+//!   many entries the journals had in all that were let go.
 //! - `eu_bench asks N` has N threads (1, 2 or 4) ask 20 shared books, one after the other, and prints how many steps were accepted.
 //! - `eu_bench check` prints what each of these comes to at a small size, of the requests of standard input.
 #![tactic(auto)]
@@ -19,7 +19,7 @@ mod small;
 
 use anyhow::{Context, bail};
 use asks::count_accepted;
-use checkpoints::count_based;
+use checkpoints::count_entered;
 use heartbeats::count_routed;
 use listing::listing_text;
 use pieces::{Pieces, count_requests};
@@ -66,8 +66,8 @@ fn run<R: Input + Print + AllocGlobal + Threads + Wait + Sync>(
         }
         "leases" | "checkpoints" => {
             let times = if task == "leases" { 0 } else { CHECKPOINTS };
-            let based = count_based(rt.alloc(), number, times)?;
-            println!(rt; "{based} leases in bases")?;
+            let entered = count_entered(rt.alloc(), number, times)?;
+            println!(rt; "{entered} entries")?;
         }
         "asks" if matches!(number, 1 | 2 | 4) => {
             let steps = count_accepted(rt, rt.alloc(), number)?;

@@ -1,6 +1,6 @@
 //! Each task at a small size.
 use crate::asks::accepted;
-use crate::checkpoints::count_based;
+use crate::checkpoints::count_entered;
 use crate::heartbeats::count_routed;
 use crate::listing::listing_text;
 use crate::pieces::{Pieces, Totals, count_requests};
@@ -51,11 +51,11 @@ fn print_listings<R: Print + AllocGlobal>(rt: &R) -> anyhow::Result<()> {
     Ok(())
 }
 
-/// The leases of the bases of a book of three leases, whose journal begins anew never and twice.
-fn print_based<R: Print + AllocGlobal>(rt: &R) -> anyhow::Result<()> {
+/// The entries of the journals of a book of three leases, whose journal begins anew never and twice.
+fn print_entered<R: Print + AllocGlobal>(rt: &R) -> anyhow::Result<()> {
     for times in [0, 2] {
-        let based = count_based(rt.alloc(), 3, times)?;
-        println!(rt; "{based} leases in bases")?;
+        let entered = count_entered(rt.alloc(), 3, times)?;
+        println!(rt; "{entered} entries")?;
     }
     Ok(())
 }
@@ -78,6 +78,6 @@ pub fn check<R: Print + AllocGlobal + Threads + Wait + Sync>(
     print_pieces(rt, text)?;
     print_pieces(rt, b"GET /")?;
     print_listings(rt)?;
-    print_based(rt)?;
+    print_entered(rt)?;
     print_accepted(rt)
 }

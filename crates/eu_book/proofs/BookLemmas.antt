@@ -1,67 +1,41 @@
 -- A book that is opened, one that begins its journal anew, and one that grows by an entry
 use Rattle.std.proofs.Common.{◌≡◌, ◌≢◌, ◌⊎◌, inl, inr, ℕ, ◌+◌, ◌<◌, ◌≤◌, ◌^◌, List, [], ◌∷◌, ◌++◌, length, refl, sym, ap, ◌∙◌, subst, arith, false, true}
-use Rattle.std.specs.Prelude.{None, Some, Err, Ok, ◌==◌, cond, map, replicate, Option}
-use Rattle.std.specs.FinMap.{empty, entries, len-empty, len-entries}
-use Rattle.std.specs.declared.cmp.Ordering.{Ordering}
+use Rattle.std.specs.Prelude.{None, Some, Err, Ok, ◌==◌, cond, is_some, Option}
+use Rattle.std.specs.FinMap.{len-empty}
 use Rattle.std.proofs.Math.Dec.{eqb}
 use Rattle.std.proofs.lemmas.Bool.Decides.{eqb_tells}
 use Rattle.std.proofs.lemmas.List.{length-append}
 use Rattle.eu_base.specs.declared.faults.Fault.{Fault}
 use Rattle.eu_base.specs.declared.faults.Fault.TheVariants.{Exhausted, OutOfMemory}
 use Rattle.eu_base.specs.declared.settings.Config.{Config}
-use Rattle.eu_base.specs.Values.{key_cmp, name_cmp}
-use Rattle.eu_base.specs.declared.statuses.Status.{Status}
+use Rattle.eu_base.specs.Limits.{most_entries, most_steps}
+use Rattle.eu_base.specs.Values.{key_cmp}
+use Rattle.eu_core.specs.declared.undo.Undo.{Undo}
 use Rattle.eu_model.specs.declared.commands.Command.{Command}
 use Rattle.eu_model.specs.declared.commands.Entry.{Entry}
 use Rattle.eu_model.specs.declared.commands.Reply.{Reply}
-use Rattle.eu_model.specs.declared.states.State.{State}
+use Rattle.eu_model.specs.declared.queues.Queue.{Queue}
 use Rattle.eu_model.specs.declared.tallies.Tally.{Tally}
-use Rattle.eu_model.specs.declared.views.Listed.{Listed}
 use Rattle.eu_model.specs.Answers.{IsRefusal, ServerAnswers, IsServerAnswer}
 use Rattle.eu_model.specs.Delta.{delta, plus, removed_by, added_by, counted_by, tally_of}
-use Rattle.eu_model.specs.Server.{IsNumbered, idle, PlainServer, plain_server, server_fault}
-use Rattle.eu_model.specs.Plain.{listed}
+use Rattle.eu_model.specs.Server.{IsNumbered, PlainServer, plain_server, server_fault}
+use Rattle.eu_model.specs.Plain.{Plain, listed}
 use Rattle.eu_model.specs.Server as server
-use Rattle.eu_model.specs.State.{server_of_state}
 use Rattle.eu_model.proofs.AccountLemmas.{tally_push, numbered_push, runs_push, counted_at_most_one, answer_accounts}
 use Rattle.eu_model.proofs.MapLemmas.{len-map_values}
-use Rattle.eu_model.proofs.OpeningLemmas.{plain-opening}
 use Rattle.eu_model.proofs.ServedLemmas as of
+use Rattle.eu_outbox.specs.Boxed.{Boxed}
+use Rattle.eu_book.specs.declared.journal.Journal.{Journal}
 use Rattle.eu_book.specs.Account.{Account, Refuses, opened, IsKept, cleared, ready, entry, grown}
-use Rattle.eu_base.specs.Limits.{most_entries, most_steps}
-use Rattle.eu_book.specs.Peers.{IsPlain, IsRefused, MayRefuse, state_of}
-use Rattle.eu_book.specs.Checkpoint.{anew, base_by, first_by, entries_by}
+use Rattle.eu_book.specs.declared.journal.Spare.{Spare}
+use Rattle.eu_book.specs.declared.journal.Start.{Start}
+use Rattle.eu_book.specs.Checkpoint.{account_with, begun, BeginsAt, BeginsIn, IsPaired, IsSame}
+use Rattle.eu_book.specs.Peers.{IsRefused, MayRefuse, queues_of, server_with}
+use Rattle.eu_book.specs.Undone.{before_step, undone_all}
 use Rattle.eu_book.proofs.HistoryLemmas.{runs_on, runs_ended, numbered_on, plus_assoc, plus_nothing, tally_on}
-use Rattle.eu_book.proofs.KeyedLemmas.{book_back}
+use Rattle.eu_book.proofs.UndoneLemmas.{undone_all-push}
 
 -- ---- opened
-
-pub server_of_empty : (s : State) (config : Config) (expected peers : ℕ)
-    → s ≡ record { config = config; expected = expected; leases = []; overrides = []; last = 0; since = 0; previous = None; queues = replicate peers idle }
-    → server_of_state s ≡ plain_server (server.opened config expected peers)
-server_of_empty s config expected peers is = ap server_of_state is ∙ ap (λ p. of.server p (replicate peers idle)) (sym (plain-opening config expected))
-
-no_length : {X : Type 0} (xs : List X) → length xs ≡ 0 → xs ≡ []
-no_length [] e = refl
-no_length (x ∷ xs) e = absurd (omega (arith, e))
-
-entries_of_none : {K X : Type 0} (R : K → K → Ordering) → entries (empty {X = X} {R = R}) ≡ []
-entries_of_none {X = X} R = no_length (entries (empty {X = X} {R = R})) (sym (len-entries (empty {X = X} {R = R})) ∙ len-empty R X)
-
-pub plain_of_empty : (s : State) (config : Config) (expected peers : ℕ)
-    → s ≡ record { config = config; expected = expected; leases = []; overrides = []; last = 0; since = 0; previous = None; queues = replicate peers idle }
-    → IsPlain s
-plain_of_empty s config expected peers is = subst IsPlain (sym is)
-    (λ i. let e : State = record {
-      config = config;
-      expected = expected;
-      leases = map (λ e. e.1) (sym (entries_of_none {X = Listed} key_cmp) i);
-      overrides = sym (entries_of_none {X = Status} name_cmp) i;
-      last = 0;
-      since = 0;
-      previous = None;
-      queues = replicate peers idle;
-    } in e)
 
 pub opened_kept : (config : Config) (expected peers : ℕ) → expected < 2 ^ 32 → peers ≤ 8 → IsKept (opened config expected peers)
 opened_kept config expected peers clients few =
@@ -181,46 +155,68 @@ module _ (a : Account) (kept : IsKept a) where
       subst (λ n. IsKept (grown (ready a) (entry pass n c t r) new)) steps
       (kept_grown (ready a) (ready_kept a kept) pass c t r new (ready_fits a kept) (λ full. counts (sym steps ∙ full)) (subst (λ p. ServerAnswers p c t (Ok r) new) (sym same.1) answers))
 
--- a checkpoint, by the parts of the account
-module _ (s : State) (a : Account) (base_is : server_of_state s ≡ a.base) (kept : IsKept a) (base : State) (base_was : base ≡ state_of a.state) where
-  pub begun : (first : ℕ) (entries : List Entry) → first ≡ a.totals.steps → entries ≡ []
-      → record { base = server_of_state base; first = first; entries = entries; state = a.state; totals = a.totals } ≡ cleared a
-  begun first entries first_was entries_were =
-      let b = ap server_of_state base_was ∙ book_back s a base_is kept.lawful in
-      λ i. let x : Account = record { base = b i; first = first_was i; entries = entries_were i; state = a.state; totals = a.totals } in x
+-- ---- by the parts of a book
 
-  pub begun_plain : IsPlain base
-  begun_plain = subst IsPlain (sym base_was) (ap state_of (sym (book_back s a base_is kept.lawful)))
+module _ (j : Journal) (totals : Tally) (p : Plain) (boxes : List Boxed) where
+  -- a journal that begins where the book is
+  pub begins : (next : Journal) → BeginsAt totals.steps (queues_of boxes) next → account_with next totals p boxes ≡ cleared (account_with j totals p boxes)
+  begins next at = λ i. let a : Account = record {
+    base = of.server (undone_all (at.entries i) (at.undos i) p) (at.waiting i);
+    first = at.first i;
+    entries = at.entries i;
+    state = server_with p boxes;
+    totals = totals;
+  } in a
 
--- an entry more, by the parts of the account: base and entries of a journal that begins anew with `next`, or goes on
-module _ (s : State) (a : Account) (base_is : server_of_state s ≡ a.base) (kept : IsKept a) (next : Option State) (next_is : next ≡ anew a.entries a.state) where
-  pub entered : (e : Entry) (new : PlainServer) (base : State) (first : ℕ) (entries : List Entry) (totals : Tally)
-      → base ≡ base_by next s → first ≡ first_by next a.totals.steps a.first → entries ≡ entries_by next a.entries ++ (e ∷ []) → totals ≡ plus a.totals (delta e.command e.reply)
-      → record { base = server_of_state base; first = first; entries = entries; state = new; totals = totals } ≡ grown (ready a) e new
-  entered e new base first entries totals base_was first_was entries_were sum =
-      elim (eqb_tells (length a.entries) most_entries) [
-        | inl full ↦
-            let is : next ≡ Some (state_of a.state) = next_is ∙ ap (λ b. cond b (Some (state_of a.state)) None) full.0 in
-            let b = ap server_of_state (base_was ∙ ap (λ n. base_by n s) is) ∙ book_back s a base_is kept.lawful in
-            let f = first_was ∙ ap (λ n. first_by n a.totals.steps a.first) is in
-            let es = entries_were ∙ ap (λ n. entries_by n a.entries ++ (e ∷ [])) is in
-            (λ i. let x : Account = record { base = b i; first = f i; entries = es i; state = new; totals = sum i } in x) ∙ ap (λ q. grown (cond q (cleared a) a) e new) (sym full.0)
-        | inr room ↦
-            let is : next ≡ None = next_is ∙ ap (λ b. cond b (Some (state_of a.state)) None) room.0 in
-            let b = ap server_of_state (base_was ∙ ap (λ n. base_by n s) is) ∙ base_is in
-            let f = first_was ∙ ap (λ n. first_by n a.totals.steps a.first) is in
-            let es = entries_were ∙ ap (λ n. entries_by n a.entries ++ (e ∷ [])) is in
-            (λ i. let x : Account = record { base = b i; first = f i; entries = es i; state = new; totals = sum i } in x) ∙ ap (λ q. grown (cond q (cleared a) a) e new) (sym room.0)
-      ]
+  -- the journal that an entry is added to
+  is_ready : (s : Spare) (next : Option Start) → is_some next ≡ (length j.entries.items == most_entries) → BeginsIn totals.steps (queues_of boxes) s j next
+      → account_with (begun next s j) totals p boxes ≡ ready (account_with j totals p boxes)
+  is_ready s None full at = ap (λ b. cond b (cleared (account_with j totals p boxes)) (account_with j totals p boxes)) full
+  is_ready s (Some start) full at = begins (begun (Some start) s j) at ∙ ap (λ b. cond b (cleared (account_with j totals p boxes)) (account_with j totals p boxes)) full
 
-  -- its base is plain data
-  pub entered_plain : IsPlain s → (base : State) → base ≡ base_by next s → IsPlain base
-  entered_plain plain base base_was =
-      elim (eqb_tells (length a.entries) most_entries) [
-        | inl full ↦
-            subst IsPlain (sym (base_was ∙ ap (λ n. base_by n s) (next_is ∙ ap (λ b. cond b (Some (state_of a.state)) None) full.0))) (ap state_of (sym (book_back s a base_is kept.lawful)))
-        | inr room ↦ subst IsPlain (sym (base_was ∙ ap (λ n. base_by n s) (next_is ∙ ap (λ b. cond b (Some (state_of a.state)) None) room.0))) plain
-      ]
+  -- an entry more, with what its step replaced
+  grows : (new : Journal) (e : Entry) (u : Option Undo) (sum : Tally) (q : Plain) (others : List Boxed) → IsPaired j → new.first ≡ j.first → new.queues ≡ j.queues
+      → new.entries.items ≡ j.entries.items ++ e ∷ [] → new.undos.items ≡ j.undos.items ++ u ∷ [] → sum ≡ plus totals (delta e.command e.reply) → before_step e.command u q ≡ p
+      → account_with new sum q others ≡ grown (account_with j totals p boxes) e (server_with q others)
+  grows new e u sum q others paired first queues entries undos sum_is undone =
+      let back = (λ i. undone_all (entries i) (undos i) q) ∙ undone_all-push j.entries.items j.undos.items e u q paired ∙ ap (undone_all j.entries.items j.undos.items) undone in
+      λ i. let a : Account = record { base = of.server (back i) (queues i); first = first i; entries = entries i; state = server_with q others; totals = sum_is i } in a
+
+-- journals that have the same in them give one account
+same_account : (j k : Journal) (totals : Tally) (p : Plain) (boxes : List Boxed) → IsSame j k → account_with j totals p boxes ≡ account_with k totals p boxes
+same_account j k totals p boxes same = λ i. let a : Account = record {
+  base = of.server (undone_all (same.entries i) (same.undos i) p) (same.queues i);
+  first = same.first i;
+  entries = same.entries i;
+  state = server_with p boxes;
+  totals = totals;
+} in a
+
+-- what was replaced is kept for each entry of a journal that begins
+pub begins_paired : (j : Journal) (steps : ℕ) (queues : List Queue) → BeginsAt steps queues j → IsPaired j
+begins_paired j steps queues at = ap length at.undos ∙ sym (ap length at.entries)
+
+begun_paired : (next : Option Start) (s : Spare) (j : Journal) (steps : ℕ) (queues : List Queue) → IsPaired j → BeginsIn steps queues s j next → IsPaired (begun next s j)
+begun_paired None s j steps queues paired at = paired
+begun_paired (Some start) s j steps queues paired at = begins_paired (begun (Some start) s j) steps queues at
+
+-- a journal as it was, as it is with room made, the next one where it was full, and the one with the entry of a command and what its step replaced
+module _ (j mid new : Journal) (totals : Tally) (p : Plain) (boxes : List Boxed) (s : Spare) (next : Option Start) (e : Entry) (u : Option Undo) (paired : IsPaired j) (same : IsSame mid j)
+    (full : is_some next ≡ (length j.entries.items == most_entries)) (at : BeginsIn totals.steps (queues_of boxes) s mid next)
+    (entries : new.entries.items ≡ (begun next s mid).entries.items ++ e ∷ []) (undos : new.undos.items ≡ (begun next s mid).undos.items ++ u ∷ []) where
+  still_paired : IsPaired (begun next s mid)
+  still_paired = begun_paired next s mid totals.steps (queues_of boxes) (ap length same.undos ∙ paired ∙ sym (ap length same.entries)) at
+
+  pub entered_paired : IsPaired new
+  entered_paired =
+      omega (arith, ap length undos, ap length entries, length-append (begun next s mid).undos.items (u ∷ []), length-append (begun next s mid).entries.items (e ∷ []), still_paired)
+
+  pub entered : (sum : Tally) (q : Plain) (others : List Boxed) → new.first ≡ (begun next s mid).first → new.queues ≡ (begun next s mid).queues → sum ≡ plus totals (delta e.command e.reply)
+      → before_step e.command u q ≡ p → account_with new sum q others ≡ grown (ready (account_with j totals p boxes)) e (server_with q others)
+  entered sum q others first queues sum_is undone =
+      let full_mid = full ∙ ap (λ es. length es == most_entries) (sym same.entries) in
+      let readied = is_ready mid totals p boxes s next full_mid at ∙ ap ready (same_account mid j totals p boxes same) in
+      grows (begun next s mid) totals p boxes new e u sum q others still_paired first queues entries undos sum_is undone ∙ ap (λ a. grown a e (server_with q others)) readied
 
 -- ---- refused
 

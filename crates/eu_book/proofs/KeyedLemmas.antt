@@ -1,6 +1,6 @@
 -- Each lease stands under the key of its instance: in plain data, and after each step from there. So a state is plain data again
-use Rattle.std.proofs.Common.{◌≡◌, ℕ, Bool, true, false, List, [], ◌∷◌, filter, map, T, refl, sym, ap, ◌∙◌, subst}
-use Rattle.std.specs.Prelude.{cond, ◌&&◌, nat_lt, Option, Some, None}
+use Rattle.std.proofs.Common.{◌≡◌, ℕ, Bool, true, false, List, [], ◌∷◌, ◌++◌, map, T, refl, sym, ap, ◌∙◌, subst}
+use Rattle.std.specs.Prelude.{cond, ◌&&◌, nat_lt, replicate, Option, Some, None}
 use Rattle.std.specs.Option.{option_map, option_or}
 use Rattle.std.specs.declared.cmp.Ordering.{Ordering}
 use Rattle.std.specs.declared.cmp.Ordering.TheVariants.{Less, Equal, Greater}
@@ -13,6 +13,7 @@ use Rattle.eu_base.specs.declared.instances.Instance.{Instance}
 use Rattle.eu_base.specs.declared.names.Key.{Key}
 use Rattle.eu_base.specs.declared.statuses.Status.{Status}
 use Rattle.eu_base.specs.declared.statuses.Status.TheVariants.{Unknown}
+use Rattle.eu_base.specs.declared.settings.Config.{Config}
 use Rattle.eu_base.specs.Values.{key_cmp}
 use Rattle.eu_base.proofs.KeyLemmas.{keys_total, keys_exact, names_total, names_exact}
 use Rattle.eu_model.specs.declared.commands.Command.{Command}
@@ -25,15 +26,19 @@ use Rattle.eu_model.specs.declared.views.Listed.{Listed}
 use Rattle.eu_model.specs.Change.{newer, row_of, under_row, register, renew, renew_as, cancel, set_status, unset_status, in_status, stamped, overridden_by, uncounted, rule, is_status}
 use Rattle.eu_model.specs.Machine.{Machine, seen, permits, with_value, without, Record, is_expired, renewed}
 use Rattle.eu_model.specs.Plain.{Plain, plain, listed}
-use Rattle.eu_model.specs.Server.{Runs, Server, PlainServer, ServerStep, Run}
+use Rattle.eu_model.specs.Server.{Runs, Server, PlainServer, ServerStep, Run, idle, plain_server}
+use Rattle.eu_model.specs.Server as server
 use Rattle.eu_model.specs.State.{server_of_state}
 use Rattle.eu_model.specs.Step.{Step}
-use Rattle.eu_model.proofs.ListingLemmas.{listing_shown}
+use Rattle.eu_model.proofs.ListingLemmas.{filter_true, listing_shown}
 use Rattle.eu_model.proofs.MapLemmas.{get-map_values}
-use Rattle.eu_book.specs.Account.{Account, IsLawful}
+use Rattle.eu_model.proofs.OpeningLemmas.{plain-opening}
+use Rattle.eu_model.proofs.ServedLemmas as of
+use Rattle.eu_book.specs.Account.{Account, IsLawful, IsOpening}
 use Rattle.eu_book.specs.Listing.{ListingsAscend}
 use Rattle.eu_book.specs.Peers.{state_of}
 use Rattle.eu_model.proofs.EvictionLemmas.{first, second, less}
+use Rattle.eu_book.proofs.HistoryLemmas.{runs_on}
 
 -- ---- maps
 
@@ -253,16 +258,29 @@ server_back s es q runs =
     let registry = plain_back q.registry (keyed-runs s es q runs) in
     λ i. record { registry = registry i; queues = q.queues }
 
--- so is a lawful book's, whose base is plain data
-pub book_back : (s : State) (a : Account) → server_of_state s ≡ a.base → IsLawful a → server_of_state (state_of a.state) ≡ a.state
-book_back s a base lawful = server_back s a.entries a.state (subst (λ p. Runs p a.entries a.state) (sym base) lawful.run)
+-- ---- books
+
+-- a server that was just opened, as plain data
+abbrev empty : Config → ℕ → ℕ → State
+empty config expected peers =
+    record { config = config; expected = expected; leases = []; overrides = []; last = 0; since = 0; previous = None; queues = replicate peers idle }
+
+server_of_empty : (config : Config) (expected peers : ℕ) → server_of_state (empty config expected peers) ≡ plain_server (server.opened config expected peers)
+server_of_empty config expected peers = ap (λ p. of.server p (replicate peers idle)) (sym (plain-opening config expected))
+
+-- where entries lead from an opening, the server is that of its plain data
+opening_back : (p : PlainServer) (es : List Entry) (q : PlainServer) → IsOpening p → Runs p es q → server_of_state (state_of q) ≡ q
+opening_back p es q o runs = server_back (empty o.config o.expected o.peers) es q (subst (λ x. Runs x es q) (o.opened ∙ sym (server_of_empty o.config o.expected o.peers)) runs)
+
+-- so are the base and the state of a lawful book
+module _ (a : Account) (all : IsLawful a) where
+  pub base_back : server_of_state (state_of a.base) ≡ a.base
+  base_back = opening_back all.start all.dropped a.base all.opening all.came
+
+  pub state_back : server_of_state (state_of a.state) ≡ a.state
+  state_back = opening_back all.start (all.dropped ++ a.entries) a.state all.opening (runs_on all.start all.dropped a.base a.entries a.state all.came all.run)
 
 -- ---- listings
-
--- a listing of all passes over none
-pub all_of : {X : Type 0} (xs : List X) → filter (λ x. true) xs ≡ xs
-all_of [] = refl
-all_of (x ∷ xs) = ap (λ l. x ∷ l) (all_of xs)
 
 holds : (b : Bool) → T b → b ≡ true
 holds true h = refl
@@ -273,5 +291,5 @@ listings_ascend s es q runs m is =
     let rows = entries q.registry.leases in
     let keyed = keyed-runs s es q runs in
     let under = own key_of_listed rows (entries_sorted q.registry.leases) (λ k. subst (IsAt key_of_listed k) (get-entries q.registry.leases k) (keyed k)) in
-    let shown = sym (listing_shown None q.registry m is) ∙ ap (map (λ (e : Key × Listed). e.1)) (all_of rows) in
+    let shown = sym (listing_shown None q.registry m is) ∙ ap (map (λ (e : Key × Listed). e.1)) (filter_true rows) in
     ap (λ ls. is_sorted key_cmp (by_key key_of_listed ls)) shown ∙ ap (is_sorted key_cmp) under ∙ holds (is_sorted key_cmp rows) (entries_sorted q.registry.leases)

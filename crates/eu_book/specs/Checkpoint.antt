@@ -1,45 +1,72 @@
--- A journal that begins anew before an entry, or goes on as it is
-use Rattle.std.specs.Prelude.{◌≡◌, ℕ, ◌<◌, ◌==◌, List, [], length, vec_len, Option, Some, None, if◌then◌else◌, is_some, IfSome}
+-- The account of a book by its parts, and a journal that begins anew before an entry, or goes on as it is
+use Rattle.std.specs.Prelude.{◌≡◌, ℕ, ◌<◌, List, [], length, vec_len, Option, Some, None}
 use Rattle.std.specs.Vec.{vec_capacity}
-use Rattle.std.specs.declared.alloc.Global.{Global}
-use Rattle.std.specs.declared.boxed.Box.{Box}
-use Rattle.eu_model.specs.declared.commands.Entry.{Entry}
-use Rattle.eu_model.specs.declared.states.State.{State}
+use Rattle.eu_model.specs.declared.queues.Queue.{Queue}
+use Rattle.eu_model.specs.declared.tallies.Tally.{Tally}
+use Rattle.eu_model.specs.Plain.{Plain}
 use Rattle.eu_model.specs.Server.{PlainServer}
-use Rattle.eu_model.specs.State.{server_of_state}
+use Rattle.eu_outbox.specs.Boxed.{Boxed}
 use Rattle.eu_book.specs.declared.journal.Journal.{Journal}
+use Rattle.eu_book.specs.declared.journal.Spare.{Spare}
+use Rattle.eu_book.specs.declared.journal.Start.{Start}
 use Rattle.eu_book.specs.Account.{Account}
-use Rattle.eu_base.specs.Limits.{most_entries}
-use Rattle.eu_book.specs.Peers.{state_of}
+use Rattle.eu_book.specs.Peers.{server_with}
+use Rattle.eu_book.specs.Undone.{undone_all}
 
--- what it begins anew with, where it is full: the server as it is
-abbrev pub anew : List Entry → PlainServer → Option State
-anew entries p = if length entries == most_entries then Some (state_of p) else None
+-- the base of a journal that leads to this registry: what that was before the entries, with what waited for the peers then
+abbrev pub base_with : Journal → Plain → PlainServer
+base_with j p = record { registry = undone_all j.entries.items j.undos.items p; queues = j.queues }
 
--- its base, its first number and its entries, where it begins anew with that, or doesn't
-abbrev pub base_by : Option State → State → State
-base_by None base = base
-base_by (Some s) base = s
+-- the account of a journal, of totals, and of a registry and outboxes as they are
+abbrev pub account_with : Journal → Tally → Plain → List Boxed → Account
+account_with j totals p boxes = record {
+  base = base_with j p;
+  first = j.first;
+  entries = j.entries.items;
+  state = server_with p boxes;
+  totals = totals;
+}
 
-abbrev pub first_by : Option State → ℕ → ℕ → ℕ
-first_by None steps first = first
-first_by (Some s) steps first = steps
+-- what was replaced is kept for each entry
+abbrev pub IsPaired : Journal → Type 0
+IsPaired j = length j.undos.items ≡ length j.entries.items
 
-abbrev pub entries_by : Option State → List Entry → List Entry
-entries_by None entries = entries
-entries_by (Some s) entries = []
+-- there is room for an entry more, and for what it replaces
+abbrev pub HasRoom : Journal → Type 0
+HasRoom j = (vec_len j.entries < vec_capacity j.entries) × (vec_len j.undos < vec_capacity j.undos)
 
--- a journal that begins after so many steps: it has no entry yet, and room for one
-abbrev pub BeginsAt : ℕ → Journal → Type 0
-BeginsAt steps j = (j.first ≡ steps) × (j.entries.items ≡ []) × (vec_len j.entries < vec_capacity j.entries)
+-- both have the same in them, whatever their room
+pub record IsSame (j k : Journal) : Type 0 where
+  pub first : j.first ≡ k.first
+  pub queues : j.queues ≡ k.queues
+  pub entries : j.entries.items ≡ k.entries.items
+  pub undos : j.undos.items ≡ k.undos.items
 
--- the journal of an account, whose base is plain data
+-- room for the entries of a journal: it has none yet
+pub record IsRoom (j : Journal) : Type 0 where
+  pub entries : j.entries.items ≡ []
+  pub undos : j.undos.items ≡ []
+  pub room : HasRoom j
+
+-- a journal that begins after so many steps, when so much waits for the peers: it has no entry yet, and room for one
+pub record BeginsAt (steps : ℕ) (queues : List Queue) (j : Journal) : Type 0 where
+  pub first : j.first ≡ steps
+  pub waiting : j.queues ≡ queues
+  pub entries : j.entries.items ≡ []
+  pub undos : j.undos.items ≡ []
+  pub room : HasRoom j
+
+-- the journal that an entry is added to: one that begins anew in the spare lists, where that was made ready
+abbrev pub begun : Option Start → Spare → Journal → Journal
+begun None s j = j
+begun (Some start) s j = record { first = start.first; queues = start.queues; entries = s.entries; undos = s.undos }
+
+-- where a journal begins anew in the spare lists, it begins after so many steps, when so much waits for the peers
+abbrev pub BeginsIn : ℕ → List Queue → Spare → Journal → Option Start → Type 0
+BeginsIn steps queues s j None = Unit {0}
+BeginsIn steps queues s j (Some start) = BeginsAt steps queues (begun (Some start) s j)
+
+-- the journal of an account
 pub record IsJournal (a : Account) (j : Journal) : Type 0 where
-  pub base : server_of_state j.base ≡ a.base
-  pub plain : j.base ≡ state_of a.base
   pub first : j.first ≡ a.first
   pub entries : j.entries.items ≡ a.entries
-
--- the journal that a command leaves behind: that of the account before, just where it was full
-abbrev pub IsRetired : Account → Option (Box Journal Global) → Type 0
-IsRetired a j = (is_some j ≡ (length a.entries == most_entries)) × IfSome j (λ (b : Box Journal Global). IsJournal a b.value)

@@ -1,5 +1,5 @@
 -- The peers of a book: what waits for each, and what a command tells them
-use Rattle.std.specs.Prelude.{◌≡◌, ◌≢◌, ◌⊎◌, ℕ, ◌<◌, ◌==◌, false, List, map, Option, Some, None, Result, Err, if◌then◌else◌}
+use Rattle.std.specs.Prelude.{◌≡◌, ◌≢◌, ◌⊎◌, ℕ, ◌<◌, false, List, map, Option, Some, None, Result, Err}
 use Rattle.eu_base.specs.declared.faults.Fault.{Fault}
 use Rattle.eu_base.specs.declared.faults.Fault.TheVariants.{Exhausted, OutOfMemory}
 use Rattle.eu_base.specs.declared.names.Key.{Key}
@@ -11,7 +11,6 @@ use Rattle.eu_model.specs.declared.queues.Queue.{Queue}
 use Rattle.eu_model.specs.declared.states.State.{State}
 use Rattle.eu_model.specs.Plain.{Plain}
 use Rattle.eu_model.specs.Server.{PlainServer}
-use Rattle.eu_model.specs.State.{server_of_state}
 use Rattle.eu_model.specs.Answers.{ServerAnswers}
 use Rattle.eu_outbox.specs.Boxed.{Boxed}
 use Rattle.eu_base.specs.Limits.{most_steps}
@@ -44,10 +43,6 @@ QueuesAnswer old c t result new = (p : Plain) → ServerAnswers (server_with p o
 -- a server as plain data: the registry as it is alone, with the queues of its peers
 abbrev pub state_of : PlainServer → State
 state_of p = record (registry.state_of p.registry) { queues = p.queues }
-
--- plain data that is just what its plain form says: each lease and each row once, in key order
-abbrev pub IsPlain : State → Type 0
-IsPlain s = s ≡ state_of (server_of_state s)
 
 -- a command is refused by this fault: as each server of this plain form refuses it, or for want of memory in place of that
 abbrev pub MayRefuse : PlainServer → Command → ℕ → Fault → Type 0

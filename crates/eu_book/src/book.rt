@@ -6,19 +6,20 @@ ghost use Rattle.eu_model.specs.View.{view};
 ghost use Rattle.eu_book.specs.Account.{cleared, entry, known_fault, opened, logged, Applies, Refuses, IsLawful};
 ghost use Rattle.eu_base.specs.Limits.{most_entries};
 ghost use Rattle.eu_core.specs.Answered.{for_log};
-ghost use Rattle.eu_book.specs.Checkpoint.{IsJournal, IsRetired};
-ghost use Rattle.eu_book.specs.Peers.{server_with, state_of};
+ghost use Rattle.eu_book.specs.Checkpoint.{IsJournal, IsRoom};
+ghost use Rattle.eu_book.specs.Peers.{state_of};
 ghost use Rattle.eu_book.specs.Snapshot.{view_of};
 
-use crate::checkpoint::{begin, plain_state};
+use crate::checkpoint::{begin, prepare};
 use crate::entering::{answer, note};
-use crate::journal::{Journal, Logged};
+use crate::journal::{Dropped, Journal, Logged, Spare};
 use crate::peers::Peers;
 use crate::snapshot::ViewSnapshot;
-use eu_base::{Config, Fault, MOST_ENTRIES, MOST_PEERS, MOST_STEPS, Moment};
+use crate::undoing::{plain_base, plain_state};
+use eu_base::{Config, Fault, MOST_PEERS, MOST_STEPS, Moment};
 use eu_clock::Chooser;
 use eu_core::Registry;
-use eu_model::{Command, Listed, Listing, OverrideRows, Query, Reply, State, Tally, View};
+use eu_model::{Command, Entry, Listed, Listing, Query, Reply, State, Tally, View};
 use std::alloc::{AllocError, Global};
 use std::marker::Model;
 use std::mem;
@@ -39,42 +40,37 @@ pub struct LoggedReceipt {
     pub receipt: Receipt,
     /// What a log keeps of it.
     pub logged: Logged,
-    /// The journal as it was, where it was full and has begun anew: to be kept elsewhere, or let go where nobody waits for it.
-    pub retired: Option<Box<Journal>>,
 }
 
-/// What a command that was entered in the journal is given, its reply once more for a log, and the journal as it was where it has
-/// begun anew.
+/// What a command that was entered in the journal is given, and its reply once more for a log.
 #[derive(Drop)]
 pub(crate) struct Entered {
     pub(crate) receipt: Receipt,
     pub(crate) logged: Option<Reply>,
-    pub(crate) retired: Option<Box<Journal>>,
 }
 
 /// A registry with the outboxes of its peers, and the journal of what it was told. Contracts see its account.
 #[derive(Debug, Drop)]
 pub struct Book {
     journal: Journal,
+    spare: Spare,
     totals: Tally,
     registry: Registry,
     peers: Peers,
 }
 
 impl Model for Book {
-    ghost use Rattle.eu_model.specs.State.{server_of_state};
     ghost use Rattle.eu_book.specs.Account.{Account, IsKept};
-    ghost use Rattle.std.specs.Prelude.{◌≡◌};
-    ghost use Rattle.eu_book.specs.Peers.{server_with, IsPlain};
     ghost use Rattle.eu_book.specs.AccountCode.{coded_account};
+    ghost use Rattle.eu_book.specs.Checkpoint.{account_with, IsPaired};
 
     ghost Value = { Account };
 
     ghost coded = { coded_account };
 
-    ghost view = { λ b. record { base = server_of_state b.journal.base; first = b.journal.first; entries = b.journal.entries.items; state = server_with b.registry b.peers; totals = b.totals } };
+    ghost view = { λ b. account_with b.journal b.totals b.registry b.peers };
 
-    ghost invariant = { λ b. IsPlain b.journal.base × IsKept (record { base = server_of_state b.journal.base; first = b.journal.first; entries = b.journal.entries.items; state = server_with b.registry b.peers; totals = b.totals }) };
+    ghost invariant = { λ b. IsPaired b.journal × IsKept (account_with b.journal b.totals b.registry b.peers) };
 }
 
 impl Book {
@@ -90,23 +86,11 @@ impl Book {
         ensures { IfOk result (λ book. book ≡ opened config expected peers) }
     {
         let peers = Peers::open(alloc, peers)?;
-        let entries = Vec::with_capacity(alloc, MOST_ENTRIES)?;
-        let base = State {
-            config,
-            expected: u64::from(expected),
-            leases: Listing::new(Vec::new(alloc)),
-            overrides: OverrideRows::new(Vec::new(alloc)),
-            last: 0,
-            since: 0,
-            previous: None,
-            queues: peers.queues(alloc)?,
-        };
+        let journal = begin(alloc, &peers, 0)?;
+        let spare = Spare::open(alloc)?;
         Ok(Book {
-            journal: Journal {
-                base,
-                first: 0,
-                entries,
-            },
+            journal,
+            spare,
             totals: Tally::nothing(),
             registry: Registry::open(alloc, config, expected),
             peers,
@@ -121,7 +105,8 @@ impl Book {
     /// What a client did goes into the outbox of each peer, as its task; what a peer sent, an adoption and a timer's command put
     /// nothing there. `Drain`, `Landed` and `Lost` are the calls of that name on the outbox of the peer that they name.
     ///
-    /// Where the journal has 65,536 entries, it begins anew before (`Book::checkpoint`).
+    /// Where the journal has 65,536 entries, it begins anew before (`Book::checkpoint`), in lists that the book keeps for that; and each call lets
+    /// go of one entry that it had before (`Book::let_go`).
     ///
     /// Refused, in this order: `Exhausted` where 2^62 commands were accepted; `NoPeer` where the command names a peer and there
     /// is none of that number; then as its call refuses. `OutOfMemory` may come in place of what the registry refuses by, but never of
@@ -141,13 +126,13 @@ impl Book {
         ensures err { OnErr result (self.new ≡ self.old) }
         ensures unasked { OnErr result (chooser.new ≡ chooser.old) }
     {
-        let entered = self.enter(alloc, pass, command, moment, chooser, false)?;
-        Ok(entered.receipt)
+        let outcome = self.enter(alloc, pass, command, moment, chooser, false);
+        drop(self.let_go());
+        Ok(outcome?.receipt)
     }
 
-    /// As `apply`; and what a log of one's own keeps, for who has one, with the journal as it was, where it has begun anew. Of the
-    /// command the log keeps `mine`, which is to be the command once more: so whoever holds a lock can have copied it before. All
-    /// else is made before anything changes.
+    /// As `apply`, but that no entry is let go of; and what a log of one's own keeps, for who has one. Of the command the log keeps `mine`,
+    /// which is to be the command once more: so whoever holds a lock can have copied it before. All else is made before anything changes.
     pub fn apply_logged<C: Chooser>(
         &mut self,
         alloc: Global,
@@ -159,7 +144,6 @@ impl Book {
     ) -> Result<LoggedReceipt, Fault>
         ensures applied { IfOk result (λ r. Applies C.asks self.old chooser.old (entry pass r.receipt.number command moment r.receipt.reply) self.new chooser.new) }
         ensures logged { IfOk result (λ r. r.logged ≡ logged mine moment r.receipt.reply r.receipt.number) }
-        ensures retired { IfOk result (λ r. IsRetired self.old r.retired) }
         ensures refused { IfErr result (λ f. Refuses self.old command moment f) }
         ensures memory { IfErr result (λ f. f ≡ Fault.OutOfMemory → known_fault self.old.totals.steps self.old.state.queues command moment ≡ None) }
         ensures err { OnErr result (self.new ≡ self.old) }
@@ -186,7 +170,6 @@ impl Book {
     ) -> Result<Entered, Fault>
         ensures applied { IfOk result (λ e. Applies C.asks self.old chooser.old (entry pass e.receipt.number command moment e.receipt.reply) self.new chooser.new) }
         ensures logged { IfOk result (λ e. e.logged ≡ for_log logs e.receipt.reply) }
-        ensures retired { IfOk result (λ e. IsRetired self.old e.retired) }
         ensures refused { IfErr result (λ f. Refuses self.old command moment f) }
         ensures memory { IfErr result (λ f. f ≡ Fault.OutOfMemory → known_fault self.old.totals.steps self.old.state.queues command moment ≡ None) }
         ensures err { OnErr result (self.new ≡ self.old) }
@@ -195,7 +178,8 @@ impl Book {
         let steps = self.totals.steps;
         match answer(
             alloc,
-            &mut self.journal.entries,
+            &mut self.journal,
+            &mut self.spare,
             steps,
             &mut self.registry,
             &mut self.peers,
@@ -206,6 +190,7 @@ impl Book {
         ) {
             Ok(accepted) => Ok(note(
                 &mut self.journal,
+                &mut self.spare,
                 &mut self.totals,
                 pass,
                 command,
@@ -235,15 +220,39 @@ impl Book {
         }
     }
 
+    /// Lets go of one entry that the journal had when it was full and began anew last, if one is left, with what its step replaced. To do so
+    /// at each command spreads over all of them what a whole journal would take at once. Takes no memory, and all else stays as it is.
+    pub fn let_go(&mut self) -> Dropped
+        ensures { self.new ≡ self.old }
+    {
+        self.spare.let_go()
+    }
+
     /// Begins the journal anew: the registry and what waits for its peers, as they are, become its base, and it has no entries. They
-    /// stay as they are, and so do the totals. Gives the journal as it was, to be kept elsewhere or let go. `AllocError` where no
-    /// memory is left, which changes nothing.
+    /// stay as they are, and so do the totals. Gives the journal as it was, but for its base, which is asked for before (`Book::base`). It
+    /// copies what waits for the peers, and no lease. `AllocError` where no memory is left, which changes nothing.
     pub fn checkpoint(&mut self, alloc: Global) -> Result<Box<Journal>, AllocError>
         ensures ok { OnOk result (self.new ≡ cleared self.old) }
         ensures retired { IfOk result (λ j. IsJournal self.old j.value) }
         ensures err { OnErr result (self.new ≡ self.old) }
     {
-        let mut next = begin(alloc, &self.registry, &self.peers, self.totals.steps)?;
+        let room = Journal::room(alloc)?;
+        self.checkpoint_in(alloc, room)
+    }
+
+    /// As `checkpoint`, for who holds a lock: the room was made before (`Journal::room`), and no more is taken than a copy of what waits for
+    /// the peers. `AllocError` where no memory is left for that, which changes nothing; then the room is let go of.
+    pub fn checkpoint_in(
+        &mut self,
+        alloc: Global,
+        room: Box<Journal>,
+    ) -> Result<Box<Journal>, AllocError>
+        requires { IsRoom room.value }
+        ensures ok { OnOk result (self.new ≡ cleared self.old) }
+        ensures retired { IfOk result (λ j. IsJournal self.old j.value) }
+        ensures err { OnErr result (self.new ≡ self.old) }
+    {
+        let mut next = prepare(alloc, &self.peers, self.totals.steps, room)?;
         mem::swap(&mut self.journal, next.as_mut());
         Ok(next)
     }
@@ -291,31 +300,43 @@ impl Book {
         &self.registry
     }
 
-    /// What the registry was told last, at most 65,536 commands. Its entries are a run of the lease machine from the base to the
+    /// The number of the journal's first entry: that of the commands that were accepted before its base.
+    pub fn first(&self) -> u64
+        ensures { result ≡ self.now.first }
+    {
+        self.journal.first
+    }
+
+    /// What the registry was told last, at most 65,536 commands. These entries are a run of the lease machine from the base to the
     /// registry and the outboxes as they are, numbered from `first` on.
-    pub fn journal(&self) -> &Journal
-        ensures base { (server_of_state result.now.base ≡ self.now.base) × (result.now.base ≡ state_of self.now.base) }
-        ensures first { result.now.first ≡ self.now.first }
-        ensures entries { result.now.entries.items ≡ self.now.entries }
+    pub fn entries(&self) -> &[Entry]
+        ensures entries { result.now ≡ self.now.entries }
         ensures fits { length self.now.entries ≤ most_entries }
         ensures lawful { IsLawful self.now }
     {
-        &self.journal
+        self.journal.entries.as_slice()
     }
 
     /// The same, where no more is wanted of the book. Takes no memory.
-    pub fn into_journal(self) -> Journal
-        ensures base { (server_of_state result.base ≡ self.base) × (result.base ≡ state_of self.base) }
-        ensures first { result.first ≡ self.first }
-        ensures entries { result.entries.items ≡ self.entries }
+    pub fn into_entries(self) -> Vec<Entry>
+        ensures { result.items ≡ self.entries }
     {
         let Book {
             journal,
+            spare: _,
             totals: _,
             registry: _,
             peers: _,
         } = self;
-        journal
+        journal.entries
+    }
+
+    /// The base, as plain data: what the registry and its peers' queues were before the first entry, as they were opened or at the last
+    /// checkpoint. It isn't kept: a copy of the registry is led back to it, entry by entry. `AllocError` where no memory is left.
+    pub fn base(&self, alloc: Global) -> Result<State, AllocError>
+        ensures { IfOk result (λ s. (server_of_state s ≡ self.now.base) × (s ≡ state_of self.now.base)) }
+    {
+        plain_base(alloc, &self.registry, &self.journal)
     }
 
     /// What all accepted commands did together, those too that the journal has dropped.
@@ -339,13 +360,8 @@ fn hand_out(entered: Entered, command: Command, moment: Moment) -> LoggedReceipt
     requires { entered.logged ≡ Some entered.receipt.reply }
     ensures receipt { result.receipt ≡ entered.receipt }
     ensures logged { result.logged ≡ logged command moment entered.receipt.reply entered.receipt.number }
-    ensures retired { result.retired ≡ entered.retired }
 {
-    let Entered {
-        receipt,
-        logged,
-        retired,
-    } = entered;
+    let Entered { receipt, logged } = entered;
     let number = receipt.number;
     match logged {
         Some(reply) => LoggedReceipt {
@@ -356,7 +372,6 @@ fn hand_out(entered: Entered, command: Command, moment: Moment) -> LoggedReceipt
                 reply,
                 number,
             },
-            retired,
         },
         None => unreachable!(),
     }

@@ -1,88 +1,82 @@
 //! How a journal begins anew.
-ghost use Rattle.std.specs.Prelude.{◌≡◌, ◌<◌, ℕ, vec_len, IfOk, MatchOption};
-ghost use Rattle.std.specs.Option.{option_map};
-ghost use Rattle.std.specs.Vec.{vec_capacity};
-ghost use Rattle.eu_book.specs.Peers.{server_with, state_of};
-ghost use Rattle.eu_book.specs.Checkpoint.{anew, base_by, entries_by, first_by, BeginsAt};
+ghost use Rattle.std.specs.Prelude.{◌≡◌, ◌==◌, length, is_some, IfOk};
+ghost use Rattle.eu_base.specs.Limits.{most_entries};
+ghost use Rattle.eu_book.specs.Checkpoint.{begun, BeginsAt, BeginsIn, HasRoom, IsRoom, IsSame};
+ghost use Rattle.eu_book.specs.Peers.{queues_of};
 
-use crate::journal::Journal;
+use crate::journal::{Journal, Spare, Start};
 use crate::peers::Peers;
 use eu_base::MOST_ENTRIES;
-use eu_core::Registry;
-use eu_model::{Entry, State};
 use std::alloc::{AllocError, Global};
 use std::mem;
 
-/// A registry and what waits for its peers, as plain data.
-pub(crate) fn plain_state(
-    alloc: Global,
-    registry: &Registry,
-    peers: &Peers,
-) -> Result<State, AllocError>
-    ensures { IfOk result (λ s. s ≡ state_of (server_with registry.now peers.now)) }
+/// A journal that begins after so many steps, with what waits for the peers, and has room for all the entries that it may keep.
+pub(crate) fn begin(alloc: Global, peers: &Peers, steps: u64) -> Result<Journal, AllocError>
+    ensures { IfOk result (BeginsAt steps (queues_of peers.now)) }
 {
-    let mut state = registry.plain(alloc)?;
-    state.queues = peers.queues(alloc)?;
-    Ok(state)
+    Ok(Journal {
+        first: steps,
+        queues: peers.queues(alloc)?,
+        entries: Vec::with_capacity(alloc, MOST_ENTRIES)?,
+        undos: Vec::with_capacity(alloc, MOST_ENTRIES)?,
+    })
 }
 
-/// A journal that begins after so many steps, with a registry and its peers' outboxes as they are, and has room for all the entries that
-/// it may keep.
-pub(crate) fn begin(
+/// Has such room begin as a journal after so many steps, with what waits for the peers, to be put in the place of another. `AllocError`
+/// where no memory is left.
+pub(crate) fn prepare(
     alloc: Global,
-    registry: &Registry,
     peers: &Peers,
     steps: u64,
+    room: Box<Journal>,
 ) -> Result<Box<Journal>, AllocError>
-    ensures base { IfOk result (λ j. j.value.base ≡ state_of (server_with registry.now peers.now)) }
-    ensures fresh { IfOk result (λ j. BeginsAt steps j.value) }
+    requires { IsRoom room.value }
+    ensures { IfOk result (λ next. BeginsAt steps (queues_of peers.now) next.value) }
 {
-    let entries = Vec::with_capacity(alloc, MOST_ENTRIES)?;
-    let base = plain_state(alloc, registry, peers)?;
-    Ok(Box::new(
-        alloc,
-        Journal {
-            base,
-            first: steps,
-            entries,
-        },
-    )?)
+    let mut next = room;
+    let journal = next.as_mut();
+    journal.queues = peers.queues(alloc)?;
+    journal.first = steps;
+    Ok(next)
 }
 
-/// Makes room for an entry more: among those that are there or, where they are as many as a journal keeps, in a journal that begins
-/// after so many steps. `AllocError` where no memory is left; neither changes an entry.
+/// Makes room for an entry more: in the journal or, where it has as many as it keeps, in the spare lists. These are emptied then, and it
+/// says where the journal begins anew in them, after so many steps. `AllocError` where no memory is left. No entry of the journal changes.
 pub(crate) fn make_room(
     alloc: Global,
-    entries: &mut Vec<Entry>,
-    registry: &Registry,
+    journal: &mut Journal,
+    spare: &mut Spare,
     peers: &Peers,
     steps: u64,
-) -> Result<Option<Box<Journal>>, AllocError>
-    ensures entries { entries.new.items ≡ entries.old.items }
-    ensures base { IfOk result (λ r. option_map (λ (j : _). j.value.base) r ≡ anew entries.old.items (server_with registry.now peers.now)) }
-    ensures room { IfOk result (λ r. MatchOption r (vec_len entries.new < vec_capacity entries.new) (λ j. BeginsAt steps j.value)) }
+) -> Result<Option<Start>, AllocError>
+    ensures same { IsSame journal.new journal.old }
+    ensures full { IfOk result (λ next. is_some next ≡ (length journal.old.entries.items == most_entries)) }
+    ensures next { IfOk result (BeginsIn steps (queues_of peers.now) spare.new journal.new) }
+    ensures room { IfOk result (λ next. HasRoom (begun next spare.new journal.new)) }
 {
-    if entries.len() == MOST_ENTRIES {
-        return Ok(Some(begin(alloc, registry, peers, steps)?));
+    if journal.entries.len() == MOST_ENTRIES {
+        spare.entries.clear();
+        spare.undos.clear();
+        spare.entries.reserve(1)?;
+        spare.undos.reserve(1)?;
+        return Ok(Some(Start {
+            first: steps,
+            queues: peers.queues(alloc)?,
+        }));
     }
-    entries.reserve(1)?;
+    journal.entries.reserve(1)?;
+    journal.undos.reserve(1)?;
     Ok(None)
 }
 
-/// Has the next journal take the place of one, where there is a next; gives the one before.
-pub(crate) fn begin_anew(journal: &mut Journal, next: Option<Box<Journal>>) -> Option<Box<Journal>>
-    ensures base { journal.new.base ≡ base_by (option_map (λ (j : _). j.value.base) next) journal.old.base }
-    ensures goes_on { (steps : ℕ) → MatchOption next (vec_len journal.old.entries < vec_capacity journal.old.entries) (λ j. BeginsAt steps j.value)
-        → (journal.new.first ≡ first_by (option_map (λ (j : _). j.value.base) next) steps journal.old.first)
-        × (journal.new.entries.items ≡ entries_by (option_map (λ (j : _). j.value.base) next) journal.old.entries.items)
-        × (vec_len journal.new.entries < vec_capacity journal.new.entries) }
-    ensures retired { option_map (λ (j : _). j.value) result ≡ option_map (λ _. journal.old) next }
+/// Has a journal begin anew, where that was made ready: it trades its lists for the spare ones, which takes no memory.
+pub(crate) fn begin_anew(journal: &mut Journal, spare: &mut Spare, next: Option<Start>)
+    ensures { journal.new ≡ begun next spare.old journal.old }
 {
-    match next {
-        Some(mut next) => {
-            mem::swap(journal, next.as_mut());
-            Some(next)
-        }
-        None => None,
+    if let Some(Start { first, queues }) = next {
+        mem::swap(&mut journal.entries, &mut spare.entries);
+        mem::swap(&mut journal.undos, &mut spare.undos);
+        journal.first = first;
+        spare.queues = Some(mem::replace(&mut journal.queues, queues));
     }
 }

@@ -7,14 +7,22 @@ ghost use Rattle.eu_model.specs.Server.{is_for_peers};
 ghost use Rattle.eu_model.specs.Answers.{ServerAnswers};
 ghost use Rattle.eu_core.specs.Answered.{answered};
 ghost use Rattle.eu_book.specs.Peers.{MayRefuse, server_with, told_key};
+ghost use Rattle.eu_book.specs.Undone.{before_step};
 
 use crate::peers::Peers;
 use crate::tasks::told_key;
 use eu_base::{Fault, Key, Moment};
 use eu_clock::Chooser;
-use eu_core::{Answered, Registry, Stepped, owning_nothing};
+use eu_core::{Answered, Registry, Stepped, Undo, owning_nothing};
 use eu_model::{Command, Reply};
 use std::alloc::{AllocError, Global};
+
+/// What a command is answered, and what its step of the registry replaced; one for a peer makes none.
+#[derive(Drop)]
+pub(crate) struct Served {
+    pub(crate) answered: Answered<Reply>,
+    pub(crate) undo: Option<Undo>,
+}
 
 /// Answers a command, in two equal replies; in one more for a log, where one `logs` it.
 pub(crate) fn serve<C: Chooser>(
@@ -25,23 +33,24 @@ pub(crate) fn serve<C: Chooser>(
     moment: Moment,
     chooser: &mut C,
     logs: bool,
-) -> Result<Answered<Reply>, Fault>
-    ensures same { IfOk result (λ a. a ≡ answered logs a.reply) }
-    ensures answers { IfOk result (λ a. ServerAnswers (server_with registry.old peers.old) command.now moment (Ok a.reply) (server_with registry.new peers.new)) }
-    ensures chooses { IfOk result (λ a. Chooses C.asks registry.old chooser.old command.now moment a.reply chooser.new) }
+) -> Result<Served, Fault>
+    ensures same { IfOk result (λ s. s.answered ≡ answered logs s.answered.reply) }
+    ensures answers { IfOk result (λ s. ServerAnswers (server_with registry.old peers.old) command.now moment (Ok s.answered.reply) (server_with registry.new peers.new)) }
+    ensures chooses { IfOk result (λ s. Chooses C.asks registry.old chooser.old command.now moment s.answered.reply chooser.new) }
+    ensures undo { IfOk result (λ s. before_step command.now s.undo registry.new ≡ registry.old) }
     ensures refused { IfErr result (λ f. MayRefuse (server_with registry.old peers.old) command.now moment f) }
     ensures err { OnErr result (server_with registry.new peers.new ≡ server_with registry.old peers.old) }
     ensures unasked { OnErr result (chooser.new ≡ chooser.old) }
 {
     match command {
-        Command::Drain { peer } => peers.drain(alloc, *peer, moment, logs),
+        Command::Drain { peer } => Ok(for_peer(peers.drain(alloc, *peer, moment, logs)?)),
         Command::Landed { peer, codes } => {
             peers.landed(*peer, codes, moment)?;
-            Ok(owning_nothing(alloc, Reply::Settled, logs))
+            Ok(for_peer(owning_nothing(alloc, Reply::Settled, logs)))
         }
         Command::Lost { peer } => {
             peers.lost(*peer, moment)?;
-            Ok(owning_nothing(alloc, Reply::Settled, logs))
+            Ok(for_peer(owning_nothing(alloc, Reply::Settled, logs)))
         }
         command => match key_told(command, peers) {
             Some(key) => {
@@ -49,6 +58,17 @@ pub(crate) fn serve<C: Chooser>(
             }
             None => step(alloc, registry, peers, command, moment, chooser, logs),
         },
+    }
+}
+
+/// What a command for a peer is answered: it makes no step of the registry.
+fn for_peer(answered: Answered<Reply>) -> Served
+    ensures answered { result.answered ≡ answered }
+    ensures undo { result.undo ≡ None }
+{
+    Served {
+        answered,
+        undo: None,
     }
 }
 
@@ -72,18 +92,22 @@ fn step<C: Chooser>(
     moment: Moment,
     chooser: &mut C,
     logs: bool,
-) -> Result<Answered<Reply>, Fault>
+) -> Result<Served, Fault>
     requires kind { is_for_peers command.now ≡ false }
     requires untold { (told_key command.now ≡ None) ⊎ (length peers.now ≡ 0) }
-    ensures same { IfOk result (λ a. a ≡ answered logs a.reply) }
-    ensures answers { IfOk result (λ a. ServerAnswers (server_with registry.old peers.now) command.now moment (Ok a.reply) (server_with registry.new peers.now)) }
-    ensures chooses { IfOk result (λ a. Chooses C.asks registry.old chooser.old command.now moment a.reply chooser.new) }
+    ensures same { IfOk result (λ s. s.answered ≡ answered logs s.answered.reply) }
+    ensures answers { IfOk result (λ s. ServerAnswers (server_with registry.old peers.now) command.now moment (Ok s.answered.reply) (server_with registry.new peers.now)) }
+    ensures chooses { IfOk result (λ s. Chooses C.asks registry.old chooser.old command.now moment s.answered.reply chooser.new) }
+    ensures undo { IfOk result (λ s. before_step command.now s.undo registry.new ≡ registry.old) }
     ensures refused { IfErr result (λ f. MayRefuse (server_with registry.old peers.now) command.now moment f) }
     ensures err { OnErr result (registry.new ≡ registry.old) }
     ensures unasked { OnErr result (chooser.new ≡ chooser.old) }
 {
     let stepped = registry.step(alloc, command, moment, logs, 0, chooser)?;
-    Ok(stepped.answered)
+    Ok(Served {
+        answered: stepped.answered,
+        undo: Some(stepped.undo),
+    })
 }
 
 /// The step of a command of which the peers may be told, and what they are told.
@@ -96,12 +120,13 @@ fn step_and_tell<C: Chooser>(
     moment: Moment,
     chooser: &mut C,
     logs: bool,
-) -> Result<Answered<Reply>, Fault>
+) -> Result<Served, Fault>
     requires kind { is_for_peers command.now ≡ false }
     requires key { told_key command.now ≡ Some key.now }
-    ensures same { IfOk result (λ a. a ≡ answered logs a.reply) }
-    ensures answers { IfOk result (λ a. ServerAnswers (server_with registry.old peers.old) command.now moment (Ok a.reply) (server_with registry.new peers.new)) }
-    ensures chooses { IfOk result (λ a. Chooses C.asks registry.old chooser.old command.now moment a.reply chooser.new) }
+    ensures same { IfOk result (λ s. s.answered ≡ answered logs s.answered.reply) }
+    ensures answers { IfOk result (λ s. ServerAnswers (server_with registry.old peers.old) command.now moment (Ok s.answered.reply) (server_with registry.new peers.new)) }
+    ensures chooses { IfOk result (λ s. Chooses C.asks registry.old chooser.old command.now moment s.answered.reply chooser.new) }
+    ensures undo { IfOk result (λ s. before_step command.now s.undo registry.new ≡ registry.old) }
     ensures refused { IfErr result (λ f. MayRefuse (server_with registry.old peers.old) command.now moment f) }
     ensures err { OnErr result (server_with registry.new peers.new ≡ server_with registry.old peers.old) }
     ensures unasked { OnErr result (chooser.new ≡ chooser.old) }
@@ -110,9 +135,16 @@ fn step_and_tell<C: Chooser>(
     peers.reserve()?;
     let keys = copies(alloc, key, count)?;
     let stepped = registry.step(alloc, command, moment, logs, count, chooser)?;
-    let Stepped { answered, held } = stepped;
+    let Stepped {
+        answered,
+        held,
+        undo,
+    } = stepped;
     peers.tell(command, &answered.reply, moment, keys, held);
-    Ok(answered)
+    Ok(Served {
+        answered,
+        undo: Some(undo),
+    })
 }
 
 /// So many copies of a key.

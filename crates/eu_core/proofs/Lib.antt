@@ -1,3 +1,4 @@
+pub mod UndoLemmas
 pub mod RowLemmas
 pub mod DecidedLemmas
 pub mod JoinLemmas

@@ -36,7 +36,7 @@ use Rattle.eu_core.specs.Stepped.{Chooses, instance_held}
 get_removed : (m : FinMap key_cmp Listed) (k : Key) → get (with_value m k None) k ≡ None
 get_removed m k = get-remove keys_total m k k ∙ ap (λ (r : Ordering). cond (is_eq r) None (get m k)) (tied_itself keys_total k)
 
-get_changed : (m : FinMap key_cmp Listed) (k : Key) (o : Option Listed) → get (with_value m k o) k ≡ o
+pub get_changed : (m : FinMap key_cmp Listed) (k : Key) (o : Option Listed) → get (with_value m k o) k ≡ o
 get_changed m k None = get_removed m k
 get_changed m k (Some l) = get_inserted by_key m k l
 

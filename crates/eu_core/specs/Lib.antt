@@ -5,3 +5,4 @@ pub mod Answered
 pub mod Stepped
 pub mod State
 pub mod Decided
+pub mod Undone

@@ -8,8 +8,10 @@ mod registry;
 mod replies;
 mod statuses;
 mod step;
+mod undo;
 
 pub use eu_store::Snapshot;
 pub use registry::Registry;
 pub use replies::{Answered, owning_nothing, replies_for, split};
 pub use step::Stepped;
+pub use undo::{Clients, EvictionBefore, LeaseBefore, RenewalBefore, Undo};

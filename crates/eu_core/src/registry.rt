@@ -3,7 +3,9 @@ ghost use Rattle.std.specs.Prelude.{◌≡◌, ◌≢◌, ◌+◌, ◌^◌, ◌<
 ghost use Rattle.std.specs.Option.{option_copied};
 ghost use Rattle.std.specs.FinMap as map;
 ghost use Rattle.eu_base.specs.declared.names.Key.{Key};
+ghost use Rattle.eu_model.specs.declared.commands.Command.{Command};
 ghost use Rattle.eu_model.specs.Change.{one_more};
+ghost use Rattle.eu_model.specs.Server.{key_of};
 ghost use Rattle.eu_model.specs.Machine.{opening, is_permitted};
 ghost use Rattle.eu_model.specs.Plain.{plain};
 ghost use Rattle.eu_model.specs.Answers.{Answers, Shows};
@@ -14,17 +16,23 @@ ghost use Rattle.eu_core.specs.Decided.{count_fault, counted, left, Decides, IsF
 ghost use Rattle.eu_core.specs.Stepped.{Draws};
 ghost use Rattle.eu_core.specs.Shown.{shown};
 ghost use Rattle.eu_core.specs.State.{state_of};
+ghost use Rattle.eu_core.specs.Undone.{eviction_before, eviction_undone, lease_undone, renewal_undone, undone};
 
 use crate::decide::{Context, decide_cancel, decide_no_status, decide_renewal, decide_status};
 use crate::decision::{Change, Decision, LeaseChange, begin, new_id, write_lease, write_row};
 use crate::joins::decide_join;
 use crate::statuses::row_of;
+use crate::step::key_of;
+use crate::undo::{
+    Clients, EvictionBefore, LeaseBefore, RenewalBefore, Undo, put_lease, put_leases, put_moments,
+    put_row, put_rows, shared,
+};
 use eu_base::{
     App, Config, Fault, Key, Keys, MOST_EXPECTED, MOST_LEASES, Moment, SharedInstance, Stamp,
     Status,
 };
 use eu_clock::Chooser;
-use eu_eviction::{Eviction, Overrides, run_eviction};
+use eu_eviction::{Eviction, Overrides, Removed, run_eviction};
 use eu_lease::{Rate, Threshold};
 use eu_model::{Command, Counts, Listed, Listing, Queues, Reply, State, StatusCounts, Times};
 use eu_store::{HeldLease, Leases, Place, Snapshot};
@@ -312,6 +320,7 @@ impl Registry {
         ensures answers { IfOk result (λ v. Answers self.old Command.Evict moment (Ok (Reply.Evicted v.victims.items)) self.new) }
         ensures drawn { IfOk result (λ v. Draws C.asks self.old moment chooser.old v.victims.items chooser.new) }
         ensures replies { IfOk result (λ v. v.replies.items ≡ replicate replies (Reply.Evicted v.victims.items)) }
+        ensures undo { IfOk result (λ v. eviction_undone (eviction_before self.old v) self.new ≡ self.old) }
         ensures refused { IfErr result (λ f. Answers self.old Command.Evict moment (Err f) self.old) }
         ensures err { OnErr result (self.new ≡ self.old) }
         ensures unasked { OnErr result (chooser.new ≡ chooser.old) }
@@ -386,6 +395,80 @@ impl Registry {
             previous: self.previous,
             queues: Queues::new(Vec::new(alloc)),
         })
+    }
+
+    /// The same registry once more; its leases share their instances. `AllocError` where no memory is left.
+    pub fn copy(&self, alloc: Global) -> Result<Registry, AllocError>
+        ensures { IfOk result (λ copy. copy ≡ self.now) }
+    {
+        Ok(Registry {
+            leases: self.leases.copy(alloc)?,
+            overrides: self.overrides.copy(alloc)?,
+            threshold: self.threshold,
+            rate: self.rate,
+            previous: self.previous,
+        })
+    }
+
+    /// Undoes a step of that command, by what it replaced: a registry that is what the step left is again what it was before it.
+    ///
+    /// `AllocError` where no memory is left, or where a lease is to come back and 65,536 are held, as they never are in what a step left.
+    /// Then a part may be undone, so it is for a registry that is let go then.
+    pub fn undo(&mut self, alloc: Global, command: &Command, undo: &Undo) -> Result<(), AllocError>
+        ensures { OnOk result (self.new ≡ undone command.now undo.now self.old) }
+    {
+        match undo {
+            Undo::Renewal(before) => match key_of(command) {
+                Some(key) => self.undo_renewal(key, before),
+                None => {}
+            },
+            Undo::Lease(before) => match key_of(command) {
+                Some(key) => self.undo_lease(alloc, key, before)?,
+                None => {}
+            },
+            Undo::Eviction(before) => self.undo_eviction(alloc, before)?,
+            Undo::Minute(rate) => self.rate = *rate,
+            Undo::Expected(clients) => self.threshold.expect(clients.number()),
+            Undo::Settings(config) => self.threshold.reconfigure(*config),
+        }
+        Ok(())
+    }
+
+    /// Undoes a step of a command that changed the moments of the lease of that key and the counts alone.
+    fn undo_renewal(&mut self, key: &Key, before: &RenewalBefore)
+        ensures { self.new ≡ renewal_undone (Some key.now) before.now self.old }
+    {
+        put_moments(&mut self.leases, key, before.lease);
+        self.rate = before.rate;
+    }
+
+    /// Undoes a step of another command on the lease of that key. `AllocError` as `undo`.
+    fn undo_lease(
+        &mut self,
+        alloc: Global,
+        key: &Key,
+        before: &LeaseBefore,
+    ) -> Result<(), AllocError>
+        ensures { OnOk result (self.new ≡ lease_undone (Some key.now) before.now self.old) }
+    {
+        put_lease(&mut self.leases, alloc, key, before.held.as_deref())?;
+        put_row(&mut self.overrides, alloc, &key.id, before.row)?;
+        self.threshold.expect(before.expected.number());
+        self.rate = before.rate;
+        Ok(())
+    }
+
+    /// Undoes an eviction. `AllocError` as `undo`.
+    fn undo_eviction(&mut self, alloc: Global, before: &EvictionBefore) -> Result<(), AllocError>
+        ensures { OnOk result (self.new ≡ eviction_undone before.now self.old) }
+    {
+        let keys = before.victims.as_slice();
+        let Removed { leases, rows } = &before.removed;
+        put_leases(&mut self.leases, alloc, keys, leases.as_slice())?;
+        put_rows(&mut self.overrides, alloc, keys, rows.as_slice())?;
+        self.threshold.expect(before.expected.number());
+        self.previous = before.previous;
+        Ok(())
     }
 
     /// What is held under that key, and where, and the override row of its id. Takes no memory.
@@ -608,6 +691,76 @@ impl Registry {
         write_lease(&mut self.leases, key, place, lease);
         write_row(&mut self.overrides, &key.id, None, row, after);
         self.count(expected, counted);
+    }
+
+    /// What a command on the lease of that key is to replace by that change, where this is held and its id has that row. `AllocError`
+    /// where no memory is left, or 2^63 share its instance.
+    pub(crate) fn lease_before(
+        &self,
+        alloc: Global,
+        key: &Key,
+        held: Option<&HeldLease>,
+        row: Option<Status>,
+        change: &Change,
+    ) -> Result<Undo, AllocError>
+        requires held { option_copied held ≡ map.get self.now.leases key.now }
+        requires row { row ≡ map.get self.now.overrides key.now.id }
+        ensures { IfOk result (λ u. (c : Command) → key_of c ≡ Some key.now → undone c u (left self.now key.now change.now) ≡ self.now) }
+    {
+        match (&change.lease, held) {
+            (LeaseChange::Amended(amendment), Some(held))
+                if amendment.keeps(held.instance())
+                    && change.row == row
+                    && change.expected == self.threshold.expected() => {
+                Ok(Undo::Renewal(RenewalBefore {
+                    lease: held.lease(),
+                    rate: self.rate,
+                }))
+            }
+            _ => Ok(Undo::Lease(LeaseBefore {
+                held: shared(alloc, held)?,
+                row,
+                expected: Clients::new(self.threshold.expected()),
+                rate: self.rate,
+            })),
+        }
+    }
+
+    /// What an eviction is to replace, before its victims are known. Takes no memory.
+    pub(crate) fn eviction_before(&self, alloc: Global) -> EvictionBefore
+        ensures expected { result.expected ≡ self.now.expected }
+        ensures previous { result.previous ≡ self.now.previous }
+    {
+        EvictionBefore {
+            victims: Vec::new(alloc),
+            removed: Removed {
+                leases: Vec::new(alloc),
+                rows: Vec::new(alloc),
+            },
+            expected: Clients::new(self.threshold.expected()),
+            previous: self.previous,
+        }
+    }
+
+    /// What the end of a minute replaces.
+    pub(crate) fn minute_before(&self) -> Undo
+        ensures { result ≡ Undo.Minute (counted self.now) }
+    {
+        Undo::Minute(self.rate)
+    }
+
+    /// What a count of the clients replaces.
+    pub(crate) fn expected_before(&self) -> Undo
+        ensures { result ≡ Undo.Expected self.now.expected }
+    {
+        Undo::Expected(Clients::new(self.threshold.expected()))
+    }
+
+    /// What new settings replace.
+    pub(crate) fn settings_before(&self) -> Undo
+        ensures { result ≡ Undo.Settings self.now.config }
+    {
+        Undo::Settings(self.threshold.config())
     }
 
     /// So many clients are expected from now on; a renewal is counted, where one is.

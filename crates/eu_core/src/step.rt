@@ -10,29 +10,34 @@ ghost use Rattle.eu_model.specs.Server.{is_for_peers, key_of};
 ghost use Rattle.eu_core.specs.Answered.{answered};
 ghost use Rattle.eu_core.specs.Decided.{Decides};
 ghost use Rattle.eu_core.specs.Stepped.{Acts, Steps};
+ghost use Rattle.eu_core.specs.Undone.{undone};
 
 use crate::decision::Decision;
 use crate::registry::Registry;
 use crate::replies::{Answered, copies_left, for_log, owning_nothing, replies_for, split};
+use crate::undo::Undo;
 use eu_base::{Config, Fault, Key, Moment, SharedInstance, Status};
 use eu_clock::Chooser;
 use eu_model::{Command, Reply};
 use eu_store::HeldLease;
 use std::alloc::Global;
 
-/// What a step gives: its reply for each use, and so many copies of the instance that is held after it.
+/// What a step gives: its reply for each use, so many copies of the instance that is held after it, and what undoes it.
 #[derive(Debug, Drop)]
 pub struct Stepped {
     /// The reply for each use.
     pub answered: Answered<Reply>,
     /// The copies; none where no lease is held under the command's key after the step, or where it names no key.
     pub held: Vec<SharedInstance>,
+    /// What the step replaced.
+    pub undo: Undo,
 }
 
 impl Registry {
     /// Takes one step by a command at the moment, and gives its reply, once more for who asked, and once more for a log, where one
     /// `logs` it; and so many copies of the instance that is held under the command's key after it: none where no lease is held then,
-    /// or where the command names no key (`EndMinute`, `Update`, `Reconfigure`, `Evict`).
+    /// or where the command names no key (`EndMinute`, `Update`, `Reconfigure`, `Evict`). And what it replaced, by which the step is
+    /// undone.
     ///
     /// No command for a peer (`Drain`, `Landed`, `Lost`) is handed in. The step is that of the command's call: `register`,
     /// `renew`, `cancel`, `set_status`, `unset_status`, `adopt`, `end_minute`, `update`, `reconfigure` or `evict`, whose replies and
@@ -50,6 +55,7 @@ impl Registry {
     ) -> Result<Stepped, Fault>
         requires { is_for_peers command.now ≡ false }
         ensures ok { IfOk result (λ s. Steps C.asks self.old chooser.old command.now moment logs held s self.new chooser.new) }
+        ensures undo { IfOk result (λ s. undone command.now s.undo self.new ≡ self.old) }
         ensures refused { IfErr result (λ f. Answers self.old command.now moment (Err f) self.old) }
         ensures err { OnErr result (self.new ≡ self.old) }
         ensures unasked { OnErr result (chooser.new ≡ chooser.old) }
@@ -63,6 +69,7 @@ impl Registry {
         let answer = reply.copy(alloc)?;
         let logged = for_log(alloc, &reply, logs)?;
         let held = copies_left(alloc, &change.lease, found, held)?;
+        let undo = self.lease_before(alloc, key, found, row, &change)?;
         self.carry_out(alloc, key, place, row, change)?;
         Ok(Stepped {
             answered: Answered {
@@ -71,6 +78,7 @@ impl Registry {
                 logged,
             },
             held,
+            undo,
         })
     }
 
@@ -85,6 +93,7 @@ impl Registry {
     ) -> Result<Stepped, Fault>
         requires { (is_for_peers command.now ≡ false) × (key_of command.now ≡ None) }
         ensures ok { IfOk result (λ s. (m : ℕ) → Steps C.asks self.old chooser.old command.now moment logs m s self.new chooser.new) }
+        ensures undo { IfOk result (λ s. undone command.now s.undo self.new ≡ self.old) }
         ensures refused { IfErr result (λ f. Answers self.old command.now moment (Err f) self.old) }
         ensures err { OnErr result (self.new ≡ self.old) }
         ensures unasked { OnErr result (chooser.new ≡ chooser.old) }
@@ -156,53 +165,66 @@ impl Registry {
         chooser: &mut C,
     ) -> Result<Stepped, Fault>
         ensures ok { IfOk result (λ s. (m : ℕ) → Steps C.asks self.old chooser.old Command.Evict moment logs m s self.new chooser.new) }
+        ensures undo { IfOk result (λ s. undone Command.Evict s.undo self.new ≡ self.old) }
         ensures refused { IfErr result (λ f. Answers self.old Command.Evict moment (Err f) self.old) }
         ensures err { OnErr result (self.new ≡ self.old) }
         ensures unasked { OnErr result (chooser.new ≡ chooser.old) }
     {
+        let mut before = Box::new(alloc, self.eviction_before(alloc))?;
         let eviction = self.evict_due(alloc, moment, replies_for(logs), chooser)?;
+        before.victims = eviction.victims;
+        before.removed = eviction.removed;
         Ok(Stepped {
             answered: split(eviction.replies, logs),
             held: Vec::new(alloc),
+            undo: Undo::Eviction(before),
         })
     }
 
     fn step_end_minute(&mut self, alloc: Global, logs: bool) -> Stepped
-        ensures { (t m : ℕ) → Acts self.old Command.EndMinute t logs m result self.new }
+        ensures acts { (t m : ℕ) → Acts self.old Command.EndMinute t logs m result self.new }
+        ensures undo { undone Command.EndMinute result.undo self.new ≡ self.old }
     {
+        let undo = self.minute_before();
         let reply = self.end_minute();
-        on_no_lease(alloc, reply, logs)
+        on_no_lease(alloc, reply, undo, logs)
     }
 
     fn step_update(&mut self, alloc: Global, logs: bool) -> Stepped
-        ensures { (t m : ℕ) → Acts self.old Command.Update t logs m result self.new }
+        ensures acts { (t m : ℕ) → Acts self.old Command.Update t logs m result self.new }
+        ensures undo { undone Command.Update result.undo self.new ≡ self.old }
     {
+        let undo = self.expected_before();
         let reply = self.update();
-        on_no_lease(alloc, reply, logs)
+        on_no_lease(alloc, reply, undo, logs)
     }
 
     fn step_reconfigure(&mut self, alloc: Global, config: &Config, logs: bool) -> Stepped
-        ensures { (t m : ℕ) → Acts self.old (Command.Reconfigure config.now) t logs m result self.new }
+        ensures acts { (t m : ℕ) → Acts self.old (Command.Reconfigure config.now) t logs m result self.new }
+        ensures undo { undone (Command.Reconfigure config.now) result.undo self.new ≡ self.old }
     {
+        let undo = self.settings_before();
         let reply = self.reconfigure(*config);
-        on_no_lease(alloc, reply, logs)
+        on_no_lease(alloc, reply, undo, logs)
     }
 }
 
 /// What a step gives that is on no lease, and whose reply owns no memory. Takes none.
-fn on_no_lease(alloc: Global, reply: Reply, logs: bool) -> Stepped
+fn on_no_lease(alloc: Global, reply: Reply, undo: Undo, logs: bool) -> Stepped
     requires { owns_nothing reply ≡ true }
     ensures answered { result.answered ≡ answered logs reply }
     ensures held { result.held.items ≡ [] }
+    ensures undo { result.undo ≡ undo }
 {
     Stepped {
         answered: owning_nothing(alloc, reply, logs),
         held: Vec::new(alloc),
+        undo,
     }
 }
 
 /// The key of the lease that a command is on, if it is on one.
-fn key_of(command: &Command) -> Option<&Key>
+pub(crate) fn key_of(command: &Command) -> Option<&Key>
     ensures { option_map (λ (k : Bor Key). k.now) result ≡ key_of command.now }
 {
     match command {

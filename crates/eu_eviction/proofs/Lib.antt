@@ -1,4 +1,4 @@
+pub mod UndoLemmas
 pub mod RowLemmas
-pub mod SortedLemmas
 pub mod OnceLemmas
 pub mod Crossing

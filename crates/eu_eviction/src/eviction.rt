@@ -1,35 +1,49 @@
 //! Evictions.
-ghost use Rattle.std.specs.Prelude.{◌≡◌, length, map, replicate, All, Contains, vec_len, IfOk, OnOk, OnErr};
+ghost use Rattle.std.specs.Prelude.{◌≡◌, ◌≤◌, [], length, map, replicate, All, Contains, vec_len, vec_capacity, IfOk, OnOk, OnErr};
 ghost use Rattle.std.specs.List.{IsDistinct};
 ghost use Rattle.eu_base.specs.Values.{key_eq};
 ghost use Rattle.eu_clock.specs.Front.{state_after};
 ghost use Rattle.eu_eviction.specs.Eviction.{due, number_of, drawn};
+ghost use Rattle.eu_eviction.specs.Removed.{with_values};
 ghost use Rattle.eu_model.specs.Machine.{without};
 
 use crate::lots::{draw_all, evictions, lots};
 use crate::overrides::Overrides;
-use eu_base::{Config, Key, Moment};
+use eu_base::{Config, Key, Moment, Status};
 use eu_clock::Chooser;
 use eu_lease::evict_limit;
 use eu_model::Reply;
-use eu_store::Leases;
+use eu_store::{HeldLease, Leases};
 use std::alloc::{AllocError, Global};
 
 /// What an eviction took out, and so many replies that tell it.
 #[derive(Debug, Drop)]
 pub struct Eviction {
+    /// The keys of the leases that went.
     pub victims: Vec<Key>,
+    /// What stood under these keys.
+    pub removed: Removed,
+    /// The replies.
     pub replies: Vec<Reply>,
 }
 
+/// What stood under some keys, in their order.
+#[derive(Debug, Drop)]
+pub struct Removed {
+    /// The lease of each key, where one was held.
+    pub leases: Vec<Option<HeldLease>>,
+    /// The override row of the id of each key, where it had one.
+    pub rows: Vec<Option<Status>>,
+}
+
 /// Evicts leases that have expired, where eviction is permitted, and hands back their keys in the order in which they were
-/// drawn, and so many replies that tell them (`AbstractInstanceRegistry.evict` in Eureka).
+/// drawn, what stood under them, and so many replies that tell them (`AbstractInstanceRegistry.evict` in Eureka).
 ///
 /// A lease has expired where its deadline is before the moment less the extra milliseconds. At most so many go as are held,
 /// less the percentage of the settings, rounded down. The chooser draws them from the keys of the expired leases in key order,
 /// by one word for each that goes. The override rows of their ids go with them.
 ///
-/// `AllocError` where no memory is left for the keys and the replies. All memory is taken before the first word is asked, so
+/// `AllocError` where no memory is left for the keys, what stands under them, and the replies. All memory is taken before the first word is asked, so
 /// then nothing changes, and no word is asked.
 pub fn run_eviction<C: Chooser>(
     alloc: Global,
@@ -50,6 +64,8 @@ pub fn run_eviction<C: Chooser>(
     ensures replies { IfOk result (λ v. v.replies.items ≡ replicate replies (Reply.Evicted v.victims.items)) }
     ensures leases { IfOk result (λ v. leases.new.held ≡ without leases.old.held v.victims.items) }
     ensures overrides { IfOk result (λ v. overrides.new.rows ≡ without overrides.old.rows (map (λ k. k.id) v.victims.items)) }
+    ensures leases_back { IfOk result (λ v. with_values leases.new.held v.victims.items v.removed.leases.items ≡ leases.old.held) }
+    ensures rows_back { IfOk result (λ v. with_values overrides.new.rows (map (λ k. k.id) v.victims.items) v.removed.rows.items ≡ overrides.old.rows) }
     ensures err_leases { OnErr result (leases.new ≡ leases.old) }
     ensures err_rows { OnErr result (overrides.new ≡ overrides.old) }
     ensures unasked { OnErr result (chooser.new ≡ chooser.old) }
@@ -58,12 +74,14 @@ pub fn run_eviction<C: Chooser>(
     let number = keys.len().min(evict_limit(leases.len(), config.percent));
     let mut lots = lots(alloc, &keys, replies)?;
     let room = Vec::with_capacity(alloc, replies as usize)?;
+    let removed = room_for(alloc, number)?;
     draw_all(&mut keys, lots.as_mut_slice(), number, chooser);
     let replies = evictions(room, lots, &keys, number);
     keys.truncate(number);
-    remove_all(leases, overrides, &keys);
+    let removed = remove_all(leases, overrides, &keys, removed);
     Ok(Eviction {
         victims: keys,
+        removed,
         replies,
     })
 }
@@ -85,14 +103,39 @@ fn due_keys(
     }
 }
 
-/// Takes out the leases of these keys, and removes the override rows of their ids. Takes no memory.
-fn remove_all(leases: &mut Leases, overrides: &mut Overrides, keys: &[Key])
+/// Room for what stands under so many keys.
+fn room_for(alloc: Global, number: usize) -> Result<Removed, AllocError>
+    ensures leases { IfOk result (λ r. (r.leases.items ≡ []) × (number ≤ vec_capacity r.leases)) }
+    ensures rows { IfOk result (λ r. (r.rows.items ≡ []) × (number ≤ vec_capacity r.rows)) }
+{
+    Ok(Removed {
+        leases: Vec::with_capacity(alloc, number)?,
+        rows: Vec::with_capacity(alloc, number)?,
+    })
+}
+
+/// Takes out the leases of these keys and the override rows of their ids, and moves them into the room that was made. Takes no memory.
+fn remove_all(
+    leases: &mut Leases,
+    overrides: &mut Overrides,
+    keys: &[Key],
+    room: Removed,
+) -> Removed
+    requires leases { (room.leases.items ≡ []) × (length keys.now ≤ vec_capacity room.leases) }
+    requires rows { (room.rows.items ≡ []) × (length keys.now ≤ vec_capacity room.rows) }
     ensures leases { leases.new.held ≡ without leases.old.held keys.now }
     ensures overrides { overrides.new.rows ≡ without overrides.old.rows (map (λ k. k.id) keys.now) }
+    ensures leases_back { with_values leases.new.held keys.now result.leases.items ≡ leases.old.held }
+    ensures rows_back { with_values overrides.new.rows (map (λ k. k.id) keys.now) result.rows.items ≡ overrides.old.rows }
 {
+    let Removed {
+        leases: mut held,
+        mut rows,
+    } = room;
     for key in keys {
         let (place, _held) = leases.find(key);
-        leases.take(key, place);
-        overrides.take(&key.id);
+        held.push_reserved(leases.take(key, place));
+        rows.push_reserved(overrides.take(&key.id));
     }
+    Removed { leases: held, rows }
 }

@@ -5,5 +5,5 @@ mod eviction;
 mod lots;
 mod overrides;
 
-pub use eviction::{Eviction, run_eviction};
+pub use eviction::{Eviction, Removed, run_eviction};
 pub use overrides::Overrides;

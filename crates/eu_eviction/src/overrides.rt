@@ -74,6 +74,22 @@ impl Overrides {
         Ok(rows)
     }
 
+    /// The same rows once more. `AllocError` where no memory is left.
+    pub fn copy(&self, alloc: Global) -> Result<Overrides, AllocError>
+        ensures { IfOk result (λ copy. copy.rows ≡ self.now.rows) }
+    {
+        let mut copy = Overrides::new(alloc);
+        let entries = self.table.as_slice();
+        let mut left = self.table.len();
+        while left > 0 {
+            left -= 1;
+            let (id, status) = entries.get_index(left).unwrap();
+            copy.reserve()?;
+            copy.insert(id.copy(alloc)?, *status);
+        }
+        Ok(copy)
+    }
+
     /// Makes room for one row more. `AllocError` where no memory is left. Neither changes a row.
     pub fn reserve(&mut self) -> Result<(), AllocError>
         ensures rows { self.new.rows ≡ self.old.rows }

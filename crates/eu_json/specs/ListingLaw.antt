@@ -5,6 +5,7 @@ use Rattle.std.specs.FinMap.{FinMap, from_entries, is_sorted, keys}
 use Rattle.serde_json.specs.Data.{Data, string, object, no_members, member}
 use Rattle.eu_base.specs.Values.{name_cmp, name_eq, key_cmp}
 use Rattle.eu_model.specs.declared.views.Listed.{Listed}
+use Rattle.eu_model.specs.View.{by_key}
 use Rattle.eu_json.specs.Tree.{list_tree, listed_tree, item_tree, runs}
 
 -- ---- the items of a listing of all, application by application
@@ -31,7 +32,7 @@ item_of held app = object
 
 -- the keys of the instances strictly ascend
 abbrev pub IsInKeyOrder : List Listed → Type 0
-IsInKeyOrder held = is_sorted key_cmp (map (λ l. (l.instance.key, l)) held) ≡ true
+IsInKeyOrder held = is_sorted key_cmp (by_key held) ≡ true
 
 -- Of leases in key order a listing has one item for each application that holds a lease, in the order of names, with all leases of it
 abbrev pub ItemsAreOfApplications : Type 0

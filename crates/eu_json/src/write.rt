@@ -109,7 +109,7 @@ fn append_led(
 ) -> Result<(), AllocError>
     ensures { OnOk result ((s : List ℕ) × (out.new.items ≡ out.old.items ++ 44 ∷ s) × (compact_text (instance_tree instance.now times) ≡ 123 ∷ s)) }
 {
-    if let Some(text) = instance.rest().shared_text() {
+    if let Some(text) = instance.rest().kept_text() {
         return append_members(alloc, out, text.pieces(), instance, times);
     }
     let text = instance.rest().to_text(alloc)?;

@@ -12,6 +12,11 @@ use Rattle.eu_model.specs.Answers.{Shows}
 use Rattle.eu_model.specs.PlainSteps.{plain_listing}
 use Rattle.eu_model.proofs.MapLemmas.{entries-map_values}
 
+-- a test that all pass takes nothing away
+pub filter_true : {X : Type 0} (xs : List X) → filter (λ x. true) xs ≡ xs
+filter_true [] = refl
+filter_true (x ∷ xs) = ap (λ l. x ∷ l) (filter_true xs)
+
 -- what passes a test on its key, as it is kept
 passing-kept : (p : Key → Bool) (es : List (Key × Record)) →
     map (λ e. listed e.1) (filter (λ e. p e.0) es) ≡ map (λ (e : Key × Listed). e.1) (filter (λ (e : Key × Listed). p e.0) (map (λ e. (e.0, listed e.1)) es))

@@ -41,6 +41,10 @@ is_of (Some app) k = name_eq k.app app
 abbrev pub listing : Option (List ℕ) → Machine → List Listed
 listing app s = map (λ e. listed e.1) (filter (λ e. is_of app e.0) (entries s.leases))
 
+-- leases, each under the key of its instance
+abbrev pub by_key : List Listed → List (Key × Listed)
+by_key leases = map (λ l. (l.instance.key, l)) leases
+
 -- how many instances are listed in a status
 abbrev pub number_in : List Listed → Status → ℕ
 number_in ls status = count_by (λ l. is_status l.instance.status status) ls

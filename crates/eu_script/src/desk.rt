@@ -61,10 +61,10 @@ impl ScriptDesk {
                 entries: 0,
             });
         };
-        let journal = book.journal();
-        let entries = journal.entries.as_slice();
+        let entries = book.entries();
+        let base = book.base(alloc)?;
         let end = book.state(alloc)?;
-        let is_run = audit(alloc, &journal.base, entries, &end)?;
+        let is_run = audit(alloc, &base, entries, &end)?;
         Ok(Verdict {
             is_run,
             entries: entries.len(),
@@ -83,9 +83,10 @@ impl ScriptDesk {
         let Some(book) = self.book.as_ref() else {
             return Ok(());
         };
-        let kept = book.journal();
+        let entries = book.entries();
+        let base = book.base(alloc)?;
         let end = book.state(alloc)?;
-        match write_journal(alloc, journal, &kept.base, kept.entries.as_slice(), &end) {
+        match write_journal(alloc, journal, &base, entries, &end) {
             Ok(()) => Ok(()),
             Err(WriteError::Write) => Err(ScriptFault::Write),
             Err(WriteError::OutOfMemory) => Err(ScriptFault::OutOfMemory),

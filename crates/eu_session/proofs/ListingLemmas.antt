@@ -15,11 +15,10 @@ use Rattle.eu_model.specs.Machine.{Machine, Record, last, since}
 use Rattle.eu_model.specs.Plain.{plain, listed}
 use Rattle.eu_model.specs.Server.{Runs, PlainServer, idle, opened, plain_server}
 use Rattle.eu_model.specs.State.{server_of_state}
-use Rattle.eu_model.specs.View.{listing}
-use Rattle.eu_model.proofs.ListingLemmas.{listing_shown}
+use Rattle.eu_model.specs.View.{by_key, listing}
+use Rattle.eu_model.proofs.ListingLemmas.{filter_true, listing_shown}
 use Rattle.eu_model.proofs.MapLemmas.{get-map_values, map_values-empty}
-use Rattle.eu_book.specs.Listing.{by_key}
-use Rattle.eu_book.proofs.KeyedLemmas.{IsAt, all_of, keyed-runs, listings_ascend, plain_back}
+use Rattle.eu_book.proofs.KeyedLemmas.{IsAt, keyed-runs, listings_ascend, plain_back}
 use Rattle.eu_json.specs.Tree.{item_tree}
 use Rattle.eu_json.specs.ListingLaw.{applications, leases_of}
 use Rattle.eu_json.proofs.ApplicationLemmas.{runs_are_of_applications}
@@ -55,7 +54,7 @@ module _ (base : State) (es : List Entry) (q : PlainServer) (run : Runs (server_
 
   -- what is held is what is listed
   all_rows : all ≡ map (λ (e : Key × Listed). e.1) rows
-  all_rows = sym (listing_shown None q.registry m is) ∙ ap (map (λ (e : Key × Listed). e.1)) (all_of rows)
+  all_rows = sym (listing_shown None q.registry m is) ∙ ap (map (λ (e : Key × Listed). e.1)) (filter_true rows)
 
   -- each under its own key
   own_rows : by_key all ≡ rows

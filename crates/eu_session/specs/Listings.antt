@@ -27,6 +27,6 @@ AreByApplication p = (es : List Entry) (q : PlainServer) → Runs p es q → (m 
 abbrev pub OpenedAreByApplication : Type 0
 OpenedAreByApplication = (config : Config) (expected peers : ℕ) → AreByApplication (plain_server (opened config expected peers))
 
--- and from plain data, as a checkpoint has it
+-- and from plain data, as the base of a journal has it
 abbrev pub ResumedAreByApplication : Type 0
 ResumedAreByApplication = (base : State) → AreByApplication (server_of_state base)

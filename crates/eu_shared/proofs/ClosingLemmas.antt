@@ -5,10 +5,11 @@ use Rattle.eu_book.specs.Peers.{state_of}
 use Rattle.eu_model.specs.State.{server_of_state}
 use Rattle.eu_settle.specs.declared.closed.Closed.{Closed}
 use Rattle.eu_shared.specs.Closing.{account_of}
-use Rattle.eu_book.proofs.KeyedLemmas.{book_back}
+use Rattle.eu_book.proofs.KeyedLemmas.{base_back, state_back}
 
-pub closed_is : (c : Closed) (a : Account) → IsLawful a → server_of_state c.base ≡ a.base → c.first ≡ a.first → c.entries.items ≡ a.entries → c.end ≡ state_of a.state → c.totals ≡ a.totals
+pub closed_is : (c : Closed) (a : Account) → IsLawful a → c.base ≡ state_of a.base → c.first ≡ a.first → c.entries.items ≡ a.entries → c.end ≡ state_of a.state → c.totals ≡ a.totals
     → account_of c ≡ a
 closed_is c a lawful base first entries end totals =
-    let state = ap server_of_state end ∙ book_back c.base a base lawful in
-    λ i. record { base = base i; first = first i; entries = entries i; state = state i; totals = totals i }
+    let before = ap server_of_state base ∙ base_back a lawful in
+    let after = ap server_of_state end ∙ state_back a lawful in
+    λ i. record { base = before i; first = first i; entries = entries i; state = after i; totals = totals i }

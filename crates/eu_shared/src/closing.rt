@@ -12,7 +12,6 @@ use crate::held::Held;
 use crate::pass::Pass;
 use crate::shares::Label;
 use eu_base::Fault;
-use eu_book::Journal;
 use eu_model::{State, Tally};
 use eu_settle::{Closed, PassLog};
 use std::alloc::Global;
@@ -55,32 +54,32 @@ impl<K: Label> Held<K> {
         let Ok(logs) = Vec::with_capacity(alloc, passes.len()) else {
             return Err(hand_back(Fault::OutOfMemory, sums, passes, held));
         };
+        let Ok(base) = held.book().base(alloc) else {
+            return Err(hand_back(Fault::OutOfMemory, sums, passes, held));
+        };
         let Ok(end) = held.book().state(alloc) else {
             return Err(hand_back(Fault::OutOfMemory, sums, passes, held));
         };
-        Ok(plain(held, end, sorted_logs(passes, logs)))
+        Ok(plain(held, base, end, sorted_logs(passes, logs)))
     }
 }
 
-/// The book as plain data, with its state and the logs of its passes.
-fn plain<K: Label>(held: Held<K>, end: State, logs: Vec<PassLog>) -> Closed
-    requires { end ≡ state_of held.book.state }
+/// The book as plain data, with its base, its state and the logs of its passes.
+fn plain<K: Label>(held: Held<K>, base: State, end: State, logs: Vec<PassLog>) -> Closed
+    requires base { base ≡ state_of held.book.base }
+    requires end { end ≡ state_of held.book.state }
     ensures whole { account_of result ≡ held.book }
-    ensures base { result.base ≡ state_of held.book.base }
+    ensures base { result.base ≡ base }
     ensures end { result.end ≡ end }
     ensures logs { result.logs ≡ logs }
     ensures lawful { IsLawful (account_of result) }
 {
+    let first = held.book().first();
     let totals = held.book().totals();
-    let Journal {
-        base,
-        first,
-        entries,
-    } = held.into_book().into_journal();
     Closed {
         base,
         first,
-        entries,
+        entries: held.into_book().into_entries(),
         end,
         totals,
         logs,

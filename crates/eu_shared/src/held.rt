@@ -1,7 +1,7 @@
 //! The book behind the lock, with its part of the ledgers.
 ghost use Rattle.std.specs.Prelude.{◌≡◌, ◌↔◌, ◌+◌, ◌<◌, ◌≤◌, ◌^◌, Err, None, vec_len, IfOk, IfErr, OnOk, OnErr};
 ghost use Rattle.eu_book.specs.Account.{cleared, entry, known_fault, logged, Applies, IsLawful, Refuses};
-ghost use Rattle.eu_book.specs.Checkpoint.{IsJournal, IsRetired};
+ghost use Rattle.eu_book.specs.Checkpoint.{IsJournal, IsRoom};
 ghost use Rattle.eu_book.specs.Snapshot.{view_of};
 ghost use Rattle.eu_model.specs.Answers.{Shows};
 ghost use Rattle.eu_model.specs.Delta.{plus};
@@ -12,31 +12,11 @@ use crate::pass::{Pass, is_stale_with, see};
 use crate::shares::{Blanks, Label, Shares, Totals};
 use crate::sums::sum_up;
 use eu_base::{Config, Fault, MOST_PASSES, MOST_PEERS, Moment};
-use eu_book::{Book, Journal, Receipt, ViewSnapshot};
+use eu_book::{Book, Dropped, Journal, Receipt, ViewSnapshot};
 use eu_clock::Chooser;
 use eu_model::{Command, Query, Tally, View};
 use std::alloc::{AllocError, Global};
 use std::marker::Model;
-
-/// What an accepted command is given, and the journal as it was, where it was full and has begun anew.
-#[derive(Drop)]
-pub(crate) struct Told {
-    receipt: Receipt,
-    retired: Option<Box<Journal>>,
-}
-
-impl Told {
-    /// What the command is given. Lets go of the journal: that takes its time, so it is done where nobody waits for a lock.
-    pub(crate) fn into_receipt(self) -> Receipt
-        ensures { result ≡ self.receipt }
-    {
-        let Told {
-            receipt,
-            retired: _,
-        } = self;
-        receipt
-    }
-}
 
 /// A book with its part of four ledgers: what lies behind the lock. None of its calls waits for anybody.
 ///
@@ -98,7 +78,7 @@ impl<K: Label> Held<K> {
         ensures book { result.now ≡ self.now.book }
         ensures lawful { IsLawful self.now.book }
     {
-        let _journal = self.book.journal();
+        let _entries = self.book.entries();
         &self.book
     }
 
@@ -182,18 +162,25 @@ impl<K: Label> Held<K> {
         ensures err { OnErr result ((self.new ≡ self.old) × (pass.new ≡ pass.old)) }
         ensures unasked { OnErr result (chooser.new ≡ chooser.old) }
     {
-        let _before = self.book.journal();
+        let _before = self.book.entries();
         let Ok(mine) = command.copy(alloc) else {
             let fault = self.book.refusal_without_memory(&command, moment);
             drop(command);
             return Err(fault);
         };
-        let outcome = self.ask_with(alloc, pass, command, mine, moment, chooser)?;
-        Ok(outcome.into_receipt())
+        let outcome = self.ask_with(alloc, pass, command, mine, moment, chooser);
+        drop(self.let_go());
+        outcome
     }
 
-    /// As `ask`, where the command was copied before: `mine` is for the pass's log. A journal that has begun anew is handed out, for who
-    /// holds a lock.
+    /// `Book::let_go`, for who holds a lock.
+    pub(crate) fn let_go(&mut self) -> Dropped
+        ensures { self.new ≡ self.old }
+    {
+        self.book.let_go()
+    }
+
+    /// As `ask`, where the command was copied before: `mine` is for the pass's log. No entry is let go of.
     pub(crate) fn ask_with<C: Chooser>(
         &mut self,
         alloc: Global,
@@ -202,12 +189,11 @@ impl<K: Label> Held<K> {
         mine: Command,
         moment: Moment,
         chooser: &mut C,
-    ) -> Result<Told, Fault>
+    ) -> Result<Receipt, Fault>
         requires same { mine ≡ command }
-        ensures applied { IfOk result (λ t. Applies C.asks self.old.book chooser.old (entry pass.old.number t.receipt.number command moment t.receipt.reply) self.new.book chooser.new) }
-        ensures pass { IfOk result (λ t. pass.new ≡ after_answer pass.old (logged command moment t.receipt.reply t.receipt.number) self.new.book.first) }
-        ensures after_own { IfOk result (λ t. pass.old.tally.steps ≤ t.receipt.number) }
-        ensures retired { IfOk result (λ t. IsRetired self.old.book t.retired) }
+        ensures applied { IfOk result (λ t. Applies C.asks self.old.book chooser.old (entry pass.old.number t.number command moment t.reply) self.new.book chooser.new) }
+        ensures pass { IfOk result (λ t. pass.new ≡ after_answer pass.old (logged command moment t.reply t.number) self.new.book.first) }
+        ensures after_own { IfOk result (λ t. pass.old.tally.steps ≤ t.number) }
         ensures before { IsLawful self.old.book }
         ensures after { OnOk result (IsLawful self.new.book) }
         ensures pass_count { self.new.pass_count ≡ self.old.pass_count }
@@ -216,7 +202,7 @@ impl<K: Label> Held<K> {
         ensures err { OnErr result ((self.new ≡ self.old) × (pass.new ≡ pass.old)) }
         ensures unasked { OnErr result (chooser.new ≡ chooser.old) }
     {
-        let _lawful = self.book.journal();
+        let _lawful = self.book.entries();
         if pass.log.reserve(1).is_err() {
             let fault = self.book.refusal_without_memory(&command, moment);
             drop((command, mine));
@@ -230,18 +216,16 @@ impl<K: Label> Held<K> {
         self.totals.add(&mut pass.shares, done);
         self.totals.audit(&mut pass.shares);
         let _totals = self.book.totals();
+        let _after = self.book.entries();
         pass.tally = sum(pass.tally, done);
         see(
             &mut pass.journal_first,
             &mut pass.is_stale,
-            self.book.journal().first,
+            self.book.first(),
         );
         pass.is_stale = is_stale_with(pass.is_stale, pass.journal_first, outcome.logged.number);
         pass.log.push_reserved(outcome.logged);
-        Ok(Told {
-            receipt: outcome.receipt,
-            retired: outcome.retired,
-        })
+        Ok(outcome.receipt)
     }
 
     /// What a query sees at a moment (`Book::read`), for a pass, which has seen then where the journal begins. The pass's log and tallies
@@ -281,10 +265,10 @@ impl<K: Label> Held<K> {
         ensures before { IsLawful self.old.book }
         ensures same { (self.new ≡ self.old) × (pass.new ≡ pass.old) }
     {
-        let _lawful = self.book.journal();
+        let _lawful = self.book.entries();
         self.totals.audit(&mut pass.shares);
         let snapshot = self.book.snapshot(alloc, query, moment)?;
-        Ok((snapshot, self.book.journal().first))
+        Ok((snapshot, self.book.first()))
     }
 
     /// Begins the journal anew (`Book::checkpoint`), for a pass, which has seen then where it begins. Registry, queues, totals, and
@@ -302,13 +286,34 @@ impl<K: Label> Held<K> {
         ensures retired { IfOk result (λ j. IsJournal self.old.book j.value) }
         ensures err { OnErr result ((self.new ≡ self.old) × (pass.new ≡ pass.old)) }
     {
-        let _as_it_was = self.book.journal();
-        let retired = self.book.checkpoint(alloc)?;
+        let _as_it_was = self.book.entries();
+        let room = Journal::room(alloc)?;
+        self.checkpoint_in(alloc, pass, room)
+    }
+
+    /// As `checkpoint`, for who holds a lock: the room for the next journal was made before (`Journal::room`). `AllocError` where no memory
+    /// is left for a copy of what waits for the peers, which changes neither the book nor the pass; then the room is let go of.
+    pub fn checkpoint_in(
+        &mut self,
+        alloc: Global,
+        pass: &mut Pass<K>,
+        room: Box<Journal>,
+    ) -> Result<Box<Journal>, AllocError>
+        requires { IsRoom room.value }
+        ensures book { OnOk result (self.new ≡ record { book = cleared self.old.book; pass_count = self.old.pass_count }) }
+        ensures pass { OnOk result (pass.new ≡ after_view pass.old self.old.book.totals.steps) }
+        ensures after_own { OnOk result (pass.old.tally.steps ≤ self.old.book.totals.steps) }
+        ensures before { IsLawful self.old.book }
+        ensures retired { IfOk result (λ j. IsJournal self.old.book j.value) }
+        ensures err { OnErr result ((self.new ≡ self.old) × (pass.new ≡ pass.old)) }
+    {
+        let _as_it_was = self.book.entries();
+        let retired = self.book.checkpoint_in(alloc, room)?;
         self.totals.audit(&mut pass.shares);
         see(
             &mut pass.journal_first,
             &mut pass.is_stale,
-            self.book.journal().first,
+            self.book.first(),
         );
         Ok(retired)
     }

@@ -1,8 +1,9 @@
 //! The book behind its lock.
 //!
-//! Each call takes the lock once, makes the one call of its name on what lies behind it (`Held`; an ask has copied its command before, and
-//! a read of all makes its listing after), and releases it; a journal that has begun anew is let go only then. What is behind a lock is known by its type alone: so a clause
-//! says of an answer that some lawful book gives it, and not which.
+//! Each call takes the lock once, makes the one call of its name on what lies behind it (`Held`), and releases it. An ask copies
+//! its command before, and under the lock lets go of an entry in the end, which is dropped after. A read of all makes its listing after, and a
+//! checkpoint the room for the next journal before. What is behind a lock is known
+//! by its type alone: so a clause says of an answer that some lawful book gives it, and not which.
 ghost use Rattle.std.specs.Prelude.{◌≡◌, ◌∷◌, ◌++◌, ◌≤◌, [], map, vec_len, IfOk, IfErr, OnErr, OnOk, IsPermutation};
 ghost use Rattle.std.specs.List.Sorted.{IsNonDecreasingBy};
 ghost use Rattle.std.specs.Sync.Mutex.{mutex_guard_value};
@@ -18,7 +19,7 @@ use crate::held::Held;
 use crate::pass::{Pass, see};
 use crate::shares::{Blanks, Label};
 use eu_base::{Config, Fault, MOST_PEERS, Moment};
-use eu_book::Receipt;
+use eu_book::{Journal, Receipt};
 use eu_clock::Chooser;
 use eu_model::{Command, Query, View};
 use eu_settle::Closed;
@@ -128,10 +129,12 @@ impl<K: Label> Pass<K> {
             drop(command);
             return Err(fault);
         };
-        let outcome = shared
-            .lock(rt)
-            .ask_with(alloc, self, command, mine, moment, chooser)?;
-        Ok(outcome.into_receipt())
+        let mut held = shared.lock(rt);
+        let outcome = held.ask_with(alloc, self, command, mine, moment, chooser);
+        let dropped = held.let_go();
+        drop(held);
+        drop(dropped);
+        outcome
     }
 
     /// What a query sees of the shared book, at a moment (`Held::read`). No fewer steps than were made for the pass had been made by then.
@@ -156,8 +159,8 @@ impl<K: Label> Pass<K> {
     }
 
     /// Begins the shared book's journal anew (`Held::checkpoint`): what it and its peers' queues are becomes its base, and it has no
-    /// entries. The pass has then seen where it begins, and its log and tallies stay. `AllocError` where no memory is left, which
-    /// changes nothing.
+    /// entries. The pass has then seen where it begins, and its log and tallies stay. The room for the next journal is made before the
+    /// lock is taken, and the journal as it was is let go of after. `AllocError` where no memory is left, which changes nothing.
     pub fn checkpoint<R: Wait>(
         &mut self,
         rt: &R,
@@ -169,7 +172,8 @@ impl<K: Label> Pass<K> {
         ensures after_own { OnOk result (self.old.tally.steps ≤ self.new.journal_first) }
         ensures err { OnErr result (self.new ≡ self.old) }
     {
-        let retired = shared.lock(rt).checkpoint(alloc, self)?;
+        let room = Journal::room(alloc)?;
+        let retired = shared.lock(rt).checkpoint_in(alloc, self, room)?;
         drop(retired);
         Ok(())
     }

@@ -14,6 +14,7 @@ use Rattle.eu_base.proofs.KeyLemmas.{keys_total, keys_exact}
 use Rattle.eu_model.specs.declared.status_counts.StatusCounts.{StatusCounts}
 use Rattle.eu_model.specs.declared.views.Listed.{Listed}
 use Rattle.eu_model.specs.Change.{is_status}
+use Rattle.eu_model.proofs.ListingLemmas.{filter_true}
 use Rattle.eu_model.specs.View.{number_in, status_counts, with_one_more, with_one_fewer, in_status}
 use Rattle.eu_store.specs.Stored.{counts_of, listing_of}
 use Rattle.eu_store.proofs.TableLemmas.{by_key, map_of, insert_same}
@@ -80,10 +81,6 @@ weight s l = one l.instance.status s
 
 abbrev Held : Type 0
 Held = FinMap key_cmp Listed
-
-pub filter_true : {X : Type 0} (xs : List X) → filter (λ x. true) xs ≡ xs
-filter_true [] = refl
-filter_true (x ∷ xs) = ap (λ l. x ∷ l) (filter_true xs)
 
 number_is : (s : Status) (es : List (Key × Listed)) → number_in (map (λ e. e.1) es) s ≡ total (weight s) es
 number_is s [] = refl

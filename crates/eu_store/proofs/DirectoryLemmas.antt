@@ -16,7 +16,7 @@ use Rattle.eu_model.specs.declared.views.Listed.{Listed}
 use Rattle.eu_model.specs.declared.views.Times.{Times}
 use Rattle.eu_store.specs.Order.{at_places, instance_at, instances_in, instances_of, keys_held, snapped, timed, times_of, AreWhole, IsInOrder, Part}
 use Rattle.eu_store.specs.Stored.{listing_of, rows_of}
-use Rattle.eu_store.proofs.CountLemmas.{filter_true}
+use Rattle.eu_model.proofs.ListingLemmas.{filter_true}
 use Rattle.eu_store.proofs.OrderLemmas.{Entries, held, listing_at, row_held}
 use Rattle.eu_store.proofs.FoundLemmas.{entry_there}
 use Rattle.eu_store.proofs.PartLemmas.{part_lookup}

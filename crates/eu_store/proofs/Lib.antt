@@ -1,3 +1,4 @@
+pub mod CopyLemmas
 pub mod FoundLemmas
 pub mod IndexLemmas
 pub mod SortedLemmas

@@ -27,7 +27,8 @@ use Rattle.eu_store.specs.Stored.{rows_of, listing_of}
 use Rattle.eu_store.specs.declared.directory.Limit.{Limit}
 use Rattle.eu_store.specs.declared.directory.Limit.TheVariants.{Below, Before, Through}
 use Rattle.eu_store.proofs.TableLemmas.{by_key, map_of, equal_of_test, get_at, insert_same}
-use Rattle.eu_store.proofs.CountLemmas.{filter_true, entries_none, get_removed, insert_removed}
+use Rattle.eu_model.proofs.ListingLemmas.{filter_true}
+use Rattle.eu_store.proofs.CountLemmas.{entries_none, get_removed, insert_removed}
 use Rattle.eu_store.proofs.FoundLemmas.{any_place, entry_there}
 use Rattle.eu_store.proofs.IndexLemmas.{key_equiv}
 use Rattle.eu_store.proofs.MapLemmas.{nobody}

@@ -60,7 +60,7 @@ module _ {K X : Type 0} {R : K → K → Ordering} {eq : K → K → Bool} (w : 
       get_at fs q ∙ h q ∙ ap (λ b. cond b None (lookup (eq q) es)) (flipped w k q)
       ∙ sym (get-remove w.total (map_of {R = R} es) k q ∙ ap (cond (eq_by_cmp R q k) None) (get_at es q)))
 
-  absent : (k : K) (es : List (K × X)) → AllByRecursion (λ y. eq k y ≡ false) (keys_of es) → lookup (eq k) es ≡ None
+  pub absent : (k : K) (es : List (K × X)) → AllByRecursion (λ y. eq k y ≡ false) (keys_of es) → lookup (eq k) es ≡ None
   absent k [] h = refl
   absent k (e ∷ es) h = ap (λ b. cond b (Some e.1) (lookup (eq k) es)) h.0 ∙ absent k es h.1
 

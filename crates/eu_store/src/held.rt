@@ -74,6 +74,16 @@ impl HeldLease {
         })
     }
 
+    /// The same once more; both share the instance. `AllocError` where 2^63 share it.
+    pub fn copy(&self) -> Result<HeldLease, AllocError>
+        ensures { IfOk result (λ copy. copy ≡ self.now) }
+    {
+        Ok(HeldLease {
+            instance: self.instance.share()?,
+            lease: self.lease,
+        })
+    }
+
     /// The last moment at which its lease hasn't expired, in milliseconds.
     pub(crate) fn deadline(&self) -> u64
         ensures { result ≡ deadline_of self.now }
@@ -196,7 +206,7 @@ pub enum Amendment {
 impl Amendment {
     /// Whether an instance stays as it is, as a heartbeat leaves it: then a listing need not gather it anew. Where this is `false`
     /// the instance may be the same nonetheless, and is gathered once more.
-    pub(crate) fn keeps(&self, instance: &SharedInstance) -> bool
+    pub fn keeps(&self, instance: &SharedInstance) -> bool
         ensures { IsTrue result → (l : Listed) → l.instance ≡ instance.now → (amended self.now l).instance ≡ l.instance }
     {
         match self {

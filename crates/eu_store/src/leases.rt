@@ -229,6 +229,24 @@ impl Leases {
         }
     }
 
+    /// The same leases once more; they share their instances. `AllocError` where no memory is left.
+    pub fn copy(&self, alloc: Global) -> Result<Leases, AllocError>
+        ensures { IfOk result (λ copy. copy.held ≡ self.now.held) }
+    {
+        let mut copy = Leases::new(alloc);
+        let entries = self.table.as_slice();
+        let mut left = self.table.len();
+        while left > 0 {
+            left -= 1;
+            let (key, held) = entries.get_index(left).unwrap();
+            if copy.reserve().is_err() {
+                return Err(AllocError);
+            }
+            copy.insert(key.copy(alloc)?, held.copy()?);
+        }
+        Ok(copy)
+    }
+
     /// Everything that is held, for who holds a lock. The first one sorts what is held; each other looks at no instance, but at those that
     /// stand near one that changed, came or went. What is held stays as it is. `AllocError` where no memory is left.
     pub fn snapshot(&mut self, alloc: Global) -> Result<Snapshot, AllocError>

@@ -11,10 +11,9 @@ use std::alloc::Global;
 
 /// The auditor's verdict on a book.
 pub fn audited(alloc: Global, book: &Book) -> Result<bool, Fault> {
-    let end = book.state(alloc)?;
-    let journal = book.journal();
-    let verdict = audit(alloc, &journal.base, journal.entries.as_slice(), &end);
-    drop(end);
+    let (base, end) = (book.base(alloc)?, book.state(alloc)?);
+    let verdict = audit(alloc, &base, book.entries(), &end);
+    drop((base, end));
     Ok(verdict?)
 }
 
@@ -98,7 +97,7 @@ fn evictions_of_a_book_are_a_run(rt: HostRuntime) {
 fn compared(alloc: Global, book: &Book) -> Result<(bool, bool), Fault> {
     let base = state(alloc, BASE)?;
     let end = state(alloc, END)?;
-    let written = audit(alloc, &base, book.journal().entries.as_slice(), &end);
+    let written = audit(alloc, &base, book.entries(), &end);
     drop(end);
     let lines = entries(alloc, LINES)?;
     let worked_out = verdict(alloc, base, lines, book.state(alloc)?)?;

@@ -5,10 +5,10 @@ use crate::tests::cases::judge;
 use crate::tests::forms::{entries, state, verdict};
 use eu_audit::audit;
 use eu_base::Fault;
-use eu_book::{Book, Journal};
+use eu_book::Book;
 use eu_clock::FirstChooser;
 use eu_fixtures::settings;
-use eu_model::State;
+use eu_model::{Entry, State};
 use std::alloc::Global;
 
 /// What each pass tells.
@@ -36,35 +36,25 @@ fn tell_steps(alloc: Global, book: &mut Book) -> Result<(), Fault> {
     Ok(())
 }
 
-/// The journal of a book with one peer or with none, and what the book is at the end.
-fn kept(alloc: Global, has_peer: bool) -> Result<(Journal, State), Fault> {
+/// The base and the entries of a book with one peer or with none, and what the book is at the end.
+fn kept(alloc: Global, has_peer: bool) -> Result<(State, Vec<Entry>, State), Fault> {
     let config = settings()?;
     let peers = if has_peer { 1 } else { 0 };
     let mut book = Book::open(alloc, config, 0, peers)?;
     let told = tell_steps(alloc, &mut book);
-    let end = book.state(alloc);
-    let journal = book.into_journal();
+    let (base, end) = (book.base(alloc), book.state(alloc));
+    let entries = book.into_entries();
     told?;
-    Ok((journal, end?))
-}
-
-/// The auditor's verdict on a journal, up to that end.
-fn audited(alloc: Global, journal: Journal, end: State) -> Result<bool, Fault> {
-    let Journal {
-        base,
-        first: _,
-        entries,
-    } = journal;
-    verdict(alloc, base, entries, end)
+    Ok((base?, entries, end?))
 }
 
 /// The verdict on the book, and on its journal up to the server that was worked out, which has no peers.
 fn whole(alloc: Global, has_peer: bool) -> Result<(bool, bool), Fault> {
-    let (journal, end) = kept(alloc, has_peer)?;
-    let own = audited(alloc, journal, end)?;
-    let (journal, end) = kept(alloc, has_peer)?;
+    let (base, entered, end) = kept(alloc, has_peer)?;
+    let own = verdict(alloc, base, entered, end)?;
+    let (base, entered, end) = kept(alloc, has_peer)?;
     drop(end);
-    let worked_out = audited(alloc, journal, state(alloc, END)?)?;
+    let worked_out = verdict(alloc, base, entered, state(alloc, END)?)?;
     Ok((own, worked_out))
 }
 
@@ -83,15 +73,15 @@ fn changed(
     line: &str,
     expected: u64,
 ) -> Result<bool, Fault> {
-    let (mut journal, mut end) = kept(alloc, has_peer)?;
-    if place < journal.entries.len() {
-        drop(journal.entries.remove(place));
+    let (base, mut entered, mut end) = kept(alloc, has_peer)?;
+    if place < entered.len() {
+        drop(entered.remove(place));
     }
     for entry in entries(alloc, line)? {
-        journal.entries.push(entry)?;
+        entered.push(entry)?;
     }
     end.expected = end.expected.saturating_add(expected);
-    audited(alloc, journal, end)
+    verdict(alloc, base, entered, end)
 }
 
 #[test]
@@ -131,8 +121,8 @@ fn an_entry_that_is_refused_is_no_run(rt: HostRuntime) {
 
 /// The auditor's verdict on no entries from the end of a book to itself.
 fn stays(alloc: Global, has_peer: bool) -> Result<bool, Fault> {
-    let (journal, end) = kept(alloc, has_peer)?;
-    drop(journal);
+    let (base, entered, end) = kept(alloc, has_peer)?;
+    drop((base, entered));
     let verdict = audit(alloc, &end, &[], &end);
     drop(end);
     Ok(verdict?)

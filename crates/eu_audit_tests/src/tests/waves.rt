@@ -34,10 +34,9 @@ previous 100000";
 
 /// The auditor's verdict on the entries of a book, up to the server that was worked out.
 fn ends_so(alloc: Global, book: &Book) -> Result<bool, Fault> {
-    let journal = book.journal();
-    let end = state(alloc, END)?;
-    let verdict = audit(alloc, &journal.base, journal.entries.as_slice(), &end);
-    drop(end);
+    let (base, end) = (book.base(alloc)?, state(alloc, END)?);
+    let verdict = audit(alloc, &base, book.entries(), &end);
+    drop((base, end));
     Ok(verdict?)
 }
 

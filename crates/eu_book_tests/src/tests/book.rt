@@ -1,7 +1,7 @@
 //! A book alone: what its lines say, and what comes of each, worked out by hand.
 use crate::tests::texts::{tell_answer, tell_receipt};
 use eu_base::{Config, Fault};
-use eu_book::{Book, Journal, LoggedReceipt};
+use eu_book::{Book, Dropped, Journal, LoggedReceipt};
 use eu_clock::{FirstChooser, ListChooser};
 use eu_fixtures::{
     Told, at, first_wrong, number_of, numbered, read_ask, settings, tell_fault, tell_queues,
@@ -50,14 +50,16 @@ fn tell_entries(out: &mut String, entries: &[Entry]) -> Result<(), AllocError> {
 }
 
 /// Writes where the journal begins, how many entries it has, how many leases its base has, and what was done in all.
-fn tell_journal(out: &mut String, book: &Book) -> Result<(), AllocError> {
-    let Journal {
-        base,
-        first,
-        entries,
-    } = book.journal();
-    let (entries, leases) = (entries.len(), base.leases.as_slice().len());
-    write!(out, "{first} {entries} {leases} {:?}", book.totals())
+fn tell_journal(alloc: Global, out: &mut String, book: &Book) -> Result<(), AllocError> {
+    let base = book.base(alloc)?;
+    let (entries, leases) = (book.entries().len(), base.leases.as_slice().len());
+    drop(base);
+    write!(
+        out,
+        "{} {entries} {leases} {:?}",
+        book.first(),
+        book.totals()
+    )
 }
 
 /// Writes how many entries a journal had that has begun anew.
@@ -69,6 +71,13 @@ fn tell_retired(
     let entries = journal.entries.len();
     drop(journal);
     write!(out, "{entries}")
+}
+
+fn tell_base_of(alloc: Global, out: &mut String, book: &Book) -> Result<(), AllocError> {
+    let base = book.base(alloc)?;
+    let told = tell_state(out, &base);
+    drop(base);
+    told
 }
 
 fn tell_state_of(alloc: Global, out: &mut String, book: &Book) -> Result<(), AllocError> {
@@ -85,15 +94,19 @@ fn tell_queues_of(alloc: Global, out: &mut String, book: &Book) -> Result<(), Al
     told
 }
 
-/// Writes what is given to who keeps a log; and what the log keeps, and how many entries the journal had where it has begun anew.
-fn tell_logged(out: &mut String, told: &LoggedReceipt) -> Result<(), AllocError> {
+/// Writes what is given to who keeps a log; and what the log keeps, and the number of the entry that is let go of, if one is.
+fn tell_logged(
+    out: &mut String,
+    told: &LoggedReceipt,
+    dropped: &Dropped,
+) -> Result<(), AllocError> {
     tell_receipt(out, &told.receipt)?;
     write!(out, ", {} {} ", told.logged.number, told.logged.moment.ms())?;
     tell_command(out, &told.logged.command)?;
     out.push_str(" ")?;
     tell_reply(out, &told.logged.reply)?;
-    match &told.retired {
-        Some(journal) => write!(out, ", {}", journal.entries.len()),
+    match &dropped.entry {
+        Some(entry) => write!(out, ", {}", entry.number),
         None => Ok(()),
     }
 }
@@ -136,8 +149,9 @@ impl Desk {
             .apply_logged(alloc, pass, command, mine, moment, &mut self.chooser)
         {
             Ok(logged) => {
-                let told = tell_logged(out, &logged);
-                drop(logged);
+                let dropped = self.book.let_go();
+                let told = tell_logged(out, &logged, &dropped);
+                drop((logged, dropped));
                 Ok(told?)
             }
             Err(fault) => Ok(tell_fault(out, fault)?),
@@ -146,7 +160,7 @@ impl Desk {
 
     fn end_minutes(&mut self, alloc: Global, count: &str, out: &mut String) -> Result<(), Fault> {
         end_minutes(alloc, &mut self.book, number_of(count)?)?;
-        Ok(tell_journal(out, &self.book)?)
+        Ok(tell_journal(alloc, out, &self.book)?)
     }
 }
 
@@ -155,9 +169,9 @@ impl Told for Desk {
         match said {
             "state" => return Ok(tell_state_of(alloc, out, &self.book)?),
             "queues" => return Ok(tell_queues_of(alloc, out, &self.book)?),
-            "journal" => return Ok(tell_journal(out, &self.book)?),
-            "base" => return Ok(tell_state(out, &self.book.journal().base)?),
-            "entries" => return Ok(tell_entries(out, self.book.journal().entries.as_slice())?),
+            "journal" => return Ok(tell_journal(alloc, out, &self.book)?),
+            "base" => return Ok(tell_base_of(alloc, out, &self.book)?),
+            "entries" => return Ok(tell_entries(out, self.book.entries())?),
             "checkpoint" => return Ok(tell_retired(out, self.book.checkpoint(alloc))?),
             _ => {}
         }
@@ -188,10 +202,10 @@ fn plays(
     };
     let wrong = first_wrong(alloc, &mut desk, text);
     let Desk { book, chooser: _ } = desk;
-    let journal = book.into_journal();
-    let entries = journal.entries.len();
-    drop(journal);
-    Ok((wrong, entries))
+    let entries = book.into_entries();
+    let count = entries.len();
+    drop(entries);
+    Ok((wrong, count))
 }
 
 /// Without self-preservation, half of the leases may go in an eviction.
@@ -265,8 +279,14 @@ const REFUSED: &str =
     r#"minutes 65536 = 0 65536 0 Tally { steps: 65536, counted: 0, added: 0, removed: 0 }
 0 drain 0 0 = refused 15
 journal = 0 65536 0 Tally { steps: 65536, counted: 0, added: 0, removed: 0 }
-log 0 roll 0 = 65536 Last(0), 65536 0 EndMinute Last(0), 65536
-journal = 65536 1 0 Tally { steps: 65537, counted: 0, added: 0, removed: 0 }"#;
+log 0 roll 0 = 65536 Last(0), 65536 0 EndMinute Last(0), 65535
+journal = 65536 1 0 Tally { steps: 65537, counted: 0, added: 0, removed: 0 }
+minutes 65534 = 65536 65535 0 Tally { steps: 131071, counted: 0, added: 0, removed: 0 }
+log 0 roll 0 = 131071 Last(0), 131071 0 EndMinute Last(0), 0
+log 0 roll 0 = 131072 Last(0), 131072 0 EndMinute Last(0), 131071
+journal = 131072 1 0 Tally { steps: 131073, counted: 0, added: 0, removed: 0 }
+checkpoint = 1
+log 0 roll 0 = 131073 Last(0), 131073 0 EndMinute Last(0), 131070"#;
 
 #[test]
 fn a_refused_command_leaves_a_full_journal(rt: HostRuntime) {

@@ -89,9 +89,10 @@ fn tell(alloc: Global, book: &mut Book, words: &str) -> Told {
 /// Everything that a book holds, as a text.
 fn shown(alloc: Global, book: &Book) -> Result<String, AllocError> {
     let state = book.state(alloc)?;
-    let (journal, totals) = (book.journal(), book.totals());
-    let text = format!(in alloc; "{state:?} {journal:?} {totals:?}");
-    drop(state);
+    let base = book.base(alloc)?;
+    let (first, entries, totals) = (book.first(), book.entries(), book.totals());
+    let text = format!(in alloc; "{state:?} {base:?} {first} {entries:?} {totals:?}");
+    drop((base, state));
     text
 }
 
@@ -166,15 +167,16 @@ const ANEW: [(&str, Told); 2] = [
 ];
 
 /// Where a journal begins, how many entries it has, how many leases its base has, and how many steps were made in all.
-fn extent(book: &Book) -> (u64, usize, usize, u64) {
-    let journal = book.journal();
-    let leases = journal.base.leases.as_slice().len();
-    (
-        journal.first,
-        journal.entries.len(),
+fn extent(alloc: Global, book: &Book) -> Result<(u64, usize, usize, u64), AllocError> {
+    let base = book.base(alloc)?;
+    let leases = base.leases.as_slice().len();
+    drop(base);
+    Ok((
+        book.first(),
+        book.entries().len(),
         leases,
         book.totals().steps,
-    )
+    ))
 }
 
 /// Minutes end until the journal is full, of which none is refused memory.
@@ -184,9 +186,9 @@ fn begin_anew(alloc: Global, twins: &mut Twins) -> bool {
     pause_or_go_on(alloc);
     begun
         && are_told(alloc, twins, &ANEW[..1])
-        && extent(&twins.tried) == (65_536, 1, 1, 65_537)
+        && extent(alloc, &twins.tried) == Ok((65_536, 1, 1, 65_537))
         && are_told(alloc, twins, &ANEW[1..])
-        && extent(&twins.tried) == (65_537, 0, 1, 65_537)
+        && extent(alloc, &twins.tried) == Ok((65_537, 0, 1, 65_537))
 }
 
 /// A client registers, and the peer is told; the client is set OUT_OF_SERVICE, which is lost; another client registers. A peer's renewal meets a

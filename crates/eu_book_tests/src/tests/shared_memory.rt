@@ -71,11 +71,14 @@ impl<K: Label> Asked<K> for Held<K> {
     }
 
     fn shown(&self, alloc: Global, pass: &Pass<K>) -> Result<String, AllocError> {
-        let state = self.book().state(alloc)?;
-        let (journal, totals) = (self.book().journal(), self.book().totals());
-        let (made, log, tallies) = (self.pass_count(), pass.log(), pass.tallies());
-        let text = format!(in alloc; "{state:?} {journal:?} {totals:?} {made} {log:?} {tallies:?}");
-        drop(state);
+        let (state, base) = (self.book().state(alloc)?, self.book().base(alloc)?);
+        let (first, entries) = (self.book().first(), self.book().entries());
+        let (made, totals) = (self.pass_count(), self.book().totals());
+        let (log, tallies) = (pass.log(), pass.tallies());
+        let text = format!(in alloc;
+            "{state:?} {base:?} {first} {entries:?} {totals:?} {made} {log:?} {tallies:?}"
+        );
+        drop((base, state));
         text
     }
 }

@@ -124,9 +124,10 @@ struct Twins {
 /// Everything that a book holds, as a text.
 fn held(alloc: Global, book: &Book) -> Result<String, AllocError> {
     let state = book.state(alloc)?;
-    let (journal, totals) = (book.journal(), book.totals());
-    let text = format!(in alloc; "{state:?} {journal:?} {totals:?}");
-    drop(state);
+    let base = book.base(alloc)?;
+    let (first, entries, totals) = (book.first(), book.entries(), book.totals());
+    let text = format!(in alloc; "{state:?} {base:?} {first} {entries:?} {totals:?}");
+    drop((base, state));
     text
 }
 

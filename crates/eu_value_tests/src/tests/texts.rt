@@ -14,7 +14,7 @@ fn kept(alloc: Global, text: &str) -> Result<Rest, Fault> {
 /// Whether what is kept of a text is these bytes.
 fn is_kept_as(alloc: Global, text: &str, bytes: &str) -> Result<bool, Fault> {
     let rest = kept(alloc, text)?;
-    let same = match rest.shared_text() {
+    let same = match rest.kept_text() {
         Some(object) => object.pieces().bytes == bytes.as_bytes(),
         None => false,
     };
@@ -33,7 +33,7 @@ fn members_are_kept_in_order_with_a_comma_before_each(rt: HostRuntime) {
 
 /// Whether both are kept as the same text.
 fn have_one_text(one: &Rest, other: &Rest) -> bool {
-    match (one.shared_text(), other.shared_text()) {
+    match (one.kept_text(), other.kept_text()) {
         (Some(one), Some(other)) => one.same(other),
         _ => false,
     }

@@ -3,7 +3,7 @@ use Rattle.std.specs.FinMap.{entries}
 use Rattle.eu_model.specs.declared.states.State.{State}
 use Rattle.eu_core.specs.Registry.{plain_of}
 use Rattle.eu_core.specs.State.{state_of}
-use Rattle.eu_eviction.proofs.SortedLemmas.{filter_true}
+use Rattle.eu_model.proofs.ListingLemmas.{filter_true}
 use Rattle.eu_core.proofs.registry.Registry.plain.Goals as goal
 
 pub returns : goal.returns

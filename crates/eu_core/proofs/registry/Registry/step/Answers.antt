@@ -6,6 +6,7 @@ use Rattle.eu_model.specs.declared.views.Listed.{Listed}
 use Rattle.eu_model.specs.Answers.{Answers}
 use Rattle.eu_core.specs.Decided.{lease_left}
 use Rattle.eu_core.specs.Stepped.{Steps, copies_of}
+use Rattle.eu_core.specs.Undone.{undone}
 use Rattle.eu_core.specs.declared.replies.Answered.{Answered}
 use Rattle.eu_core.proofs.StepLemmas.{at_one, held_left, unasked}
 use Rattle.eu_core.proofs.registry.Registry.step.Goals as goal
@@ -32,3 +33,7 @@ returns-clause-ok g c =
       };
       chooses = unasked g.C.Chooser.asks p a.chooser.now a.command.now k a.moment d.reply (sym c.in-Some.ensures);
     }
+
+pub returns-clause-undo : goal.returns-clause-undo
+returns-clause-undo g c =
+    ap (undone c.args.command.now c.in_ok-undo.undo) c.in_ok-carry_out.ensures.ok ∙ c.in_ok-undo.ensures c.args.command.now (sym c.in-Some.ensures)

@@ -3,7 +3,9 @@ use Rattle.std.specs.Prelude.{Ok, replicate}
 use Rattle.eu_model.specs.declared.commands.Command.TheVariants.{Evict}
 use Rattle.eu_model.specs.declared.commands.Reply.TheVariants.{Evicted}
 use Rattle.eu_model.specs.Answers.{Answers}
+use Rattle.eu_model.proofs.EvictLemmas.{evict_refused}
 use Rattle.eu_core.specs.Answered.{answered}
+use Rattle.eu_core.proofs.StepLemmas.{no_memory}
 use Rattle.eu_core.proofs.registry.Registry.step_evict.Goals as goal
 
 pub split-requires : goal.split-requires
@@ -20,7 +22,10 @@ returns-clause-ok g c = λ m.
       acts = record {
         answers = subst (λ r. Answers c.args.self.now Evict c.args.moment (Ok r) c.evict_due.new.self) (sym answer) c.in_ok-eviction.ensures.answers;
         same = same ∙ ap (answered c.args.logs) (sym answer);
-        held_are = c.new.ensures.items;
+        held_are = c.new-2.ensures.items;
       };
       chooses = (vs, answer, c.in_ok-eviction.ensures.drawn);
     }
+
+pub returns-in_err-before-clause-refused : goal.returns-in_err-before-clause-refused
+returns-in_err-before-clause-refused g c = no_memory c.from_residual.result _ c.from_residual.ensures.1 (evict_refused c.args.moment c.args.self.now)

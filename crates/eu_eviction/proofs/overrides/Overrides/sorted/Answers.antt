@@ -1,15 +1,20 @@
 use Rattle.std.proofs.Common.{◌≡◌, Bool, List, ℕ, [], ◌++◌, true, map, filter, sym, ap, subst, ◌∙◌, rules, IsPermutation, IsSorted, append-nil}
 use Rattle.std.specs.List.{IsDistinct}
+use Rattle.std.specs.Ordering.{eq_by_cmp}
 use Rattle.std.specs.FinMap.{entries}
 use Rattle.std.specs.Map.{keys_of}
 use Rattle.std.specs.Map.Iter.{deref_pair}
 use Rattle.std.proofs.lemmas.List.Sorted.{IsPermutation-map, answers_always}
 use Rattle.std.proofs.lemmas.Map.Iter.{rest_all}
-use Rattle.eu_base.specs.Values.{name_cmp}
-use Rattle.eu_base.proofs.KeyLemmas.{names_total, names_exact}
+use Rattle.eu_base.specs.Values.{name_cmp, name_eq}
+use Rattle.eu_base.proofs.KeyLemmas.{names_total, names_exact, name_eq-ties}
+use Rattle.eu_model.proofs.ListingLemmas.{filter_true}
 use Rattle.eu_store.proofs.RowLemmas.{gathered_rows, keys_sorted, keys_shown}
-use Rattle.eu_eviction.proofs.SortedLemmas.{filter_true, name_eq-tie}
 use Rattle.eu_eviction.proofs.overrides.Overrides.sorted.Goals as goal
+
+-- as one equation of the two tests
+name_eq-tie : name_eq ≡ eq_by_cmp name_cmp
+name_eq-tie i a b = name_eq-ties a b i
 
 pub returns : goal.returns
 returns c =

@@ -7,6 +7,6 @@ returns-in-Err-Write-clause-wrote g c =
     let e = ap Err c.in-Err-Write.field-0-is in
     let front = c.in-Err-Write.ensures.front e in
     let book : c.args.self.now.book ≡ Some c.in-Some.book.now = search rules in
-    let text = same_text c.args.self.now.book c.in-Some.book.now c.journal-kept.result.now.base c.as_slice.result.now c.in_ok-end.end book
-    c.journal-kept.ensures.base.1 (c.as_slice.ensures.value ∙ c.journal-kept.ensures.entries) c.in_ok-end.ensures in
+    let text = same_text c.args.self.now.book c.in-Some.book.now c.in_ok-base.base c.entries-entries.result.now c.in_ok-end.end book
+    c.in_ok-base.ensures.1 c.entries-entries.ensures.entries c.in_ok-end.ensures in
     (_, front.2, (c.in-Err-Write.ensures.failed e, front.0, ap (take front.0) text))

@@ -1,7 +1,6 @@
 use Rattle.std.proofs.Common.{sym, subst}
-use Rattle.std.proofs.lemmas.Result.{err_from_is_err_and}
 use Rattle.eu_book.specs.Account.{IsLawful}
-use Rattle.eu_shared.proofs.AnswerLemmas.{is_answer, is_refused}
+use Rattle.eu_shared.proofs.AnswerLemmas.{is_answered, is_refused, is_refused_by}
 use Rattle.eu_shared.proofs.pass.Pass.ask.Goals as goal
 
 pub returns-in_default-clause-refused : goal.returns-in_default-clause-refused
@@ -10,10 +9,10 @@ returns-in_default-clause-refused g c =
 
 pub returns-clause-answer : goal.returns-clause-answer
 returns-clause-answer g c =
-    rw (c.into_receipt.ensures, ← c.prepare.ensures.pass) (is_answer c.args.command c.args.moment g.C.Chooser.asks _ _ _ _ _ _ c.in_ok-outcome.outcome.receipt c.ask_with.ensures.before c.in_ok-outcome.ensures.after
-    c.in_ok-outcome.ensures.applied c.in_ok-outcome.ensures.pass)
+    let asked = c.ask_with-outcome in
+    rw (← c.prepare.ensures.pass) (is_answered c.args.command c.args.moment g.C.Chooser.asks _ _ _ _ _ _ asked.result asked.ensures.before asked.ensures.after asked.ensures.applied asked.ensures.pass)
 
-pub returns-in_err-outcome-clause-refused : goal.returns-in_err-outcome-clause-refused
-returns-in_err-outcome-clause-refused g c =
-    let p = err_from_is_err_and c.from_residual.result c.from_residual.ensures.1 in
-    rw (p.1, p.2) (is_refused c.args.command c.args.moment _ _ c.ask_with.ensures.before c.in_err-outcome.ensures.refused c.in_err-outcome.ensures.memory)
+pub returns-clause-refused : goal.returns-clause-refused
+returns-clause-refused g c =
+    let asked = c.ask_with-outcome.ensures in
+    is_refused_by c.args.command c.args.moment _ c.ask_with-outcome.result asked.before asked.refused asked.memory

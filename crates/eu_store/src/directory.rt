@@ -7,6 +7,7 @@ ghost use Rattle.std.specs.List.Sorted.{IsPartitionedBy};
 ghost use Rattle.std.specs.Map.{keys_of};
 ghost use Rattle.std.specs.Option.{option_copied};
 ghost use Rattle.indexmap.specs.IndexMap.{IsUnique};
+ghost use Rattle.eu_base.specs.Limits.{most_leases};
 ghost use Rattle.eu_base.specs.Values.{key_eq};
 ghost use Rattle.eu_model.specs.View.{is_of};
 ghost use Rattle.eu_store.specs.Limit.{within};
@@ -32,10 +33,11 @@ const MOST_PARTS: usize = 128;
 pub(crate) type Part = Arc<Vec<SharedInstance>, Global>;
 
 /// The places of a table's leases in the order of their keys; and its instances, in parts that readers share, as far as they were
-/// gathered since the last step that changed one of the part.
+/// gathered since the last step that changed one of the part. A place has 16 bits, since at most 65,536 leases are held: so a lease
+/// that comes or goes moves at most 128 KB.
 #[derive(Debug, Drop)]
 pub(crate) struct Directory {
-    pub(crate) places: Vec<usize>,
+    pub(crate) places: Vec<u16>,
     pub(crate) parts: Vec<Option<Part>>,
 }
 
@@ -45,13 +47,14 @@ impl Directory {
         alloc: Global,
         table: &IndexMap<Key, HeldLease>,
     ) -> Result<Directory, AllocError>
+        requires { length table.now.entries ≤ most_leases }
         ensures { IfOk result (λ d. IsDirectory table.now.entries d) }
     {
         let rows = rows(alloc, table, None)?;
         let mut places = Vec::with_capacity(alloc, rows.len())?;
         for row in &rows {
             let (place, _key, _held) = table.get_full(row.0).unwrap();
-            places.push(place)?;
+            places.push(place as u16)?;
         }
         Ok(Directory {
             places,
@@ -72,13 +75,14 @@ impl Directory {
     /// Puts a key in it that comes behind the last of the table, into the room that was made. Takes no memory.
     pub(crate) fn put(&mut self, table: &IndexMap<Key, HeldLease>, key: &Key)
         requires directory { IsDirectory table.now.entries self.old }
+        requires few { length table.now.entries < most_leases }
         requires room { 0 < room_in self.old }
         ensures places { self.new.places.items ≡ lists.insert self.old.places.items (prefix_len (is_below key.now) (keys_held table.now.entries)) (length table.now.entries) }
         ensures parts { IsForgotten (length table.now.entries) self.old.parts.items self.new.parts.items }
         ensures room { room_in self.old ≤ room_in self.new + 1 }
     {
         let at = count_within(table, Limit::Below(key), &self.places);
-        self.places.insert(at, table.len()).unwrap();
+        self.places.insert(at, table.len() as u16).unwrap();
         self.forget(table.len());
     }
 
@@ -87,12 +91,13 @@ impl Directory {
     pub(crate) fn swap_remove(&mut self, at: usize, moved: usize, place: usize, last: usize)
         requires at { at < length self.old.places.items }
         requires moved { moved < length self.old.places.items }
+        requires place { place < most_leases }
         ensures places { self.new.places.items ≡ lists.remove (set self.old.places.items moved place) at }
         ensures parts { (n : _) (c : _) → slice_get self.new.parts.items n ≡ Some (Some c)
             → (slice_get self.old.parts.items n ≡ Some (Some c)) × (place / PART_ROOM ≢ n) × (last / PART_ROOM ≢ n) }
         ensures room { room_in self.old ≤ room_in self.new }
     {
-        self.places[moved] = place;
+        self.places[moved] = place as u16;
         self.places.remove(at);
         self.forget(place);
         self.forget(last);
@@ -120,7 +125,7 @@ impl Directory {
     }
 
     /// The places of the leases of an application, or of all where none is given.
-    fn part<'a>(&'a self, table: &IndexMap<Key, HeldLease>, app: Option<&App>) -> &'a [usize]
+    fn part<'a>(&'a self, table: &IndexMap<Key, HeldLease>, app: Option<&App>) -> &'a [u16]
         requires { IsDirectory table.now.entries self.now }
         ensures { at_places (keys_of table.now.entries) result.now ≡ map Some (filter (is_of (option_copied app.entry)) (keys_held table.now.entries)) }
     {
@@ -147,7 +152,7 @@ impl Directory {
         let places = self.part(table, app);
         let mut leases = Vec::with_capacity(alloc, places.len())?;
         for place in places {
-            let (_key, held) = entries.get_index(*place).unwrap();
+            let (_key, held) = entries.get_index(usize::from(*place)).unwrap();
             leases.push(held.listed()?)?;
         }
         Ok(leases)
@@ -167,8 +172,9 @@ impl Directory {
         let entries = table.as_slice();
         let mut rows = Vec::with_capacity(alloc, self.places.len())?;
         for place in &self.places {
-            let (_key, held) = entries.get_index(*place).unwrap();
-            rows.push((*place, held.times()))?;
+            let place = usize::from(*place);
+            let (_key, held) = entries.get_index(place).unwrap();
+            rows.push((place, held.times()))?;
         }
         Ok(rows)
     }
@@ -292,7 +298,7 @@ fn is_within(table: &IndexMap<Key, HeldLease>, limit: Limit<'_>, place: usize) -
 }
 
 /// How many places have keys within a limit: the first ones.
-fn count_within(table: &IndexMap<Key, HeldLease>, limit: Limit<'_>, places: &[usize]) -> usize
+fn count_within(table: &IndexMap<Key, HeldLease>, limit: Limit<'_>, places: &[u16]) -> usize
     requires { IsPartitionedBy (at_place (within limit) table.now.entries) places.now }
     ensures value { result ≡ prefix_len (at_place (within limit.entry) table.now.entries) places.now }
     ensures bound { result ≤ length places.now }
@@ -300,6 +306,6 @@ fn count_within(table: &IndexMap<Key, HeldLease>, limit: Limit<'_>, places: &[us
     places.partition_point(
         |place| -> bool
             ensures { result ≡ at_place (within limit.entry) table.entry.now.entries place.now }
-        { is_within(table, limit, *place) },
+        { is_within(table, limit, usize::from(*place)) },
     )
 }

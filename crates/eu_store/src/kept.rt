@@ -4,6 +4,7 @@ ghost use Rattle.std.specs.FinMap as map;
 ghost use Rattle.std.specs.List.{swap_remove as swapped};
 ghost use Rattle.std.specs.Map.{keys_of};
 ghost use Rattle.indexmap.specs.IndexMap.{set_value_at};
+ghost use Rattle.eu_base.specs.Limits.{most_leases};
 ghost use Rattle.eu_base.specs.declared.names.Key.{Key};
 ghost use Rattle.eu_model.specs.declared.views.Listed.{Listed};
 ghost use Rattle.eu_store.specs.Order.{AreOrdered, instances_of, map_by, room_of};
@@ -20,7 +21,8 @@ pub(crate) fn make(
     alloc: Global,
     table: &IndexMap<Key, HeldLease>,
 ) -> Result<(), AllocError>
-    requires { AreOrdered table.now.entries directory.old }
+    requires ordered { AreOrdered table.now.entries directory.old }
+    requires few { length table.now.entries ≤ most_leases }
     ensures ordered { AreOrdered table.now.entries directory.new }
     ensures there { OnOk result (is_some directory.new ≡ true) }
 {
@@ -45,6 +47,7 @@ pub(crate) fn reserve(directory: &mut Option<Directory>) -> Result<(), AllocErro
 /// Puts a key in it that comes behind the last of the table.
 pub(crate) fn put(directory: &mut Option<Directory>, table: &IndexMap<Key, HeldLease>, key: &Key)
     requires ordered { AreOrdered table.now.entries directory.old }
+    requires few { length table.now.entries < most_leases }
     requires new { map.get (map_by table.now.entries) key.now ≡ None }
     requires room { 0 < room_of directory.old }
     ensures ordered { (v : Listed) → (fs : List (Key × Listed)) → fs ≡ table.now.entries ++ (key.now, v) ∷ [] → map_by fs ≡ map.insert (map_by table.now.entries) key.now v → AreOrdered fs directory.new }
@@ -62,6 +65,7 @@ pub(crate) fn take(
     place: usize,
 )
     requires ordered { AreOrdered table.now.entries directory.old }
+    requires few { length table.now.entries ≤ most_leases }
     requires within { place < length table.now.entries }
     ensures ordered { (k : Key) → (d : Key × Listed) → (l : Listed) → (fs : List (Key × Listed)) → slice_get (keys_of table.now.entries) place ≡ Some k → map.get (map_by table.now.entries) k ≡ Some l
         → fs ≡ swapped table.now.entries place d → map_by fs ≡ map.remove (map_by table.now.entries) k → AreOrdered fs directory.new }

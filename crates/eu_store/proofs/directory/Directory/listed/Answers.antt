@@ -1,4 +1,4 @@
-use Rattle.std.proofs.Common.{filter, length, map, get_or, sym, ap, ◌∙◌, Some, List, arith}
+use Rattle.std.proofs.Common.{filter, length, map, slice_get, sym, ap, ◌∙◌, Some, List, arith}
 use Rattle.std.specs.FinMap as map
 use Rattle.std.specs.Map.{keys_of, values_of}
 use Rattle.std.specs.Map.Iter.{deref_pair}
@@ -26,7 +26,7 @@ loop-place-preserved c =
     let ps = c.part-places.result.now in
     let i = c.loop-place.place-index in
     let entry = sym c.get_index.ensures.entry ∙ ap (option_map deref_pair) c.unwrap.ensures in
-    let there = slice_get-map (λ e. e.1) es (get_or ps i 0) ∙ ap (option_map (λ (e : Key × Listed). e.1)) entry ∙ ap (λ (l : Listed). Some l) (sym c.in_ok-listed.ensures) in
+    let there = ap (slice_get (values_of es)) (sym c.from.ensures) ∙ slice_get-map (λ e. e.1) es c.from.result ∙ ap (option_map (λ (e : Key × Listed). e.1)) entry ∙ ap (λ (l : Listed). Some l) (sym c.in_ok-listed.ensures) in
     ap (map (λ (l : Listed). Some l)) c.in_ok-push.ensures.items ∙ at_one_more (values_of es) ps c.loop-place.leases.items i c.in_ok-listed.field-0 c.loop-place-test.true c.loop-place.invariant there
 
 pub returns : goal.returns

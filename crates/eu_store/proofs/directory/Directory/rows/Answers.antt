@@ -1,4 +1,4 @@
-use Rattle.std.proofs.Common.{◌++◌, ◌∷◌, [], length, map, get_or, sym, ap, ◌∙◌, Some, List, ℕ, arith}
+use Rattle.std.proofs.Common.{◌++◌, ◌∷◌, [], length, map, slice_get, sym, ap, ◌∙◌, Some, List, ℕ, arith}
 use Rattle.std.specs.Map.{keys_of}
 use Rattle.std.specs.Map.Iter.{deref_pair}
 use Rattle.std.specs.Option.{option_map}
@@ -24,11 +24,11 @@ loop-place-preserved c =
     let ps = c.deref-place-items.result.now in
     let i = c.loop-place.place-index in
     let rows = c.loop-place.rows.items in
-    let row : ℕ × Times = (get_or ps i 0, c.times.result) in
+    let row : ℕ × Times = (c.from-place.result, c.times.result) in
     let entry = sym c.get_index.ensures.entry ∙ ap (option_map deref_pair) c.unwrap.ensures in
-    let there = slice_get-map (λ e. e.1.times) es (get_or ps i 0) ∙ ap (option_map (λ (e : Key × Listed). e.1.times)) entry ∙ ap (λ (t : Times). Some t) (sym c.times.ensures) in
+    let there = ap (slice_get (times_of es)) (sym c.from-place.ensures) ∙ slice_get-map (λ e. e.1.times) es c.from-place.result ∙ ap (option_map (λ (e : Key × Listed). e.1.times)) entry ∙ ap (λ (t : Times). Some t) (sym c.times.ensures) in
     record {
-      places = ap (map (λ (r : ℕ × Times). r.0)) c.in_ok-push.ensures.items ∙ map-append (λ (r : ℕ × Times). r.0) rows (row ∷ []) ∙ ap (λ l. l ++ get_or ps i 0 ∷ []) c.loop-place.invariant.places ∙ sym (take_more ps i 0 c.loop-place-test.true);
+      places = ap (map (λ (r : ℕ × Times). r.0)) c.in_ok-push.ensures.items ∙ map-append (λ (r : ℕ × Times). r.0) rows (row ∷ []) ∙ (λ n. c.loop-place.invariant.places n ++ c.from-place.ensures n ∷ []) ∙ sym (take_more ps i 0 c.loop-place-test.true);
       times = ap (λ (l : List (ℕ × Times)). map (λ (t : Times). Some t) (map (λ r. r.1) l)) c.in_ok-push.ensures.items ∙ ap (map (λ (t : Times). Some t)) (map-append (λ (r : ℕ × Times). r.1) rows (row ∷ []))
           ∙ at_one_more (times_of es) ps (map (λ r. r.1) rows) i c.times.result c.loop-place-test.true c.loop-place.invariant.times there;
     }

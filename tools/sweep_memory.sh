@@ -18,11 +18,18 @@ cd "$(dirname "${BASH_SOURCE[0]}")/.."
 tests='
 eu_registry_tests store_memory::memory_store 110
 eu_registry_tests memory::memory_core 100
+eu_registry_tests eviction::memory_eviction 1
 eu_value_tests memory::memory_outbox 610
+eu_value_tests value_memory::memory_values 1
+eu_value_tests value_memory::memory_texts 1
+eu_value_tests value_memory::memory_pages 1
+eu_book_tests memory::memory_checkpoint 1
 eu_book_tests memory::memory_book 320
 eu_book_tests shared_memory::memory_shared 28
 eu_book_tests shared_memory::memory_lock 28
+eu_book_tests session_memory::memory_seat 1
 eu_http_tests request_memory::memory_request 40
+eu_http_tests request_memory::memory_faults 1
 eu_http_tests request_memory::memory_routes 300
 eu_http_tests memory::memory_json 470
 eu_session_tests memory::memory_http 400

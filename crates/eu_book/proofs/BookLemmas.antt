@@ -1,6 +1,6 @@
 -- A book that is opened, one that begins its journal anew, and one that grows by an entry
 use Rattle.std.proofs.Common.{◌≡◌, ◌≢◌, ◌⊎◌, inl, inr, ℕ, ◌+◌, ◌<◌, ◌≤◌, ◌^◌, List, [], ◌∷◌, ◌++◌, length, refl, sym, ap, ◌∙◌, subst, arith, false, true}
-use Rattle.std.specs.Prelude.{None, Some, Err, Ok, ◌==◌, cond, is_some, Option}
+use Rattle.std.specs.Prelude.{None, Some, Err, Ok, ◌==◌, cond, Bool, Option}
 use Rattle.std.specs.FinMap.{len-empty}
 use Rattle.std.proofs.Math.Dec.{eqb}
 use Rattle.std.proofs.lemmas.Bool.Decides.{eqb_tells}
@@ -27,9 +27,7 @@ use Rattle.eu_model.proofs.ServedLemmas as of
 use Rattle.eu_outbox.specs.Boxed.{Boxed}
 use Rattle.eu_book.specs.declared.journal.Journal.{Journal}
 use Rattle.eu_book.specs.Account.{Account, Refuses, opened, IsKept, cleared, ready, entry, grown}
-use Rattle.eu_book.specs.declared.journal.Spare.{Spare}
-use Rattle.eu_book.specs.declared.journal.Start.{Start}
-use Rattle.eu_book.specs.Checkpoint.{account_with, begun, BeginsAt, BeginsIn, IsPaired, IsSame}
+use Rattle.eu_book.specs.Checkpoint.{account_with, begun, BeginsAt, IsPaired, IsSame}
 use Rattle.eu_book.specs.Peers.{IsRefused, MayRefuse, queues_of, server_with}
 use Rattle.eu_book.specs.Undone.{before_step, undone_all}
 use Rattle.eu_book.proofs.HistoryLemmas.{runs_on, runs_ended, numbered_on, plus_assoc, plus_nothing, tally_on}
@@ -169,10 +167,10 @@ module _ (j : Journal) (totals : Tally) (p : Plain) (boxes : List Boxed) where
   } in a
 
   -- the journal that an entry is added to
-  is_ready : (s : Spare) (next : Option Start) → is_some next ≡ (length j.entries.items == most_entries) → BeginsIn totals.steps (queues_of boxes) s j next
-      → account_with (begun next s j) totals p boxes ≡ ready (account_with j totals p boxes)
-  is_ready s None full at = ap (λ b. cond b (cleared (account_with j totals p boxes)) (account_with j totals p boxes)) full
-  is_ready s (Some start) full at = begins (begun (Some start) s j) at ∙ ap (λ b. cond b (cleared (account_with j totals p boxes)) (account_with j totals p boxes)) full
+  is_ready : (s : Journal) (anew : Bool) → anew ≡ (length j.entries.items == most_entries) → (anew ≡ true → BeginsAt totals.steps (queues_of boxes) s)
+      → account_with (begun anew s j) totals p boxes ≡ ready (account_with j totals p boxes)
+  is_ready s false full at = ap (λ b. cond b (cleared (account_with j totals p boxes)) (account_with j totals p boxes)) full
+  is_ready s true full at = begins s (at refl) ∙ ap (λ b. cond b (cleared (account_with j totals p boxes)) (account_with j totals p boxes)) full
 
   -- an entry more, with what its step replaced
   grows : (new : Journal) (e : Entry) (u : Option Undo) (sum : Tally) (q : Plain) (others : List Boxed) → IsPaired j → new.first ≡ j.first → new.queues ≡ j.queues
@@ -196,27 +194,27 @@ same_account j k totals p boxes same = λ i. let a : Account = record {
 pub begins_paired : (j : Journal) (steps : ℕ) (queues : List Queue) → BeginsAt steps queues j → IsPaired j
 begins_paired j steps queues at = ap length at.undos ∙ sym (ap length at.entries)
 
-begun_paired : (next : Option Start) (s : Spare) (j : Journal) (steps : ℕ) (queues : List Queue) → IsPaired j → BeginsIn steps queues s j next → IsPaired (begun next s j)
-begun_paired None s j steps queues paired at = paired
-begun_paired (Some start) s j steps queues paired at = begins_paired (begun (Some start) s j) steps queues at
+begun_paired : (anew : Bool) (s j : Journal) (steps : ℕ) (queues : List Queue) → IsPaired j → (anew ≡ true → BeginsAt steps queues s) → IsPaired (begun anew s j)
+begun_paired false s j steps queues paired at = paired
+begun_paired true s j steps queues paired at = begins_paired s steps queues (at refl)
 
--- a journal as it was, as it is with room made, the next one where it was full, and the one with the entry of a command and what its step replaced
-module _ (j mid new : Journal) (totals : Tally) (p : Plain) (boxes : List Boxed) (s : Spare) (next : Option Start) (e : Entry) (u : Option Undo) (paired : IsPaired j) (same : IsSame mid j)
-    (full : is_some next ≡ (length j.entries.items == most_entries)) (at : BeginsIn totals.steps (queues_of boxes) s mid next)
-    (entries : new.entries.items ≡ (begun next s mid).entries.items ++ e ∷ []) (undos : new.undos.items ≡ (begun next s mid).undos.items ++ u ∷ []) where
-  still_paired : IsPaired (begun next s mid)
-  still_paired = begun_paired next s mid totals.steps (queues_of boxes) (ap length same.undos ∙ paired ∙ sym (ap length same.entries)) at
+-- a journal as it was, as it is with room made, the spare one, which begins anew where it was full, and the one with the entry of a command and what its step replaced
+module _ (j mid new : Journal) (totals : Tally) (p : Plain) (boxes : List Boxed) (s : Journal) (anew : Bool) (e : Entry) (u : Option Undo) (paired : IsPaired j) (same : IsSame mid j)
+    (full : anew ≡ (length j.entries.items == most_entries)) (at : anew ≡ true → BeginsAt totals.steps (queues_of boxes) s)
+    (entries : new.entries.items ≡ (begun anew s mid).entries.items ++ e ∷ []) (undos : new.undos.items ≡ (begun anew s mid).undos.items ++ u ∷ []) where
+  still_paired : IsPaired (begun anew s mid)
+  still_paired = begun_paired anew s mid totals.steps (queues_of boxes) (ap length same.undos ∙ paired ∙ sym (ap length same.entries)) at
 
   pub entered_paired : IsPaired new
   entered_paired =
-      omega (arith, ap length undos, ap length entries, length-append (begun next s mid).undos.items (u ∷ []), length-append (begun next s mid).entries.items (e ∷ []), still_paired)
+      omega (arith, ap length undos, ap length entries, length-append (begun anew s mid).undos.items (u ∷ []), length-append (begun anew s mid).entries.items (e ∷ []), still_paired)
 
-  pub entered : (sum : Tally) (q : Plain) (others : List Boxed) → new.first ≡ (begun next s mid).first → new.queues ≡ (begun next s mid).queues → sum ≡ plus totals (delta e.command e.reply)
+  pub entered : (sum : Tally) (q : Plain) (others : List Boxed) → new.first ≡ (begun anew s mid).first → new.queues ≡ (begun anew s mid).queues → sum ≡ plus totals (delta e.command e.reply)
       → before_step e.command u q ≡ p → account_with new sum q others ≡ grown (ready (account_with j totals p boxes)) e (server_with q others)
   entered sum q others first queues sum_is undone =
       let full_mid = full ∙ ap (λ es. length es == most_entries) (sym same.entries) in
-      let readied = is_ready mid totals p boxes s next full_mid at ∙ ap ready (same_account mid j totals p boxes same) in
-      grows (begun next s mid) totals p boxes new e u sum q others still_paired first queues entries undos sum_is undone ∙ ap (λ a. grown a e (server_with q others)) readied
+      let readied = is_ready mid totals p boxes s anew full_mid at ∙ ap ready (same_account mid j totals p boxes same) in
+      grows (begun anew s mid) totals p boxes new e u sum q others still_paired first queues entries undos sum_is undone ∙ ap (λ a. grown a e (server_with q others)) readied
 
 -- ---- refused
 

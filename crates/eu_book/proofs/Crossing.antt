@@ -4,7 +4,6 @@ use Rattle.std.proofs.Crossing as heap
 use Rattle.eu_book.specs.contracts.book.Book as book
 use Rattle.eu_book.specs.contracts.journal.Journal as journal
 use Rattle.eu_book.specs.contracts.journal.Logged as logged
-use Rattle.eu_book.specs.contracts.journal.Spare as spare
 use Rattle.eu_book.specs.contracts.peers.Peers as peers
 use Rattle.eu_core.proofs.Crossing.{Registry-send, Undo-send}
 use Rattle.eu_model.proofs.Crossing.{Command-send, Entry-send, Reply-send}
@@ -18,11 +17,8 @@ Logged-send = search (Command-send, Reply-send, sendable) depth 40 fits 20000
 pub Journal-send : IsSend journal.the_field.row
 Journal-send = search (Entry-send, Task-send, Undo-send, sendable, heap.crosses) depth 40 fits 20000
 
-Spare-send : IsSend spare.the_field.row
-Spare-send = search (Entry-send, Task-send, Undo-send, sendable, heap.crosses) depth 40 fits 20000
-
 Peers-send : IsSend peers.the_field.row
 Peers-send = search (Outbox-send, sendable, heap.crosses) depth 40 fits 20000
 
 pub Book-send : IsSend book.the_field.row
-Book-send = search (Journal-send, Spare-send, Peers-send, Registry-send, sendable, heap.crosses) depth 40 fits 20000
+Book-send = search (Journal-send, Peers-send, Registry-send, sendable, heap.crosses) depth 40 fits 20000

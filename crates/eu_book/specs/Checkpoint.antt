@@ -1,5 +1,5 @@
 -- The account of a book by its parts, and a journal that begins anew before an entry, or goes on as it is
-use Rattle.std.specs.Prelude.{◌≡◌, ℕ, ◌<◌, List, [], length, vec_len, Option, Some, None}
+use Rattle.std.specs.Prelude.{◌≡◌, ℕ, Bool, ◌<◌, List, [], length, vec_len, if◌then◌else◌}
 use Rattle.std.specs.Vec.{vec_capacity}
 use Rattle.eu_model.specs.declared.queues.Queue.{Queue}
 use Rattle.eu_model.specs.declared.tallies.Tally.{Tally}
@@ -7,8 +7,6 @@ use Rattle.eu_model.specs.Plain.{Plain}
 use Rattle.eu_model.specs.Server.{PlainServer}
 use Rattle.eu_outbox.specs.Boxed.{Boxed}
 use Rattle.eu_book.specs.declared.journal.Journal.{Journal}
-use Rattle.eu_book.specs.declared.journal.Spare.{Spare}
-use Rattle.eu_book.specs.declared.journal.Start.{Start}
 use Rattle.eu_book.specs.Account.{Account}
 use Rattle.eu_book.specs.Peers.{server_with}
 use Rattle.eu_book.specs.Undone.{undone_all}
@@ -56,15 +54,9 @@ pub record BeginsAt (steps : ℕ) (queues : List Queue) (j : Journal) : Type 0 w
   pub undos : j.undos.items ≡ []
   pub room : HasRoom j
 
--- the journal that an entry is added to: one that begins anew in the spare lists, where that was made ready
-abbrev pub begun : Option Start → Spare → Journal → Journal
-begun None s j = j
-begun (Some start) s j = record { first = start.first; queues = start.queues; entries = s.entries; undos = s.undos }
-
--- where a journal begins anew in the spare lists, it begins after so many steps, when so much waits for the peers
-abbrev pub BeginsIn : ℕ → List Queue → Spare → Journal → Option Start → Type 0
-BeginsIn steps queues s j None = Unit {0}
-BeginsIn steps queues s j (Some start) = BeginsAt steps queues (begun (Some start) s j)
+-- the journal that an entry is added to: the spare one, where it begins anew
+abbrev pub begun : Bool → Journal → Journal → Journal
+begun anew spare j = if anew then spare else j
 
 -- the journal of an account
 pub record IsJournal (a : Account) (j : Journal) : Type 0 where

@@ -6,3 +6,4 @@ pub mod Checkpoint
 pub mod Desk
 pub mod Snapshot
 pub mod Listing
+pub mod Busy

@@ -10,9 +10,9 @@ ghost use Rattle.eu_book.specs.Checkpoint.{IsJournal, IsRoom};
 ghost use Rattle.eu_book.specs.Peers.{state_of};
 ghost use Rattle.eu_book.specs.Snapshot.{view_of};
 
-use crate::checkpoint::{begin, prepare};
+use crate::checkpoint::prepare;
 use crate::entering::{answer, note};
-use crate::journal::{Dropped, Journal, Logged, Spare};
+use crate::journal::{Dropped, Journal, Logged};
 use crate::peers::Peers;
 use crate::snapshot::ViewSnapshot;
 use crate::undoing::{plain_base, plain_state};
@@ -53,7 +53,7 @@ pub(crate) struct Entered {
 #[derive(Debug, Drop)]
 pub struct Book {
     journal: Journal,
-    spare: Spare,
+    spare: Journal,
     totals: Tally,
     registry: Registry,
     peers: Peers,
@@ -86,11 +86,11 @@ impl Book {
         ensures { IfOk result (λ book. book ≡ opened config expected peers) }
     {
         let peers = Peers::open(alloc, peers)?;
-        let journal = begin(alloc, &peers, 0)?;
-        let spare = Spare::open(alloc)?;
+        let mut journal = Journal::empty(alloc)?;
+        prepare(&mut journal, alloc, &peers, 0)?;
         Ok(Book {
             journal,
-            spare,
+            spare: Journal::empty(alloc)?,
             totals: Tally::nothing(),
             registry: Registry::open(alloc, config, expected),
             peers,
@@ -105,7 +105,7 @@ impl Book {
     /// What a client did goes into the outbox of each peer, as its task; what a peer sent, an adoption and a timer's command put
     /// nothing there. `Drain`, `Landed` and `Lost` are the calls of that name on the outbox of the peer that they name.
     ///
-    /// Where the journal has 65,536 entries, it begins anew before (`Book::checkpoint`), in lists that the book keeps for that; and each call lets
+    /// Where the journal has 65,536 entries, it begins anew before (`Book::checkpoint`), in a spare journal that the book keeps; and each call lets
     /// go of one entry that it had before (`Book::let_go`).
     ///
     /// Refused, in this order: `Exhausted` where 2^62 commands were accepted; `NoPeer` where the command names a peer and there
@@ -127,7 +127,7 @@ impl Book {
         ensures unasked { OnErr result (chooser.new ≡ chooser.old) }
     {
         let outcome = self.enter(alloc, pass, command, moment, chooser, false);
-        drop(self.let_go());
+        drop(self.let_go(alloc));
         Ok(outcome?.receipt)
     }
 
@@ -222,14 +222,14 @@ impl Book {
 
     /// Lets go of one entry that the journal had when it was full and began anew last, if one is left, with what its step replaced. To do so
     /// at each command spreads over all of them what a whole journal would take at once. Takes no memory, and all else stays as it is.
-    pub fn let_go(&mut self) -> Dropped
+    pub fn let_go(&mut self, alloc: Global) -> Dropped
         ensures { self.new ≡ self.old }
     {
-        self.spare.let_go()
+        self.spare.let_go(alloc)
     }
 
     /// Begins the journal anew: the registry and what waits for its peers, as they are, become its base, and it has no entries. They
-    /// stay as they are, and so do the totals. Gives the journal as it was, but for its base, which is asked for before (`Book::base`). It
+    /// stay as they are, and so do the totals. Gives the journal, its entries as they were; its base is asked for before (`Book::base`). It
     /// copies what waits for the peers, and no lease. `AllocError` where no memory is left, which changes nothing.
     pub fn checkpoint(&mut self, alloc: Global) -> Result<Box<Journal>, AllocError>
         ensures ok { OnOk result (self.new ≡ cleared self.old) }
@@ -252,9 +252,10 @@ impl Book {
         ensures retired { IfOk result (λ j. IsJournal self.old j.value) }
         ensures err { OnErr result (self.new ≡ self.old) }
     {
-        let mut next = prepare(alloc, &self.peers, self.totals.steps, room)?;
-        mem::swap(&mut self.journal, next.as_mut());
-        Ok(next)
+        let mut room = room;
+        prepare(room.as_mut(), alloc, &self.peers, self.totals.steps)?;
+        mem::swap(&mut self.journal, room.as_mut());
+        Ok(room)
     }
 
     /// What a query sees at a moment; the book stays as it is. `AllocError` where no memory is left.
@@ -302,7 +303,8 @@ impl Book {
 
     /// The number of the journal's first entry: that of the commands that were accepted before its base.
     pub fn first(&self) -> u64
-        ensures { result ≡ self.now.first }
+        ensures first { result ≡ self.now.first }
+        ensures lawful { IsLawful self.now }
     {
         self.journal.first
     }

@@ -1,5 +1,5 @@
 //! How an accepted command is entered in the journal.
-ghost use Rattle.std.specs.Prelude.{◌≡◌, ◌≢◌, ◌+◌, ◌<◌, ◌^◌, ◌++◌, ◌∷◌, ◌==◌, [], Ok, length, is_some, IfOk, IfErr, OnOk, OnErr};
+ghost use Rattle.std.specs.Prelude.{◌≡◌, ◌≢◌, ◌+◌, ◌<◌, ◌^◌, ◌++◌, ◌∷◌, ◌==◌, [], Ok, length, true, IfOk, IfErr, OnOk, OnErr};
 ghost use Rattle.eu_core.specs.Stepped.{Chooses};
 ghost use Rattle.eu_model.specs.Delta.{added_by, counted_by, delta, plus, removed_by};
 ghost use Rattle.eu_model.specs.Answers.{ServerAnswers};
@@ -7,12 +7,12 @@ ghost use Rattle.eu_book.specs.Account.{entry, known_fault};
 ghost use Rattle.eu_base.specs.Limits.{most_entries, most_steps};
 ghost use Rattle.eu_core.specs.Answered.{answered};
 ghost use Rattle.eu_book.specs.Peers.{IsRefused, queues_of, server_with};
-ghost use Rattle.eu_book.specs.Checkpoint.{begun, BeginsIn, HasRoom, IsSame};
+ghost use Rattle.eu_book.specs.Checkpoint.{begun, BeginsAt, HasRoom, IsSame};
 ghost use Rattle.eu_book.specs.Undone.{before_step};
 
 use crate::book::{Entered, Receipt};
-use crate::checkpoint::{begin_anew, make_room};
-use crate::journal::{Journal, Spare, Start};
+use crate::checkpoint::make_room;
+use crate::journal::Journal;
 use crate::peers::Peers;
 use crate::serving::{Served, serve};
 use eu_base::{Fault, MOST_STEPS, Moment};
@@ -20,12 +20,13 @@ use eu_clock::Chooser;
 use eu_core::Registry;
 use eu_model::{Command, Entry, Reply, Tally};
 use std::alloc::Global;
+use std::mem;
 
-/// What an accepted command is answered, and where its journal begins anew before the entry, if it was full.
+/// What an accepted command is answered, and whether the journal, which was full, begins anew before its entry.
 #[derive(Drop)]
 pub(crate) struct Accepted {
     pub(crate) served: Served,
-    pub(crate) next: Option<Start>,
+    pub(crate) begins_anew: bool,
 }
 
 /// Answers a command, once there is room for its entry. `Exhausted` where the steps are as many as a book counts; this, and the
@@ -33,7 +34,7 @@ pub(crate) struct Accepted {
 pub(crate) fn answer<C: Chooser>(
     alloc: Global,
     journal: &mut Journal,
-    spare: &mut Spare,
+    spare: &mut Journal,
     steps: u64,
     registry: &mut Registry,
     peers: &mut Peers,
@@ -43,9 +44,9 @@ pub(crate) fn answer<C: Chooser>(
     logs: bool,
 ) -> Result<Accepted, Fault>
     ensures journal { IsSame journal.new journal.old }
-    ensures full { IfOk result (λ a. is_some a.next ≡ (length journal.old.entries.items == most_entries)) }
-    ensures next { IfOk result (λ a. BeginsIn steps (queues_of peers.old) spare.new journal.new a.next) }
-    ensures room { IfOk result (λ a. HasRoom (begun a.next spare.new journal.new)) }
+    ensures full { IfOk result (λ a. a.begins_anew ≡ (length journal.old.entries.items == most_entries)) }
+    ensures next { IfOk result (λ a. a.begins_anew ≡ true → BeginsAt steps (queues_of peers.old) spare.new) }
+    ensures room { IfOk result (λ a. HasRoom (begun a.begins_anew spare.new journal.new)) }
     ensures counts { OnOk result (steps ≢ most_steps) }
     ensures same { IfOk result (λ a. a.served.answered ≡ answered logs a.served.answered.reply) }
     ensures answers { IfOk result (λ a. ServerAnswers (server_with registry.old peers.old) command.now moment (Ok a.served.answered.reply) (server_with registry.new peers.new)) }
@@ -62,40 +63,48 @@ pub(crate) fn answer<C: Chooser>(
     if let Some(fault) = peers.refusal(command, moment) {
         return Err(fault);
     }
-    let next = make_room(alloc, journal, spare, peers, steps)?;
+    let begins_anew = make_room(alloc, journal, spare, peers, steps)?;
     let served = serve(alloc, registry, peers, command, moment, chooser, logs)?;
-    Ok(Accepted { served, next })
+    Ok(Accepted {
+        served,
+        begins_anew,
+    })
 }
 
-/// Enters in the journal a command, its reply, and what its step replaced; it begins anew before, where that was made ready. Adds what the
-/// command did, and gives who asked the replies that are theirs.
+/// Enters in the journal a command, its reply, and what its step replaced. A journal that begins anew trades its place with the spare one before, which
+/// takes no memory. Adds what the command did, and gives who asked the replies that are theirs.
 pub(crate) fn note(
     journal: &mut Journal,
-    spare: &mut Spare,
+    spare: &mut Journal,
     totals: &mut Tally,
     pass: u64,
     command: Command,
     moment: Moment,
     accepted: Accepted,
 ) -> Entered
-    requires room { HasRoom (begun accepted.next spare.old journal.old) }
+    requires room { HasRoom (begun accepted.begins_anew spare.old journal.old) }
     requires steps { totals.old.steps + 1 < 2 ^ 64 }
     requires counted { totals.old.counted + counted_by command accepted.served.answered.reply < 2 ^ 64 }
     requires added { totals.old.added + added_by command accepted.served.answered.reply < 2 ^ 64 }
     requires removed { totals.old.removed + removed_by command accepted.served.answered.reply < 2 ^ 64 }
-    ensures first { journal.new.first ≡ (begun accepted.next spare.old journal.old).first }
-    ensures queues { journal.new.queues ≡ (begun accepted.next spare.old journal.old).queues }
-    ensures entries { journal.new.entries.items ≡ (begun accepted.next spare.old journal.old).entries.items ++ entry pass totals.old.steps command moment accepted.served.answered.reply ∷ [] }
-    ensures undos { journal.new.undos.items ≡ (begun accepted.next spare.old journal.old).undos.items ++ accepted.served.undo ∷ [] }
+    ensures first { journal.new.first ≡ (begun accepted.begins_anew spare.old journal.old).first }
+    ensures queues { journal.new.queues ≡ (begun accepted.begins_anew spare.old journal.old).queues }
+    ensures entries { journal.new.entries.items ≡ (begun accepted.begins_anew spare.old journal.old).entries.items ++ entry pass totals.old.steps command moment accepted.served.answered.reply ∷ [] }
+    ensures undos { journal.new.undos.items ≡ (begun accepted.begins_anew spare.old journal.old).undos.items ++ accepted.served.undo ∷ [] }
     ensures totals { totals.new ≡ plus totals.old (delta command accepted.served.answered.reply) }
     ensures number { result.receipt.number ≡ totals.old.steps }
     ensures told { result.receipt.reply ≡ accepted.served.answered.answer }
     ensures logged { result.logged ≡ accepted.served.answered.logged }
 {
-    let Accepted { served, next } = accepted;
+    let Accepted {
+        served,
+        begins_anew,
+    } = accepted;
     let Served { answered, undo } = served;
     let number = totals.steps;
-    begin_anew(journal, spare, next);
+    if begins_anew {
+        mem::swap(journal, spare);
+    }
     add(totals, Tally::of(&command, &answered.reply));
     journal.entries.push_reserved(Entry {
         pass,

@@ -1,11 +1,12 @@
-//! The journal of a book, and the spare room beside it.
-ghost use Rattle.std.specs.Prelude.{IfOk};
+//! The journal of a book.
+ghost use Rattle.std.specs.Prelude.{◌≡◌, ◌++◌, ◌<◌, ◌↔◌, [], length, option_to_list, IfOk, IsSome};
 ghost use Rattle.eu_book.specs.Checkpoint.{IsRoom};
 
 use eu_base::{MOST_ENTRIES, Moment};
 use eu_core::Undo;
 use eu_model::{Command, Entry, Queues, Reply};
 use std::alloc::{AllocError, Global};
+use std::mem;
 
 /// The last that was told to a registry: its entries are a run of the lease machine from the base. That isn't kept: the registry is
 /// led back to it by what the entries replaced.
@@ -27,49 +28,34 @@ impl Journal {
     pub fn room(alloc: Global) -> Result<Box<Journal>, AllocError>
         ensures { IfOk result (λ room. IsRoom room.value) }
     {
-        let journal = Journal {
+        let journal = Journal::empty(alloc)?;
+        Ok(Box::new(alloc, journal)?)
+    }
+
+    /// The same, not in a box.
+    pub(crate) fn empty(alloc: Global) -> Result<Journal, AllocError>
+        ensures { IfOk result IsRoom }
+    {
+        Ok(Journal {
             first: 0,
             queues: Queues::new(Vec::new(alloc)),
             entries: Vec::with_capacity(alloc, MOST_ENTRIES)?,
             undos: Vec::with_capacity(alloc, MOST_ENTRIES)?,
-        };
-        Ok(Box::new(alloc, journal)?)
-    }
-}
-
-/// Where a journal begins anew.
-#[derive(Debug, Drop)]
-pub(crate) struct Start {
-    /// After so many steps.
-    pub(crate) first: u64,
-    /// When so much waits for the peers.
-    pub(crate) queues: Queues,
-}
-
-/// Room for a second journal: the lists that one which is full begins anew in. They have what it had then, as far as that isn't let go of.
-#[derive(Debug, Drop)]
-pub(crate) struct Spare {
-    pub(crate) entries: Vec<Entry>,
-    pub(crate) undos: Vec<Option<Undo>>,
-    pub(crate) queues: Option<Queues>,
-}
-
-impl Spare {
-    /// Empty, with room for as many entries as a journal may keep. `AllocError` where no memory is left.
-    pub(crate) fn open(alloc: Global) -> Result<Spare, AllocError> {
-        Ok(Spare {
-            entries: Vec::with_capacity(alloc, MOST_ENTRIES)?,
-            undos: Vec::with_capacity(alloc, MOST_ENTRIES)?,
-            queues: None,
         })
     }
 
-    /// Hands out the last entry that is left, if one is, with what its step replaced.
-    pub(crate) fn let_go(&mut self) -> Dropped {
+    /// Takes the last entry out, if one is left, with what its step replaced, and what waited for the peers. Takes no memory.
+    pub(crate) fn let_go(&mut self, alloc: Global) -> Dropped
+        ensures entry { self.old.entries.items ≡ self.new.entries.items ++ option_to_list result.entry }
+        ensures one { IsSome result.entry ↔ (0 < length self.old.entries.items) }
+        ensures undo { self.old.undos.items ≡ self.new.undos.items ++ option_to_list result.undo }
+        ensures one_undo { IsSome result.undo ↔ (0 < length self.old.undos.items) }
+        ensures queues { (result.queues ≡ self.old.queues) × (self.new.queues ≡ []) }
+    {
         Dropped {
             entry: self.entries.pop(),
             undo: self.undos.pop(),
-            queues: self.queues.take(),
+            queues: mem::replace(&mut self.queues, Queues::new(Vec::new(alloc))),
         }
     }
 }
@@ -81,8 +67,8 @@ pub struct Dropped {
     pub entry: Option<Entry>,
     /// What its step replaced.
     pub(crate) undo: Option<Option<Undo>>,
-    /// What waited for the peers before the first entry, where the journal has begun anew just now.
-    pub(crate) queues: Option<Queues>,
+    /// What waited for the peers before the first entry, where the journal has begun anew just now; else nothing.
+    pub(crate) queues: Queues,
 }
 
 /// What a log of one's own keeps of a command that was accepted: its entry, but for who asked.

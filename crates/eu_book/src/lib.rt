@@ -23,5 +23,5 @@ mod undoing;
 
 pub use book::{Book, LoggedReceipt, Receipt};
 pub use journal::{Dropped, Journal, Logged};
-pub use law::listings_ascend;
+pub use law::{drains_are_busy, listings_ascend};
 pub use snapshot::ViewSnapshot;

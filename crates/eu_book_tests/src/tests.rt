@@ -2,6 +2,7 @@
 mod book;
 mod closed;
 mod memory;
+mod session_memory;
 mod sessions;
 mod shared;
 mod shared_memory;

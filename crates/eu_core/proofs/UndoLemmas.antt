@@ -17,11 +17,9 @@ use Rattle.eu_model.proofs.DeterminedLemmas.{next_is}
 use Rattle.eu_model.proofs.MinuteLemmas.{end_minute_is_kept, update_is_kept, reconfigure_is_kept}
 use Rattle.eu_store.proofs.TableLemmas.{by_key, by_name}
 use Rattle.eu_model.specs.Machine.{with_value}
-use Rattle.eu_store.specs.declared.held.Amendment.{Amendment}
-use Rattle.eu_store.specs.Stored.{amended, changed, rejoined, term_of}
-use Rattle.eu_eviction.proofs.UndoLemmas.{value_undone}
+use Rattle.eu_store.specs.Stored.{changed, rejoined, term_of}
+use Rattle.eu_store.proofs.UndoLemmas.{value_undone}
 use Rattle.eu_core.specs.declared.decision.Change.{Change}
-use Rattle.eu_core.specs.declared.decision.LeaseChange.TheVariants.{Amended}
 use Rattle.eu_core.specs.declared.undo.LeaseBefore.{LeaseBefore}
 use Rattle.eu_core.specs.declared.undo.RenewalBefore.{RenewalBefore}
 use Rattle.eu_core.specs.declared.undo.Undo.TheVariants.{Renewal, Lease, Minute, Expected, Settings}
@@ -41,14 +39,14 @@ module _ (p : Plain) (k : Key) (x : Change) where
   row_left row is same = with_row-same p.overrides k.id x.row (sym is ∙ sym same)
 
   -- all but the moments stay
-  pub renewal_left : (c : Command) (b : RenewalBefore) (a : Amendment) (l : Listed) (row : Option Status) → key_of c ≡ Some k → get p.leases k ≡ Some l → row ≡ get p.overrides k.id
-      → x.lease ≡ Amended a → (amended a l).instance ≡ l.instance → x.row ≡ row → x.expected ≡ p.expected → b.lease ≡ term_of l → b.rate ≡ counted p → undone c (Renewal b) (left p k x) ≡ p
-  renewal_left c b a l row key held row_is amends stays same expected lease_is rate_is =
+  pub renewal_left : (c : Command) (b : RenewalBefore) (l after : Listed) (row : Option Status) → key_of c ≡ Some k → get p.leases k ≡ Some l → row ≡ get p.overrides k.id
+      → lease_left x.lease (Some l) ≡ Some after → after.instance ≡ l.instance → x.row ≡ row → x.expected ≡ p.expected → b.lease ≡ term_of l → b.rate ≡ counted p → undone c (Renewal b) (left p k x) ≡ p
+  renewal_left c b l after row key held row_is leaves stays same expected lease_is rate_is =
       let f = retimed b.lease in
       let now = with_value p.leases k (lease_left x.lease (get p.leases k)) in
-      let left_is : lease_left x.lease (get p.leases k) ≡ Some (amended a l) = (λ i. lease_left (amends i) (held i)) in
-      let found : get now k ≡ Some (amended a l) = get_changed p.leases k (lease_left x.lease (get p.leases k)) ∙ left_is in
-      let back : f (amended a l) ≡ l = ap (λ t. retimed t (amended a l)) lease_is ∙ moments_back l (amended a l) stays in
+      let left_is : lease_left x.lease (get p.leases k) ≡ Some after = ap (lease_left x.lease) held ∙ leaves in
+      let found : get now k ≡ Some after = get_changed p.leases k (lease_left x.lease (get p.leases k)) ∙ left_is in
+      let back : f after ≡ l = ap (λ t. retimed t after) lease_is ∙ moments_back l after stays in
       let leases : changed f now k ≡ p.leases =
       changed_value f now k ∙ ap (with_value now k) (ap (option_map f) found ∙ ap Some back ∙ sym held) ∙ value_undone by_key p.leases k (lease_left x.lease (get p.leases k)) in
       let rows = row_left row row_is same in

@@ -12,7 +12,7 @@ use Rattle.eu_model.specs.Server.{key_of}
 use Rattle.eu_eviction.specs.declared.eviction.Eviction.{Eviction as Evicted}
 use Rattle.eu_lease.specs.Term.{Term}
 use Rattle.eu_store.specs.Stored.{changed, rejoined}
-use Rattle.eu_eviction.specs.Removed.{with_values}
+use Rattle.eu_store.specs.Removed.{with_values}
 use Rattle.eu_core.specs.declared.undo.Undo.{Undo}
 use Rattle.eu_core.specs.declared.undo.Undo.TheVariants.{Renewal, Lease, Eviction, Minute, Expected, Settings}
 use Rattle.eu_core.specs.declared.undo.LeaseBefore.{LeaseBefore}

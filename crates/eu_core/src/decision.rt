@@ -1,11 +1,12 @@
 //! What is decided of a command on a lease, and how it is carried out.
-ghost use Rattle.std.specs.Prelude.{◌≡◌, ◌<◌, true, false, None, IfOk, IfErr, IsOk, OnErr, OnOk};
+ghost use Rattle.std.specs.Prelude.{◌≡◌, ◌<◌, true, false, None, Some, IfOk, IfErr, IsOk, IsTrue, OnErr, OnOk};
 ghost use Rattle.std.specs.Option.{option_map};
 ghost use Rattle.std.specs.FinMap as map;
+ghost use Rattle.eu_model.specs.declared.views.Listed.{Listed};
 ghost use Rattle.eu_model.specs.Machine.{with_value};
 ghost use Rattle.eu_core.specs.Decided.{begins, is_new, lease_left, new_id};
 
-use eu_base::{Fault, Id, Key, MOST_LEASES, Status};
+use eu_base::{Fault, Id, Key, MOST_LEASES, SharedInstance, Status};
 use eu_eviction::Overrides;
 use eu_model::Reply;
 use eu_store::{Amendment, HeldLease, Leases, Place};
@@ -22,6 +23,19 @@ pub enum LeaseChange {
     Begun(HeldLease),
     /// It ends.
     Ended,
+}
+
+impl LeaseChange {
+    /// Whether a lease of this instance stays held, with the instance as it is. Where it is `false`, it may be so nonetheless. Takes no memory.
+    pub fn keeps(&self, instance: &SharedInstance) -> bool
+        ensures { IsTrue result → (l : Listed) → l.instance ≡ instance.now → (after : Listed) × (lease_left self.now (Some l) ≡ Some after) × (after.instance ≡ l.instance) }
+    {
+        match self {
+            LeaseChange::Stays => true,
+            LeaseChange::Amended(amendment) => amendment.keeps(instance),
+            LeaseChange::Begun(_) | LeaseChange::Ended => false,
+        }
+    }
 }
 
 /// What a command on a lease changes.

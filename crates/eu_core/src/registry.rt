@@ -707,9 +707,9 @@ impl Registry {
         requires row { row ≡ map.get self.now.overrides key.now.id }
         ensures { IfOk result (λ u. (c : Command) → key_of c ≡ Some key.now → undone c u (left self.now key.now change.now) ≡ self.now) }
     {
-        match (&change.lease, held) {
-            (LeaseChange::Amended(amendment), Some(held))
-                if amendment.keeps(held.instance())
+        match held {
+            Some(held)
+                if change.lease.keeps(held.instance())
                     && change.row == row
                     && change.expected == self.threshold.expected() => {
                 Ok(Undo::Renewal(RenewalBefore {

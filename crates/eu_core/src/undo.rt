@@ -3,7 +3,7 @@ ghost use Rattle.std.specs.Prelude.{◌≡◌, ◌≤◌, map as all, None, IfOk
 ghost use Rattle.std.specs.FinMap as map;
 ghost use Rattle.std.specs.Option.{option_copied};
 ghost use Rattle.eu_model.specs.Machine.{with_value};
-ghost use Rattle.eu_eviction.specs.Removed.{with_values};
+ghost use Rattle.eu_store.specs.Removed.{with_values};
 ghost use Rattle.eu_store.specs.Stored.{changed};
 ghost use Rattle.eu_core.specs.Undone.{retimed, unboxed};
 

@@ -1,4 +1,3 @@
-pub mod UndoLemmas
 pub mod RowLemmas
 pub mod OnceLemmas
 pub mod Crossing

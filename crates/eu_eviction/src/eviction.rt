@@ -1,11 +1,13 @@
 //! Evictions.
 ghost use Rattle.std.specs.Prelude.{◌≡◌, ◌≤◌, [], length, map, replicate, All, Contains, vec_len, vec_capacity, IfOk, OnOk, OnErr};
+ghost use Rattle.std.specs.FinMap.{len};
 ghost use Rattle.std.specs.List.{IsDistinct};
 ghost use Rattle.eu_base.specs.Values.{key_eq};
 ghost use Rattle.eu_clock.specs.Front.{state_after};
 ghost use Rattle.eu_eviction.specs.Eviction.{due, number_of, drawn};
-ghost use Rattle.eu_eviction.specs.Removed.{with_values};
 ghost use Rattle.eu_model.specs.Machine.{without};
+ghost use Rattle.eu_store.specs.Removed.{with_values};
+ghost use Rattle.eu_store.specs.Sweep.{Suffices};
 
 use crate::lots::{draw_all, evictions, lots};
 use crate::overrides::Overrides;
@@ -13,7 +15,7 @@ use eu_base::{Config, Key, Moment, Status};
 use eu_clock::Chooser;
 use eu_lease::evict_limit;
 use eu_model::Reply;
-use eu_store::{HeldLease, Leases};
+use eu_store::{HeldLease, Leases, Taking};
 use std::alloc::{AllocError, Global};
 
 /// What an eviction took out, and so many replies that tell it.
@@ -74,11 +76,12 @@ pub fn run_eviction<C: Chooser>(
     let number = keys.len().min(evict_limit(leases.len(), config.percent));
     let mut lots = lots(alloc, &keys, replies)?;
     let room = Vec::with_capacity(alloc, replies as usize)?;
-    let removed = room_for(alloc, number)?;
+    let taking = leases.room_for(alloc, number)?;
+    let rows = Vec::with_capacity(alloc, number)?;
     draw_all(&mut keys, lots.as_mut_slice(), number, chooser);
     let replies = evictions(room, lots, &keys, number);
     keys.truncate(number);
-    let removed = remove_all(leases, overrides, &keys, removed);
+    let removed = remove_all(leases, overrides, &keys, taking, rows);
     Ok(Eviction {
         victims: keys,
         removed,
@@ -103,38 +106,24 @@ fn due_keys(
     }
 }
 
-/// Room for what stands under so many keys.
-fn room_for(alloc: Global, number: usize) -> Result<Removed, AllocError>
-    ensures leases { IfOk result (λ r. (r.leases.items ≡ []) × (number ≤ vec_capacity r.leases)) }
-    ensures rows { IfOk result (λ r. (r.rows.items ≡ []) × (number ≤ vec_capacity r.rows)) }
-{
-    Ok(Removed {
-        leases: Vec::with_capacity(alloc, number)?,
-        rows: Vec::with_capacity(alloc, number)?,
-    })
-}
-
-/// Takes out the leases of these keys and the override rows of their ids, and moves them into the room that was made. Takes no memory.
+/// Takes out the leases of these keys and the override rows of their ids, into the room that was made. Takes no memory.
 fn remove_all(
     leases: &mut Leases,
     overrides: &mut Overrides,
     keys: &[Key],
-    room: Removed,
+    taking: Taking,
+    rows: Vec<Option<Status>>,
 ) -> Removed
-    requires leases { (room.leases.items ≡ []) × (length keys.now ≤ vec_capacity room.leases) }
-    requires rows { (room.rows.items ≡ []) × (length keys.now ≤ vec_capacity room.rows) }
+    requires leases { Suffices taking (length keys.now) (len leases.old.held) }
+    requires rows { (rows.items ≡ []) × (length keys.now ≤ vec_capacity rows) }
     ensures leases { leases.new.held ≡ without leases.old.held keys.now }
     ensures overrides { overrides.new.rows ≡ without overrides.old.rows (map (λ k. k.id) keys.now) }
     ensures leases_back { with_values leases.new.held keys.now result.leases.items ≡ leases.old.held }
     ensures rows_back { with_values overrides.new.rows (map (λ k. k.id) keys.now) result.rows.items ≡ overrides.old.rows }
 {
-    let Removed {
-        leases: mut held,
-        mut rows,
-    } = room;
+    let mut rows = rows;
+    let held = leases.take_all(keys, taking);
     for key in keys {
-        let (place, _held) = leases.find(key);
-        held.push_reserved(leases.take(key, place));
         rows.push_reserved(overrides.take(&key.id));
     }
     Removed { leases: held, rows }

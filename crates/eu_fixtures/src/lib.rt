@@ -18,7 +18,7 @@ pub use asks::{read_ask, read_command, read_config, read_said};
 pub use commands::{registration, registration_for, renewal};
 pub use desks::done;
 pub use failing::{Brittle, KINDS, Torn, reads_of};
-pub use memory::{are_so, pause_or_go_on};
+pub use memory::{are_so, pause_or_go_on, with_long_ids};
 pub use messages::{
     BAD_CHUNK, BAD_HEAD, FORBIDDEN, ITEM_DONE, ITEM_MISSING, LAST_MISSING, LISTED, MISSING,
     REGISTERED, REGISTRATION, RENEWAL, looked,

@@ -18,3 +18,12 @@ pub fn pause_or_go_on(alloc: Global) -> bool {
     let room: Result<Vec<u8>, AllocError> = Vec::with_capacity(alloc, 1_234_567);
     room.is_ok()
 }
+
+/// The same text, where each id that begins with i is one of more than forty bytes: a copy of it takes memory, which a shorter one doesn't.
+/// None of it is refused (`pause_or_go_on`).
+pub fn with_long_ids(alloc: Global, text: &str) -> Result<String, AllocError> {
+    pause_or_go_on(alloc);
+    let text = text.replace(alloc, " i", " an-id-of-an-instance-of-more-than-40-bytes-i");
+    pause_or_go_on(alloc);
+    text
+}

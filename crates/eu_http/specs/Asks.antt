@@ -1,5 +1,5 @@
 -- What a request asks of the registry
-use Rattle.std.specs.Prelude.{ℕ, Bool, List, [], ◌∷◌, Option, Some, None, Result, Ok, Err, map, if◌then◌else◌, string_bytes}
+use Rattle.std.specs.Prelude.{◌≡◌, ◌≢◌, ℕ, Bool, true, List, [], ◌∷◌, codes, Option, Some, None, Result, Ok, Err, map, if◌then◌else◌, string_bytes}
 use Rattle.std.specs.Str.{is_utf8}
 use Rattle.eu_base.specs.declared.faults.Fault.{Fault}
 use Rattle.eu_base.specs.declared.faults.Fault.TheVariants.{NotJson, BadBatch}
@@ -11,7 +11,8 @@ use Rattle.eu_json.specs.Batch.{batch_of}
 use Rattle.eu_json.specs.Reading.{instance_of}
 use Rattle.eu_routes.specs.declared.asks.Route.{Route}
 use Rattle.eu_routes.specs.declared.asks.Route.TheVariants as route
-use Rattle.eu_routes.specs.Table.{route_of}
+use Rattle.eu_routes.specs.Path.{path_of, IsUncoded}
+use Rattle.eu_routes.specs.Table.{resource_of, route_of, IsKnown}
 use Rattle.eu_base.specs.Gives.{◌>>=◌, Gives, result_map}
 use Rattle.eu_framing.specs.declared.request.Request.{Request}
 use Rattle.eu_framing.specs.Message as target
@@ -71,3 +72,21 @@ wants_in (asked.Asks wanted asks) = Some (record { wanted = wanted; asks = asks.
 -- it is what the request asks; where memory ran out, nothing is known
 abbrev pub Says : Result Asked Fault → Result (Option Wants) Fault → Type 0
 Says result said = Gives (result_map wants_in result) said
+
+-- ---- what is known before any memory is taken
+
+-- a text that isn't empty
+abbrev pub IsText : List ℕ → Type 0
+IsText body = (is_utf8 body ≡ true) × (body ≢ [])
+
+-- a body that is looked at is one
+abbrev pub HasBody : Route → List ℕ → Type 0
+HasBody (route.Register app) body = IsText body
+HasBody route.Batch body = IsText body
+HasBody _ body = Unit {0}
+
+-- There is such a route. Where nothing in the path is encoded, its names are names, and the body of a POST is a text that isn't empty
+abbrev pub IsAsked : Request → Type 0
+IsAsked request =
+    IsKnown (resource_of (path_of (target.path_of (string_bytes request.target)))) (string_bytes request.method) (path_of (target.path_of (string_bytes request.target)))
+    × (IsUncoded (target.path_of (string_bytes request.target)) → string_bytes request.method ≡ codes "POST" → IsText request.body.items)

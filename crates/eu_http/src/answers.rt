@@ -1,5 +1,5 @@
 //! The response to a request.
-ghost use Rattle.std.specs.Prelude.{◌≡◌, IfOk};
+ghost use Rattle.std.specs.Prelude.{◌≡◌, true, IfOk};
 ghost use Rattle.eu_http.specs.Response as spec;
 
 use crate::exchange::Outcome;
@@ -153,4 +153,12 @@ pub fn answer(alloc: Global, outcome: &Outcome, close: bool) -> Result<ResponseB
 {
     let response = response_to(alloc, outcome)?;
     print(alloc, response, close)
+}
+
+/// The response where there is no memory for another: that of a request that was refused by `OutOfMemory`, with `Connection: close`. Takes
+/// no memory.
+pub fn answer_without_memory() -> &'static [u8]
+    ensures { result.now ≡ spec.print (spec.refused Fault.OutOfMemory) true }
+{
+    b"HTTP/1.1 503 Service Unavailable\r\nContent-Type: application/json\r\nContent-Length: 11\r\nConnection: close\r\n\r\n{\"fault\":3}"
 }

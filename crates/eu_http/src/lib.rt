@@ -11,7 +11,7 @@ mod response;
 mod text;
 mod wanted;
 
-pub use answers::answer;
+pub use answers::{answer, answer_without_memory};
 pub use exchange::{Asked, Outcome};
 pub use requests::asks;
 pub use text::ResponseBytes;

@@ -1,7 +1,8 @@
 //! What a request asks.
-ghost use Rattle.std.specs.Prelude.{◌≡◌, ◌∷◌, [], Some, IfOk, map};
+ghost use Rattle.std.specs.Prelude.{◌≡◌, ◌∷◌, [], codes, false, true, Err, IfOk, OnOk, Some, map, string_bytes};
 ghost use Rattle.eu_http.specs.Asks as spec;
 ghost use Rattle.eu_base.specs.Gives.{Gives, result_map};
+ghost use Rattle.eu_routes.specs.Path.{IsUncoded};
 
 use crate::exchange::Asked;
 use crate::wanted::Wanted;
@@ -19,7 +20,9 @@ fn instance_in(
     moment: Moment,
     body: &[u8],
 ) -> Result<SharedInstance, Fault>
-    ensures { Gives result (spec.instance_in app.now moment body.now) }
+    ensures said { Gives result (spec.instance_in app.now moment body.now) }
+    ensures memory { result ≡ Err Fault.OutOfMemory → spec.IsText body.now }
+    ensures text { OnOk result (spec.IsText body.now) }
 {
     match str::from_utf8(body) {
         Ok(text) => read_instance(alloc, text, app, moment),
@@ -34,7 +37,9 @@ fn registration(
     request: &Request,
     moment: Moment,
 ) -> Result<Command, Fault>
-    ensures { Gives result (spec.registration app.now request.now.replicated request.now.body.items moment) }
+    ensures said { Gives result (spec.registration app.now request.now.replicated request.now.body.items moment) }
+    ensures memory { result ≡ Err Fault.OutOfMemory → spec.IsText request.now.body.items }
+    ensures text { OnOk result (spec.IsText request.now.body.items) }
 {
     let instance = instance_in(alloc, app, moment, &request.body)?;
     Ok(Command::Register {
@@ -45,7 +50,9 @@ fn registration(
 
 /// The commands that a body says.
 fn batch_in(alloc: Global, moment: Moment, body: &[u8]) -> Result<Vec<Command>, Fault>
-    ensures { Gives (result_map (λ commands. commands.items) result) (spec.batch_in moment body.now) }
+    ensures said { Gives (result_map (λ commands. commands.items) result) (spec.batch_in moment body.now) }
+    ensures memory { result ≡ Err Fault.OutOfMemory → spec.IsText body.now }
+    ensures text { OnOk result (spec.IsText body.now) }
 {
     match str::from_utf8(body) {
         Ok(text) => read_batch(alloc, text, moment),
@@ -65,7 +72,8 @@ fn each(alloc: Global, commands: Vec<Command>) -> Result<Vec<Ask>, AllocError>
 
 /// What a batch asks.
 fn batch(alloc: Global, moment: Moment, body: &[u8]) -> Result<Asked, Fault>
-    ensures { spec.Says result (spec.batch_asks moment body.now) }
+    ensures said { spec.Says result (spec.batch_asks moment body.now) }
+    ensures memory { result ≡ Err Fault.OutOfMemory → spec.IsText body.now }
 {
     let commands = batch_in(alloc, moment, body)?;
     Ok(Asked::Asks {
@@ -85,7 +93,8 @@ fn just(alloc: Global, wanted: Wanted, ask: Ask) -> Result<Asked, AllocError>
 
 /// What is asked for a route.
 fn asks_for(alloc: Global, route: Route, request: &Request, moment: Moment) -> Result<Asked, Fault>
-    ensures { spec.Says result (spec.asks_for route request.now.replicated request.now.body.items moment) }
+    ensures said { spec.Says result (spec.asks_for route request.now.replicated request.now.body.items moment) }
+    ensures memory { result ≡ Err Fault.OutOfMemory → spec.HasBody route request.now.body.items }
 {
     let command = match route {
         Route::Register(app) => registration(alloc, &app, request, moment)?,
@@ -98,6 +107,28 @@ fn asks_for(alloc: Global, route: Route, request: &Request, moment: Moment) -> R
         Route::StatusPage => return Ok(just(alloc, Wanted::Page, Ask::See(Query::Page))?),
     };
     Ok(just(alloc, Wanted::Change, Ask::Do(command))?)
+}
+
+/// Whether bytes are a text that isn't empty. Takes no memory.
+fn is_text(body: &[u8]) -> bool
+    ensures yes { result ≡ true → spec.IsText body.now }
+    ensures no { result ≡ false → ¬ (spec.IsText body.now) }
+{
+    match str::from_utf8(body) {
+        Ok(text) => !text.is_empty(),
+        Err(_) => false,
+    }
+}
+
+/// Whether a request is a POST in whose path nothing is encoded, with a body that isn't UTF-8 or has no byte. Takes no memory.
+fn lacks_text(request: &Request, path: &str) -> bool
+    ensures yes { result ≡ true → (string_bytes request.now.method ≡ codes "POST") × (IsUncoded path.now × ¬ (spec.IsText request.now.body.items)) }
+    ensures no { result ≡ false → IsUncoded path.now → string_bytes request.now.method ≡ codes "POST" → spec.IsText request.now.body.items }
+{
+    if request.method.as_str() != "POST" || path.as_bytes().contains(&b'%') {
+        return false;
+    }
+    !is_text(&request.body)
 }
 
 /// What a request asks of the registry at a moment (`ApplicationResource`, `InstanceResource`, `ApplicationsResource` and
@@ -115,16 +146,21 @@ fn asks_for(alloc: Global, route: Route, request: &Request, moment: Moment) -> R
 /// - the faults of `eu_json::read_instance`;
 /// - `BadBatch`: the body of a batch isn't UTF-8, or isn't one (`eu_json::read_batch`).
 ///
-/// `OutOfMemory` may come in place of any.
+/// `OutOfMemory` comes where memory is refused, but never in place of `NoRoute`, nor, where nothing in the path is encoded, of
+/// `BadPath`, or of `NotJson` and `BadBatch` for a body without a byte or that isn't UTF-8.
 pub fn asks(
     alloc: Global,
     routes: &Routes,
     request: &Request,
     moment: Moment,
 ) -> Result<Asked, Fault>
-    ensures { spec.Says result (spec.asks_of request.now moment) }
+    ensures said { spec.Says result (spec.asks_of request.now moment) }
+    ensures memory { result ≡ Err Fault.OutOfMemory → spec.IsAsked request.now }
 {
     let (path, query) = request.parts();
-    let route = routes.find(alloc, &request.method, path, query, request.replicated)?;
-    asks_for(alloc, route, request, moment)
+    match routes.find(alloc, &request.method, path, query, request.replicated) {
+        Ok(route) => asks_for(alloc, route, request, moment),
+        Err(Fault::OutOfMemory) if lacks_text(request, path) => Err(Fault::NotJson),
+        Err(fault) => Err(fault),
+    }
 }

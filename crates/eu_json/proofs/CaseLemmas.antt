@@ -4,6 +4,7 @@ use Rattle.std.proofs.lemmas.Bool.{cases_order}
 use Rattle.std.proofs.lemmas.Slice.Eq.{bytes_eq-Decides}
 use Rattle.std.proofs.lemmas.Str.Ascii.{lowercase-uppercase, lowercase_is, uppercase_is}
 use Rattle.std.specs.Char.{to_ascii_lowercase, to_ascii_uppercase}
+use Rattle.std.specs.Str.{bytes_eq, str_to_ascii_uppercase}
 use Rattle.eu_json.specs.Reading.{alike}
 
 below_or : (c n : ℕ) → (c < n) ⊎ (n ≤ c)
@@ -45,3 +46,11 @@ alike_by_lower a b r there back =
     same_tests r (alike a b)
     (λ e. decides.1 (sym (upper-lower a) ∙ ap (map to_ascii_uppercase) (there e) ∙ upper-lower b))
     (λ e. back (sym (lower-upper a) ∙ ap (map to_ascii_lowercase) (decides.0 e) ∙ lower-upper b))
+
+-- capitals are put in capitals once
+pub upper_again : (s : List ℕ) → map to_ascii_uppercase (map to_ascii_uppercase s) ≡ map to_ascii_uppercase s
+upper_again s = sym (upper-lower (map to_ascii_uppercase s)) ∙ ap (map to_ascii_uppercase) (lower-upper s) ∙ upper-lower s
+
+-- so a text is like another in capitals where it is like that
+pub alike_upper : (a b : List ℕ) → alike a (str_to_ascii_uppercase b) ≡ alike a b
+alike_upper a b = ap (λ t. bytes_eq (str_to_ascii_uppercase a) t) (upper_again b)

@@ -2,6 +2,7 @@ pub mod ApplicationLemmas
 pub mod BackLemmas
 pub mod BatchLemmas
 pub mod CaseLemmas
+pub mod EmptyLemmas
 pub mod ItemLemmas
 pub mod KeptLemmas
 pub mod LeadLemmas

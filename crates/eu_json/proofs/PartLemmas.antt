@@ -14,8 +14,8 @@ use Rattle.eu_base.specs.Gives.{◌>>=◌}
 use Rattle.eu_base.specs.Rest.{IsRest}
 use Rattle.eu_text.specs.Fit.{is_fit}
 use Rattle.eu_text.proofs.ReadLemmas.{has_no_float}
-use Rattle.eu_json.specs.Batch.{few_items, items_in}
-use Rattle.eu_json.specs.Parts.{FitsIfWhole, InfosFit}
+use Rattle.eu_json.specs.Batch.{few_items}
+use Rattle.eu_json.specs.Parts.{BatchFits, BodyFits, FitsIfWhole, InfosFit}
 use Rattle.eu_json.proofs.MemberLemmas.{whole_get}
 use Rattle.eu_text.proofs.FitLemmas.{IsOrdered, ItemsOrdered, ordered_fits, read_ordered}
 use Rattle.eu_json.proofs.OrderLemmas.{in_order_get}
@@ -63,10 +63,15 @@ fits_just_if_whole d fits = decides (has_float d) (is_fit d) fits (has_no_float 
 
 -- ---- the instance of a body
 
-pub instance_rest : (text : List ℕ) (body i : Data) → read text ≡ Some body → get (codes "instance") body ≡ Some i → is_some (as_object i) ≡ true → is_fit body ≡ true → IsRest i
-instance_rest text body i got at is fit =
+pub body_fits : (text : List ℕ) (body : Data) → read text ≡ Some body → BodyFits body
+body_fits text body got =
+    let part = whole_part text body got in
+    (part_fits body part, λ i at. part_fits i (member_part (codes "instance") body i part at))
+
+pub instance_rest : (body i : Data) → BodyFits body → get (codes "instance") body ≡ Some i → is_some (as_object i) ≡ true → is_fit body ≡ true → IsRest i
+instance_rest body i fits at is fit =
     let whole = whole_get (codes "instance") body i (has_no_float max_depth body fit) at in
-    record { members = is; whole = whole; fit = part_fits i (member_part (codes "instance") body i (whole_part text body got) at) whole }
+    record { members = is; whole = whole; fit = fits.1 i at whole }
 
 -- ---- the items of a batch
 
@@ -87,5 +92,5 @@ list_fits (Some (array ds)) is part got =
     let of_list = part (array ds) refl in subst InfosFit (few (nat_lt 250 (items_len ds)) ds is got) (infos_fit ds of_list.0 (omega (arith, of_list.1)))
 list_fits (Some d) is part got = absurd cc
 
-pub infos_of_text : (text : List ℕ) (body : Data) (is : Items) → read text ≡ Some body → items_in body ≡ Ok is → InfosFit is
-infos_of_text text body is got found = list_fits (get (codes "replicationList") body) is (λ e at. member_part (codes "replicationList") body e (whole_part text body got) at) found
+pub infos_of_text : (text : List ℕ) (body : Data) → read text ≡ Some body → BatchFits body
+infos_of_text text body got = λ is found. list_fits (get (codes "replicationList") body) is (λ e at. member_part (codes "replicationList") body e (whole_part text body got) at) found

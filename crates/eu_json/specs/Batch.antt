@@ -170,6 +170,10 @@ few_items is = if nat_lt most_sent (items_len is) then Err BadBatch else Ok is
 abbrev pub items_in : Data → Result Items Fault
 items_in body = ok_or (option_and_then as_array (get (codes "replicationList") body)) BadBatch >>= few_items
 
+-- the commands of a body that was read
+abbrev pub commands_in : ℕ → Data → Result (List Command) Fault
+commands_in moment body = items_in body >>= of_items moment
+
 unfoldable pub of_text : ℕ → List ℕ → Result (List Command) Fault
 of_text moment text = do
   body ← ok_or (read text) BadBatch

@@ -1,18 +1,23 @@
 //! Batches of tasks from JSON.
-ghost use Rattle.std.specs.Prelude.{◌≡◌, ◌≢◌, [], codes, ok_or, option_and_then, Err, IsOk};
+ghost use Rattle.std.specs.Prelude.{◌≡◌, ◌≢◌, [], codes, ok_or, option_and_then, Err, IfErr, IsOk, Ok, OnOk};
 ghost use Rattle.std.specs.Option.{option_map};
+ghost use Rattle.std.specs.Str.{str_to_ascii_uppercase};
 ghost use Rattle.serde_json.specs.Find.{as_array, get};
 ghost use Rattle.serde_json.specs.View.{items_view, view};
-ghost use Rattle.eu_json.specs.Batch.{action_in, app_within, batch_of, command_of, last_dirty_in, given, instance_in, items_in, key_in, name_within, of_item, of_items, of_text, stamp_given, status_given, status_needed};
-ghost use Rattle.eu_json.specs.Parts.{InfoFits, InfosFit};
+ghost use Rattle.eu_json.specs.Batch.{action_in, app_within, batch_of, command_of, commands_in, last_dirty_in, given, instance_in, items_in, key_in, name_within, of_item, of_items, of_text, stamp_given, status_given, status_needed};
+ghost use Rattle.eu_json.specs.Parts.{BatchFits, InfoFits, InfosFit, stands};
+ghost use Rattle.eu_json.specs.Tree.{text_at};
 ghost use Rattle.eu_base.specs.Limits.{most_sent};
 ghost use Rattle.eu_base.specs.Gives.{Gives, result_map};
 
+use crate::judge::judge_object;
 use crate::members::{take, text_at};
 use crate::numbers::stamp_in;
 use crate::read::{is_whole, of_object, parse};
 use crate::statuses::status_in;
-use eu_base::{Action, App, Fault, Id, Key, MOST_SENT, Moment, SharedInstance, Stamp, Status};
+use eu_base::{
+    Action, App, Fault, Id, Key, LONGEST_NAME, MOST_SENT, Moment, SharedInstance, Stamp, Status,
+};
 use eu_model::Command;
 use serde_json::Value;
 use std::alloc::Global;
@@ -29,7 +34,8 @@ fn given(member: Option<&Value>) -> Option<&Value>
 
 /// The stamp of an item, if one is given. `BadStamp` where it is none.
 fn last_dirty_in(item: &Value, moment: Moment) -> Result<Option<Stamp>, Fault>
-    ensures { result ≡ last_dirty_in moment (view item.now) }
+    ensures said { result ≡ last_dirty_in moment (view item.now) }
+    ensures memory { result ≢ Err Fault.OutOfMemory }
 {
     let Some(member) = given(item.get("lastDirtyTimestamp")) else {
         return Ok(None);
@@ -48,7 +54,8 @@ fn status_given(member: Option<&Value>) -> Option<Status>
 
 /// The status that a member names. `BadBatch` where it names none.
 fn status_needed(member: Option<&Value>) -> Result<Status, Fault>
-    ensures { result ≡ status_needed (option_map (λ v. view v.now) member.entry) }
+    ensures said { result ≡ status_needed (option_map (λ v. view v.now) member.entry) }
+    ensures memory { result ≢ Err Fault.OutOfMemory }
 {
     let Some(text) = member.and_then(Value::as_str) else {
         return Err(Fault::BadBatch);
@@ -58,7 +65,8 @@ fn status_needed(member: Option<&Value>) -> Result<Status, Fault>
 
 /// The action of an item. `BadBatch` where it names none.
 fn action_in(item: &Value) -> Result<Action, Fault>
-    ensures { result ≡ action_in (view item.now) }
+    ensures said { result ≡ action_in (view item.now) }
+    ensures memory { result ≢ Err Fault.OutOfMemory }
 {
     Action::read(text_at(item, "action")).ok_or(Fault::BadBatch)
 }
@@ -196,6 +204,82 @@ fn of_item(alloc: Global, item: Value, moment: Moment) -> Result<Command, Fault>
     }
 }
 
+/// `BadBatch` where a text is no name.
+fn judge_name(text: &str) -> Result<(), Fault>
+    ensures ok { OnOk result (name_within text.now ≡ Ok text.now) }
+    ensures err { IfErr result (λ f. name_within text.now ≡ Err f) }
+    ensures memory { result ≢ Err Fault.OutOfMemory }
+{
+    if text.is_empty() || text.len() > LONGEST_NAME {
+        return Err(Fault::BadBatch);
+    }
+    Ok(())
+}
+
+/// `BadBatch` where an item's application or id is no name.
+#[tactic(auto, unfolding(crate::specs::Batch::key_in, crate::specs::Batch::app_within))]
+fn judge_key(item: &Value) -> Result<(), Fault>
+    ensures ok { OnOk result (key_in (view item.now) ≡ Ok (record { app = str_to_ascii_uppercase (text_at (codes "appName") (view item.now)); id = text_at (codes "id") (view item.now) })) }
+    ensures err { IfErr result (λ f. key_in (view item.now) ≡ Err f) }
+    ensures memory { result ≢ Err Fault.OutOfMemory }
+{
+    judge_name(text_at(item, "appName"))?;
+    judge_name(text_at(item, "id"))
+}
+
+/// What is wrong with the instance of an item: the first fault of `instance_in`.
+fn judge_instance(item: &Value, moment: Moment) -> Result<(), Fault>
+    requires { InfoFits (view item.now) }
+    ensures said { result ≡ stands (instance_in (str_to_ascii_uppercase (text_at (codes "appName") (view item.now))) moment (get (codes "instanceInfo") (view item.now))) }
+    ensures memory { result ≢ Err Fault.OutOfMemory }
+{
+    let Some(instance) = item.get("instanceInfo") else {
+        return Err(Fault::NotJson);
+    };
+    if !instance.is_object() {
+        return Err(Fault::NotJson);
+    }
+    if !is_whole(instance) {
+        return Err(Fault::NotWhole);
+    }
+    judge_object(instance, text_at(item, "appName"), moment)
+}
+
+/// What is wrong with an item: the first fault of `of_item`. Takes no memory.
+#[tactic(auto, unfolding(crate::specs::Batch::of_item, crate::specs::Batch::command_of))]
+fn judge_item(item: &Value, moment: Moment) -> Result<(), Fault>
+    requires { InfoFits (view item.now) }
+    ensures said { result ≡ stands (of_item moment (view item.now)) }
+    ensures memory { result ≢ Err Fault.OutOfMemory }
+{
+    let action = action_in(item)?;
+    judge_key(item)?;
+    match action {
+        Action::Register => judge_instance(item, moment)?,
+        Action::Cancel => {}
+        Action::StatusUpdate => {
+            status_needed(item.get("status"))?;
+            last_dirty_in(item, moment)?;
+        }
+        Action::Heartbeat | Action::DeleteStatusOverride => {
+            last_dirty_in(item, moment)?;
+        }
+    }
+    Ok(())
+}
+
+/// What is wrong with the first item with which something is. Takes no memory.
+fn judge_items(items: &[Value], moment: Moment) -> Result<(), Fault>
+    requires { InfosFit (items_view items.now) }
+    ensures said { result ≡ stands (of_items moment (items_view items.now)) }
+    ensures memory { result ≢ Err Fault.OutOfMemory }
+{
+    for item in items {
+        judge_item(item, moment)?;
+    }
+    Ok(())
+}
+
 /// What each item asks for, in order.
 fn of_items(alloc: Global, items: Vec<Value>, moment: Moment) -> Result<Vec<Command>, Fault>
     requires { InfosFit (items_view items.items) }
@@ -238,6 +322,18 @@ fn items_in(body: Value) -> Result<Vec<Value>, Fault>
     Ok(items)
 }
 
+/// The commands of a body that was read as JSON, else the first fault of what stands inside, which is told before any memory is
+/// taken.
+fn commands_in(alloc: Global, body: Value, moment: Moment) -> Result<Vec<Command>, Fault>
+    requires { BatchFits (view body) }
+    ensures said { Gives (result_map (λ v. v.items) result) (commands_in moment (view body)) }
+    ensures memory { result ≡ Err Fault.OutOfMemory → IsOk (commands_in moment (view body)) }
+{
+    let items = items_in(body)?;
+    judge_items(items.as_slice(), moment)?;
+    of_items(alloc, items, moment)
+}
+
 /// The commands of a text, else the first fault of what stands inside.
 #[tactic(auto, unfolding(crate::specs::Batch::of_text))]
 fn of_text(alloc: Global, text: &str, moment: Moment) -> Result<Vec<Command>, Fault>
@@ -249,8 +345,7 @@ fn of_text(alloc: Global, text: &str, moment: Moment) -> Result<Vec<Command>, Fa
         Err(Fault::OutOfMemory) => return Err(Fault::OutOfMemory),
         Err(_) => return Err(Fault::BadBatch),
     };
-    let items = items_in(body)?;
-    of_items(alloc, items, moment)
+    commands_in(alloc, body, moment)
 }
 
 /// The commands that the body of a batch asks for at a moment, in order (`PeerReplicationResource.batchReplication` and
@@ -274,7 +369,8 @@ fn of_text(alloc: Global, text: &str, moment: Moment) -> Result<Vec<Command>, Fa
 /// A `Heartbeat` asks for a `Renew`, a `StatusUpdate` for a `SetStatus`, a `DeleteStatusOverride` for an `UnsetStatus`.
 ///
 /// `BadBatch` where the text isn't JSON or nests deeper than 127, where it isn't such a body, and where an instance has a fault by
-/// `read_instance`. `OutOfMemory` may come in place of it, but not for a text without a byte.
+/// `read_instance`. `OutOfMemory` comes where no memory is left to parse the text; one without a byte needs none. Once it is
+/// parsed, it comes only where nothing is wrong with the body (`commands_in`).
 pub fn read_batch(alloc: Global, text: &str, moment: Moment) -> Result<Vec<Command>, Fault>
     ensures said { Gives (result_map (λ v. v.items) result) (batch_of moment text.now) }
     ensures memory { result ≡ Err Fault.OutOfMemory → text.now ≢ [] }

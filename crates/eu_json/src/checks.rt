@@ -1,12 +1,13 @@
 //! What must stand in an instance.
 ghost use Rattle.std.specs.Prelude.{◌≡◌, ◌≢◌, ◌<◌, length, Err, IfOk};
+ghost use Rattle.std.specs.Str.{str_to_ascii_uppercase};
 ghost use Rattle.serde_json.specs.View.{view};
 ghost use Rattle.eu_base.specs.Gives.{result_map};
 ghost use Rattle.eu_json.specs.Reading.{address_stands, app_stands, center_stands, name_of};
 
 use crate::members::text_at;
 use crate::statuses::alike;
-use eu_base::{App, Fault};
+use eu_base::Fault;
 use serde_json::Value;
 
 /// The name of the instance's lease: its id, or its host's name where that is blank.
@@ -39,15 +40,17 @@ pub fn check_address(instance: &Value) -> Result<(), Fault>
 }
 
 /// `MissingApp` where the application is blank, `WrongApp` where it isn't `app`, whatever the case of its ASCII letters.
-pub fn check_app(instance: &Value, app: &App) -> Result<(), Fault>
+#[tactic(auto, using(crate::proofs::CaseLemmas::alike_upper))]
+pub fn check_app(instance: &Value, app: &str) -> Result<(), Fault>
     ensures said { result ≡ app_stands app.now (view instance.now) }
+    ensures cased { result ≡ app_stands (str_to_ascii_uppercase app.now) (view instance.now) }
     ensures memory { result ≢ Err Fault.OutOfMemory }
 {
     let given = text_at(instance, "app");
     if given.is_empty() {
         return Err(Fault::MissingApp);
     }
-    if !alike(given, app.as_str()) {
+    if !alike(given, app) {
         return Err(Fault::WrongApp);
     }
     Ok(())

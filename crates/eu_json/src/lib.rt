@@ -4,6 +4,7 @@
 mod batch;
 mod batch_write;
 mod checks;
+mod judge;
 mod law;
 mod listings;
 mod members;

@@ -7,8 +7,8 @@ ghost use Rattle.serde_json.specs.Written.{has_float};
 ghost use Rattle.eu_text.specs.Fit.{is_fit};
 ghost use Rattle.eu_base.specs.Rest.{IsRest};
 ghost use Rattle.eu_base.specs.Gives.{Gives, result_map};
-ghost use Rattle.eu_json.specs.Parts.{FitsIfWhole};
-ghost use Rattle.eu_json.specs.Reading.{instance_of, lease_member, of_object, rest_of, short};
+ghost use Rattle.eu_json.specs.Parts.{BodyFits, FitsIfWhole};
+ghost use Rattle.eu_json.specs.Reading.{instance_of, lease_member, of_body, of_object, rest_of, short};
 
 use crate::checks::{check_address, check_app, check_center, name_of};
 use crate::members::{take, without};
@@ -45,14 +45,14 @@ pub fn is_whole(value: &Value) -> bool
 }
 
 /// A member of the lease's information, where that is an object.
-fn lease_member<'v>(instance: &'v Value, name: &str) -> Option<&'v Value>
+pub fn lease_member<'v>(instance: &'v Value, name: &str) -> Option<&'v Value>
     ensures { option_map (λ v. view v.now) result ≡ lease_member name.now (view instance.now) }
 {
     instance.get("leaseInfo")?.get(name)
 }
 
 /// `TooLong` where a name has more than 255 bytes.
-fn check_len(name: &str) -> Result<(), Fault>
+pub fn check_len(name: &str) -> Result<(), Fault>
     ensures said { result_map (λ _. name.now) result ≡ short name.now }
     ensures memory { result ≢ Err Fault.OutOfMemory }
 {
@@ -102,7 +102,7 @@ pub fn of_object(
 {
     let name = name_of(&instance)?;
     check_address(&instance)?;
-    check_app(&instance, app)?;
+    check_app(&instance, app.as_str())?;
     check_center(&instance)?;
     check_len(name)?;
     let last_dirty = stamp_in(moment, instance.get("lastDirtyTimestamp"))?;
@@ -124,6 +124,26 @@ pub fn of_object(
         rest,
     };
     Ok(SharedInstance::new(alloc, instance)?)
+}
+
+/// The instance of a body that was read as JSON, with the faults of `read_instance`. What is wrong with it is told before any
+/// memory is taken.
+fn of_body(alloc: Global, body: Value, app: &App, moment: Moment) -> Result<SharedInstance, Fault>
+    requires { BodyFits (view body) }
+    ensures said { Gives result (of_body app.now moment (Some (view body))) }
+    ensures memory { result ≡ Err Fault.OutOfMemory → IsOk (of_body app.now moment (Some (view body))) }
+{
+    let whole = is_whole(&body);
+    let Some(instance) = take(body, "instance") else {
+        return Err(Fault::NotJson);
+    };
+    if !instance.is_object() {
+        return Err(Fault::NotJson);
+    }
+    if !whole {
+        return Err(Fault::NotWhole);
+    }
+    of_object(alloc, instance, app, moment)
 }
 
 /// The instance that the body of a registration says for an application at a moment (`ApplicationResource.addInstance` and
@@ -157,7 +177,8 @@ pub fn of_object(
 /// - `BadStamp`: `lastDirtyTimestamp` isn't a stamp, as above;
 /// - `BadDuration`: `durationInSecs` is neither of the two, or above 2,147,483.
 ///
-/// `OutOfMemory` may come in place of any, but not for a text without a byte: that is `NotJson`.
+/// `OutOfMemory` comes where no memory is left to parse the text, which one without a byte doesn't need, so that nothing is known
+/// of what it says; and later only where none of these faults holds.
 pub fn read_instance(
     alloc: Global,
     text: &str,
@@ -168,15 +189,5 @@ pub fn read_instance(
     ensures memory { result ≡ Err Fault.OutOfMemory → text.now ≢ [] }
 {
     let body = parse(alloc, text)?;
-    let whole = is_whole(&body);
-    let Some(instance) = take(body, "instance") else {
-        return Err(Fault::NotJson);
-    };
-    if !instance.is_object() {
-        return Err(Fault::NotJson);
-    }
-    if !whole {
-        return Err(Fault::NotWhole);
-    }
-    of_object(alloc, instance, app, moment)
+    of_body(alloc, body, app, moment)
 }

@@ -1,6 +1,6 @@
 -- Slashes, prefixes and names
 use mathlib.Core.Logic.{inl, inr}
-use Rattle.std.proofs.Common.{◌≡◌, ◌≢◌, ◌⊎◌, Bool, Result, ℕ, ◌+◌, ◌-◌, ◌<◌, ◌≤◌, true, false, not, List, [], length, get_or, take, drop, map, Ok, Err, refl, sym, ◌∙◌, ap, arith, ◌==◌, eq-eqb, length-drop, length-take, ◌++◌, ◌∷◌, nat_eq, length-append, Option, Some, None, Bor}
+use Rattle.std.proofs.Common.{◌≡◌, ◌≢◌, ◌⊎◌, Bool, Result, ℕ, ◌+◌, ◌-◌, ◌<◌, ◌≤◌, true, false, not, List, [], length, get_or, take, drop, map, Ok, Err, refl, sym, ◌∙◌, ap, arith, ◌==◌, eq-eqb, length-drop, length-take, ◌++◌, ◌∷◌, nat_eq, length-append, Option, Some, None, Bor, codes}
 use Rattle.std.proofs.lemmas.Bool.{ne_eqb, false_from_ne_true}
 use Rattle.std.proofs.lemmas.Bool.Decides.{nat_tests, Decides-eqb}
 use Rattle.std.proofs.Math.ListN.{get_or-map}
@@ -22,7 +22,7 @@ use Rattle.eu_base.specs.declared.faults.Fault.{Fault}
 use Rattle.eu_base.specs.declared.faults.Fault.TheVariants.{BadPath}
 use Rattle.eu_base.specs.declared.names.Key.{Key}
 use Rattle.eu_base.specs.Gives.{◌>>=◌}
-use Rattle.eu_routes.specs.Path.{last_len, last_segment, parent, begins_with, without_slash, text_at, app_of, as_name, app_at, id_at, key_at, key_of, is_name, IsUncoded}
+use Rattle.eu_routes.specs.Path.{last_len, last_segment, parent, begins_with, without_slash, text_at, app_of, as_name, app_at, id_at, key_at, key_of, is_name, from_slash, without_host, path_of, IsUncoded}
 
 -- a fault is want of memory, or what follows from what is said
 pub or_said : {A B C : Type 0} → A ⊎ B → (B → C) → A ⊎ C
@@ -132,6 +132,27 @@ uncoded_last path h = All-drop (λ b. b ≢ 37) (length path - last_len path) pa
 pub uncoded_parent : (path : List ℕ) → IsUncoded path → IsUncoded (parent path)
 unfolding parent
 uncoded_parent path h = All-take (λ b. b ≢ 37) (length path - last_len path - 1) path h
+
+-- nor in the path that a target names
+uncoded_slash : (path : List ℕ) → IsUncoded path → IsUncoded (from_slash path)
+uncoded_slash path h = All-drop (λ b. b ≢ 37) (position_or_len (λ b. b == 47) path) path h
+
+uncoded_host : (path : List ℕ) → IsUncoded path → IsUncoded (without_host path)
+unfolding without_host
+uncoded_host path h = by (begins_with (codes "http://") path) (begins_with (codes "https://") path)
+  where
+    by : (b c : Bool) → IsUncoded (if b then from_slash (drop 7 path) else if c then from_slash (drop 8 path) else path)
+    by true c = uncoded_slash (drop 7 path) (All-drop (λ b. b ≢ 37) 7 path h)
+    by false true = uncoded_slash (drop 8 path) (All-drop (λ b. b ≢ 37) 8 path h)
+    by false false = h
+
+pub uncoded_path : (path : List ℕ) → IsUncoded path → IsUncoded (path_of path)
+unfolding without_slash
+uncoded_path path h = by (ends_with nat_eq (without_host path) (47 ∷ []))
+  where
+    by : (b : Bool) → IsUncoded (if b then take (length (without_host path) - 1) (without_host path) else without_host path)
+    by true = All-take (λ b. b ≢ 37) (length (without_host path) - 1) (without_host path) (uncoded_host path h)
+    by false = uncoded_host path h
 
 -- the texts of both segments decide which lease is named
 pub key_by_texts : (path app id : List ℕ) → text_at (last_segment (parent path)) ≡ Ok app → text_at (last_segment path) ≡ Ok id → key_at path ≡ key_of app id

@@ -1,5 +1,5 @@
 -- The paths that there are, and where a request goes
-use Rattle.std.specs.Prelude.{ℕ, List, [], ◌∷◌, Option, Result, Ok, Err, option_map, codes, ◌≡◌, Bool, true, ◌||◌, Some, None, IsOk, if◌then◌else◌}
+use Rattle.std.specs.Prelude.{ℕ, List, [], ◌∷◌, Option, Result, Ok, Err, option_map, codes, ◌≡◌, Bool, true, false, ◌||◌, Some, None, IsOk, if◌then◌else◌}
 use Rattle.matchit.specs.Rows.{RowsOf}
 use Rattle.matchit.specs.Seek.{first}
 use Rattle.matchit.specs.Route.{Scan, parse_route}
@@ -171,3 +171,14 @@ HasNames _ path = Unit {0}
 abbrev pub IsKnown : Option Resource → List ℕ → List ℕ → Type 0
 IsKnown None method path = ⊥
 IsKnown (Some resource) method path = (takes resource method ≡ true) × (IsUncoded path → HasNames resource path)
+
+-- what is asked for of the resource needs memory: a name, or settings
+abbrev pub needs_memory : Option Resource → Bool
+needs_memory None = false
+needs_memory (Some resource.Applications) = false
+needs_memory (Some resource.Application) = true
+needs_memory (Some resource.Lease) = true
+needs_memory (Some resource.LeaseStatus) = true
+needs_memory (Some resource.Batch) = false
+needs_memory (Some resource.StatusPage) = false
+needs_memory (Some resource.Config) = true

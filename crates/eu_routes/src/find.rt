@@ -189,7 +189,7 @@ fn ask_status(
 impl Routes {
     ghost use Rattle.eu_routes.specs.Path.{path_of};
     ghost use Rattle.eu_base.specs.Gives.{Gives};
-    ghost use Rattle.eu_routes.specs.Table.{IsKnown, route_of, resource_of};
+    ghost use Rattle.eu_routes.specs.Table.{IsKnown, needs_memory, route_of, resource_of};
 
     /// What a request asks for, by its method, by its target's parts before and behind the first `?`, and by whether a peer sends it
     /// (`isReplication` in Eureka).
@@ -216,7 +216,7 @@ impl Routes {
     /// The first that holds: `NoRoute` for any other request, `BadPath` where a segment is no name, `BadValue` where a stamp or
     /// a status isn't one, where `value` is missing from a PUT of a status, or where one of the four values of settings is missing or
     /// past its limits (`Config::new`). `OutOfMemory` comes where memory is refused, but never in place of `NoRoute`, nor of `BadPath`
-    /// where nothing in the path is encoded. The routes are those of Eureka's
+    /// where nothing in the path is encoded, nor for `apps`, `peerreplication/batch` and `status`. The routes are those of Eureka's
     /// `ApplicationsResource`, `ApplicationResource`, `InstanceResource` and `PeerReplicationResource`, and `status` and `config`,
     /// which are this registry's own.
     pub fn find(
@@ -229,6 +229,7 @@ impl Routes {
     ) -> Result<Route, Fault>
         ensures said { Gives result (route_of method.now path.now query.now replicated) }
         ensures memory { result ≡ Err Fault.OutOfMemory → IsKnown (resource_of (path_of path.now)) method.now (path_of path.now) }
+        ensures frugal { result ≡ Err Fault.OutOfMemory → needs_memory (resource_of (path_of path.now)) ≡ true }
     {
         let path = path_of(path);
         let Some(resource) = self.resource_at(path) else {

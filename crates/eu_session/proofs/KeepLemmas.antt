@@ -9,7 +9,7 @@ use Rattle.eu_http.specs.declared.exchange.Outcome.TheVariants.{Refused, Forbidd
 use Rattle.eu_session.specs.declared.faults.SessionFault.{SessionFault}
 use Rattle.eu_session.specs.declared.faults.SessionFault.TheVariants.{Read, Write, OutOfMemory}
 use Rattle.eu_model.specs.Chain.{Chain, Pairs}
-use Rattle.eu_session.specs.Session.{Ends, Session, Streams, Standing, Turn, Step, ComesOf}
+use Rattle.eu_session.specs.Session.{Ends, Session, Streams, Standing, Turn, Step, ComesOf, DidNothing}
 
 module _ {D : Type 0} (asked : D → Ask → ℕ → Result Answer Fault → D → Type 0) (R : D → D → Type 0)
     (none : (a b : D) → b ≡ a → R a b)
@@ -34,6 +34,11 @@ module _ {D : Type 0} (asked : D → Ask → ℕ → Result Answer Fault → D �
     turns_keep old new [] e = none old.desk new.desk (ap (λ s. s.desk) e)
     turns_keep old new (t ∷ ts) (mid, here, rest) = on old.desk mid.desk new.desk (step_keeps old mid t here) (turns_keep mid new ts rest)
 
+    nothing_keeps : (old new : Standing D C) → DidNothing asked tells old new → R old.desk new.desk
+    nothing_keeps old new (inl untouched) = none old.desk new.desk untouched.desk_is
+    nothing_keeps old new (inr (inl unasked)) = none old.desk new.desk unasked.desk_is
+    nothing_keeps old new (inr (inr (t, step, idle))) = step_keeps old new t step
+
     ends_keep : (n : ℕ) (old new : Standing D C) (s : Streams) (result : Result ℕ SessionFault)
         → Ends asked tells n old new s result → R old.desk new.desk
     ends_keep n old new s (Ok m) (inl e) = none old.desk new.desk e.1.untouched.desk_is
@@ -41,10 +46,10 @@ module _ {D : Type 0} (asked : D → Ask → ℕ → Result Answer Fault → D �
     ends_keep n old new s (Ok m) (inr (is, inr refuses)) = none old.desk new.desk refuses.untouched.desk_is
     ends_keep n old new s (Err Read) e = none old.desk new.desk e.1.desk_is
     ends_keep n old new s (Err Write) (failed, inl loses) = step_keeps old new loses.turn loses.step
-    ends_keep n old new s (Err Write) (failed, inr loses) = none old.desk new.desk loses.untouched.desk_is
-    ends_keep n old new s (Err OutOfMemory) (keeps, inl untouched) = none old.desk new.desk untouched.desk_is
-    ends_keep n old new s (Err OutOfMemory) (keeps, inr (inl unasked)) = none old.desk new.desk unasked.desk_is
-    ends_keep n old new s (Err OutOfMemory) (keeps, inr (inr (t, step))) = step_keeps old new t step
+    ends_keep n old new s (Err Write) (failed, inr (inl loses)) = none old.desk new.desk loses.untouched.desk_is
+    ends_keep n old new s (Err Write) (failed, inr (inr loses)) = nothing_keeps old new loses.nothing
+    ends_keep n old new s (Err OutOfMemory) (inl told) = nothing_keeps old new told.0
+    ends_keep n old new s (Err OutOfMemory) (inr unanswered) = step_keeps old new unanswered.1.0 unanswered.1.1
 
     pub session_keeps : (old new : Standing D C) (s : Streams) (result : Result ℕ SessionFault)
         → Session asked tells old new s result → R old.desk new.desk

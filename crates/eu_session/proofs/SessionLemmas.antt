@@ -13,8 +13,8 @@ use Rattle.eu_model.specs.declared.asks.Ask.{Ask}
 use Rattle.eu_http.specs.Response.{response}
 use Rattle.eu_session.specs.declared.faults.SessionFault.{SessionFault}
 use Rattle.eu_session.specs.declared.faults.SessionFault.TheVariants.{Read, Write, OutOfMemory}
-use Rattle.eu_session.specs.Session.{Turn, text_of, refusal, is_last, Standing, Breaks, Step, IsOpen, GoesOn, FailsClean, Ends, Session}
-use Rattle.eu_session.specs.Steps.{IsInside, Comes, AnswersTo, RefusesBy}
+use Rattle.eu_session.specs.Session.{Turn, text_of, refusal, is_last, Standing, Breaks, Step, IsOpen, GoesOn, DidNothing, FailsClean, Ends, Session}
+use Rattle.eu_session.specs.Steps.{IsInside, Comes, Idles, AnswersTo, RefusesBy}
 use Rattle.eu_model.proofs.ChainLemmas.{chain_push, all_push}
 use Rattle.eu_session.proofs.FaultLemmas.{fault_differs, by_number}
 
@@ -146,24 +146,33 @@ module _ {D C : Type 0} (asked : D → Ask → ℕ → Result Answer Fault → D
   answered_unread l l' ahead request close desk desk' clock clock' held held' failed_writer Write x = tt
   answered_unread l l' ahead request close desk desk' clock clock' held held' failed_writer OutOfMemory x = tt
 
+  -- nothing was done
+  idle : (l l' : Option (List ℕ)) (request : Request) (close : Bool) (desk desk' : D) (clock clock' : C) → Between l l' (FindsNext (Some request)) → Idles asked tells request desk clock desk' clock'
+      → DidNothing asked tells (record { left = l; desk = desk; clock = clock }) (record { left = l'; desk = desk'; clock = clock' })
+  idle l l' request close desk desk' clock clock' reads (inl x) = inr (inl (record { request = request; moment = x.0; reads = reads; told = x.1; desk_is = x.2 }))
+  idle l l' request close desk desk' clock clock' reads (inr x) =
+      inr (inr (record { request = request; moment = x.0.moment; outcome = x.0.outcome; close = close }, step_of l l' request close desk desk' clock clock' x.0 reads, x.1))
+
   ends_answering : (l l' : Option (List ℕ)) (request : Request) (close : Bool) (desk desk' : D) (clock clock' : C) (held held' : Option (List ℕ)) (n : ℕ) (failed_reader failed_writer : Bool) (e : SessionFault)
       → Between l l' (FindsNext (Some request)) → AnswersTo asked tells request close desk clock held desk' clock' held' failed_writer (Err e) → close ≡ is_last n request
       → Ends asked tells n (record { left = l; desk = desk; clock = clock }) (record { left = l'; desk = desk'; clock = clock' }) (record { before = held; after = held'; reader_failed = failed_reader; writer_failed = failed_writer }) (Err e)
   ends_answering l l' request close desk desk' clock clock' held held' n failed_reader failed_writer Read reads x is = absurd x
-  ends_answering l l' request close desk desk' clock clock' held held' n failed_reader failed_writer Write reads x is = (
-    x.0,
+  ends_answering l l' request close desk desk' clock clock' held held' n failed_reader failed_writer Write reads (fails, inl x) is = (
+    fails,
     inl (record {
-      turn = record { request = request; moment = x.1.moment; outcome = x.1.outcome; close = close };
-      step = step_of l l' request close desk desk' clock clock' x.1 reads;
+      turn = record { request = request; moment = x.0.moment; outcome = x.0.outcome; close = close };
+      step = step_of l l' request close desk desk' clock clock' x.0 reads;
       close = is;
-      len = x.2;
-      written = x.3;
+      len = x.1;
+      written = x.2;
     }),
   )
-  ends_answering l l' request close desk desk' clock clock' held held' n failed_reader failed_writer OutOfMemory reads (keeps, inl x) is =
-      (keeps, inr (inl (record { request = request; moment = x.0; reads = reads; told = x.1; desk_is = x.2 })))
-  ends_answering l l' request close desk desk' clock clock' held held' n failed_reader failed_writer OutOfMemory reads (keeps, inr x) is =
-      (keeps, inr (inr (record { request = request; moment = x.moment; outcome = x.outcome; close = close }, step_of l l' request close desk desk' clock clock' x reads)))
+  ends_answering l l' request close desk desk' clock clock' held held' n failed_reader failed_writer Write reads (fails, inr x) is =
+      (fails, inr (inr (record { nothing = idle l l' request close desk desk' clock clock' reads x.0; len = x.1.0; written = x.1.1 })))
+  ends_answering l l' request close desk desk' clock clock' held held' n failed_reader failed_writer OutOfMemory reads (inl x) is =
+      inl (idle l l' request close desk desk' clock clock' reads x.0, x.1)
+  ends_answering l l' request close desk desk' clock clock' held held' n failed_reader failed_writer OutOfMemory reads (inr x) is =
+      inr (x.0, (record { request = request; moment = x.1.0.moment; outcome = x.1.0.outcome; close = close }, step_of l l' request close desk desk' clock clock' x.1.0 reads, x.1.1))
 
   pub session_lost : (old : Standing D C) (l rest : Option (List ℕ)) (buffer : List ℕ) (request : Request) (close : Bool) (desk desk' : D) (clock clock' : C) (before held held' : Option (List ℕ)) (n : ℕ) (failed_reader failed_writer : Bool) (e : SessionFault)
       → GoesOn asked tells n old (record { left = l; desk = desk; clock = clock }) before held → Between l (pending buffer rest) (FindsNext (Some request))
@@ -183,17 +192,19 @@ module _ {D C : Type 0} (asked : D → Ask → ℕ → Result Answer Fault → D
       → Met failed_reader l l' ahead fault → RefusesBy fault held held' failed_writer (Err e)
       → Ends asked tells n (record { left = l; desk = desk; clock = clock }) (record { left = l'; desk = desk; clock = clock }) (record { before = held; after = held'; reader_failed = failed_reader; writer_failed = failed_writer }) (Err e)
   ends_refusing l l' ahead fault desk clock held held' n failed_reader failed_writer Read met x = (read_failed failed_reader l l' ahead fault met x.0, record { desk_is = refl; clock_is = refl }, x.1)
-  ends_refusing l l' ahead fault desk clock held held' n failed_reader failed_writer Write met x = (
-    x.1,
-    inr (record {
+  ends_refusing l l' ahead fault desk clock held held' n failed_reader failed_writer Write met (fails, inl x) = (
+    fails,
+    inr (inl (record {
       fault = fault;
       breaks = inside_breaks failed_reader l l' ahead fault met x.0;
       untouched = record { desk_is = refl; clock_is = refl };
-      len = x.2;
-      written = x.3;
-    }),
+      len = x.1.0;
+      written = x.1.1;
+    })),
   )
-  ends_refusing l l' ahead fault desk clock held held' n failed_reader failed_writer OutOfMemory met x = (x, inl (record { desk_is = refl; clock_is = refl }))
+  ends_refusing l l' ahead fault desk clock held held' n failed_reader failed_writer Write met (fails, inr x) =
+      (fails, inr (inr (record { nothing = inl (record { desk_is = refl; clock_is = refl }); len = x.0; written = x.1 })))
+  ends_refusing l l' ahead fault desk clock held held' n failed_reader failed_writer OutOfMemory met x = inl (inl (record { desk_is = refl; clock_is = refl }), x)
 
   pub session_unrefused : (old : Standing D C) (l rest : Option (List ℕ)) (buffer : List ℕ) (fault : Fault) (desk : D) (clock : C) (before held held' : Option (List ℕ)) (n : ℕ) (failed_reader failed_writer : Bool) (e : SessionFault)
       → GoesOn asked tells n old (record { left = l; desk = desk; clock = clock }) before held → Met failed_reader l (pending buffer rest) buffer fault → RefusesBy fault held held' failed_writer (Err e)

@@ -1,16 +1,18 @@
 -- Sessions, turn by turn: what one does to its desk, its clock and its writer, by its result
 use Rattle.std.specs.Prelude.{◌≡◌, ℕ, Bool, true, ◌||◌, ◌==◌, List, Option, Some, None, Result, Ok, Err, ◌⊎◌, ◌+◌, ◌<◌, false, length, flat_map, take, ⊤}
 use Rattle.eu_base.specs.declared.faults.Fault.{Fault}
+use Rattle.eu_base.specs.declared.faults.Fault.TheVariants as faults
 use Rattle.eu_framing.specs.declared.request.Request.{Request}
 use Rattle.eu_framing.specs.Message.{IsFault, FindsNext, Between, OfBytes, IsCut, pending}
 use Rattle.eu_model.specs.declared.asks.Answer.{Answer}
+use Rattle.eu_model.specs.declared.asks.Answer.TheVariants.{Did}
 use Rattle.eu_model.specs.declared.asks.Ask.{Ask}
 use Rattle.eu_http.specs.declared.exchange.Outcome.{Outcome}
 use Rattle.eu_http.specs.declared.exchange.Outcome.TheVariants.{Refused, Forbidden, Answers}
 use Rattle.eu_http.specs.Asks.{Wants, asks_of}
 use Rattle.eu_http.specs.Response.{refused, response, print}
 use Rattle.eu_model.specs.Chain.{Pairs, Chain}
-use Rattle.std.specs.List.{AllByRecursion}
+use Rattle.std.specs.List.{AllByRecursion, list_any}
 use Rattle.std.specs.Io.KnownBytes.{Appends, Keeps}
 use Rattle.eu_session.specs.declared.faults.SessionFault.{SessionFault}
 use Rattle.eu_session.specs.declared.faults.SessionFault.TheVariants.{Read, Write, OutOfMemory}
@@ -31,6 +33,17 @@ text_of t = response t.outcome t.close
 -- the text for bytes that begin with no request, by this fault; it says that the connection ends
 abbrev pub refusal : Fault → List ℕ
 refusal fault = print (refused fault) true
+
+-- a command was done
+abbrev pub is_done : Result Answer Fault → Bool
+is_done (Ok (Did reply)) = true
+is_done other = false
+
+-- something was done by what the request asked, so that a refusal would be false
+abbrev pub did_something : Outcome → Bool
+did_something (Answers wanted results) = list_any is_done results.items
+did_something (Refused fault) = false
+did_something Forbidden = false
 
 -- the session ends with the request at the place k, counted from 0: it asks for that, or is the 100th
 abbrev pub is_last : ℕ → Request → Bool
@@ -148,6 +161,17 @@ module _ {D C : Type 0} (asked : D → Ask → ℕ → Result Answer Fault → D
     pub len : ℕ
     pub written : Appends before after (take len (refusal fault))
 
+  -- Nothing was done: nothing was asked, or the clock alone was, or all that the request asks was, and that did nothing.
+  abbrev pub DidNothing : Standing D C → Standing D C → Type 0
+  DidNothing old new =
+      Untouched D C old new ⊎ (Unasked asked tells old new ⊎ ((t : Turn) × Step asked tells old t new × (did_something t.outcome ≡ false)))
+
+  -- There was no memory, and nothing was done. But only a front of the text that tells so was written.
+  pub record LosesExcuse (old new : Standing D C) (before after : Option (List ℕ)) : Type 0 where
+    pub nothing : DidNothing old new
+    pub len : ℕ
+    pub written : Appends before after (take len (refusal faults.OutOfMemory))
+
   -- How a session that goes on after n requests ends, by its result.
   abbrev pub Ends : ℕ → Standing D C → Standing D C → Streams → Result ℕ SessionFault → Type 0
   -- The bytes end; or one request more closes the session; or there is none by some fault, which counts as one.
@@ -158,10 +182,12 @@ module _ {D C : Type 0} (asked : D → Ask → ℕ → Result Answer Fault → D
   Ends n old new s (Err Read) = (s.reader_failed ≡ true) × Untouched D C old new × Keeps s.before s.after
   -- The writer failed.
   Ends n old new s (Err Write) =
-      (s.writer_failed ≡ true) × (LosesResponse n old new s.before s.after ⊎ LosesRefusal old new s.before s.after)
-  -- There was no memory. Nothing was written. Nothing was asked; or the clock alone was; or all that the request asks was.
+      (s.writer_failed ≡ true)
+      × (LosesResponse n old new s.before s.after ⊎ (LosesRefusal old new s.before s.after ⊎ LosesExcuse old new s.before s.after))
+  -- There was no memory. Where nothing was done, the refusal by OutOfMemory was written. Else nothing was written.
   Ends n old new s (Err OutOfMemory) =
-      Keeps s.before s.after × (Untouched D C old new ⊎ (Unasked asked tells old new ⊎ ((t : Turn) × Step asked tells old t new)))
+      (DidNothing old new × Appends s.before s.after (refusal faults.OutOfMemory))
+      ⊎ (Keeps s.before s.after × ((t : Turn) × Step asked tells old t new × (did_something t.outcome ≡ true)))
 
   -- A session, by its result: requests are answered, and it ends. `ahead` was read of the bytes, and isn't used.
   pub record Session (old new : Standing D C) (s : Streams) (result : Result ℕ SessionFault) : Type 0 where

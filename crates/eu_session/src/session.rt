@@ -39,10 +39,12 @@ fn is_last(request: &Request, n: u32) -> bool
 ///
 /// - `Read`: a read failed. The responses to the requests that had come whole before it are written, to each of them, and nothing else,
 ///   and nothing else was asked.
-/// - `Write`: a write or a flush failed. The responses before that one are written, and some front of it. What the last request asks
-///   was asked, once.
-/// - `OutOfMemory`: the session itself found no memory. The responses to the requests before are written, and nothing else.
-///   Of the last request all that it asks was asked, once, or nothing.
+/// - `Write`: a write or a flush failed. The responses before are written, and some front of the last text: a response, the answer to bytes
+///   that begin with no request, or the refusal by `OutOfMemory`. Where it was a response, what its request asks was asked, once. Where it
+///   was the refusal by `OutOfMemory`, no command was done.
+/// - `OutOfMemory`: the session itself found no memory. The responses to the requests before are written. Of the last request all that it
+///   asks was asked, once, or nothing. Where a command was done nothing more is written, since a refusal would be false; else what is
+///   written is the refusal by `OutOfMemory` (503), which says `Connection: close`.
 ///
 /// Bytes that were read behind the last request are lost.
 pub fn serve_session<D: Desk, C: Clock, R: Source, W: Sink>(

@@ -1,15 +1,17 @@
 //! One request after it is read: what comes of it, and its response.
-ghost use Rattle.std.specs.Prelude.{◌≡◌, ◌≢◌, ℕ, take, true, IfErr, IfOk, OnOk, OnErr};
+ghost use Rattle.std.specs.Prelude.{◌≡◌, ◌≢◌, ℕ, take, true, false, IfErr, IfOk, OnOk, OnErr};
 ghost use Rattle.std.specs.Io.KnownBytes.{Appends};
+ghost use Rattle.std.specs.List.{list_any};
 ghost use Rattle.eu_model.specs.Chain.{Pairs};
-ghost use Rattle.eu_session.specs.Steps.{AnswersTo, RefusesBy};
-ghost use Rattle.eu_session.specs.Session.{ComesOf};
+ghost use Rattle.eu_session.specs.Steps.{AnswersTo, EndsWithoutMemory, RefusesBy};
+ghost use Rattle.eu_session.specs.Session.{ComesOf, did_something};
+ghost use Rattle.eu_session.specs.Session as spec;
 
 use crate::SessionFault;
 use eu_base::{Fault, Moment};
 use eu_clock::Clock;
 use eu_framing::Request;
-use eu_http::{Asked, Outcome, answer, asks};
+use eu_http::{Asked, Outcome, answer, answer_without_memory, asks};
 use eu_model::{Answer, Ask, Desk};
 use eu_routes::Routes;
 use eu_stream::{Sink, WriteFault, write_whole};
@@ -66,7 +68,62 @@ fn outcome_of<D: Desk>(
     }
 }
 
-/// Answers a request, once the clock has told the moment: writes the response, and flushes it.
+/// Whether a command was done.
+fn is_done(answer: &Result<Answer, Fault>) -> bool
+    ensures { result ≡ spec.is_done answer.now }
+{
+    matches!(answer, Ok(Answer::Did(_)))
+}
+
+/// Whether one of these answers is of a command that was done.
+fn some_done(answers: &[Result<Answer, Fault>]) -> bool
+    ensures { result ≡ list_any spec.is_done answers.now }
+{
+    for answer in answers {
+        if is_done(answer) {
+            return true;
+        }
+    }
+    false
+}
+
+/// Whether something was done by what a request asked.
+fn did_something(outcome: &Outcome) -> bool
+    ensures { result ≡ spec.did_something outcome.now }
+{
+    match outcome {
+        Outcome::Answers { answers, .. } => some_done(answers.as_slice()),
+        Outcome::Refused(_) | Outcome::Forbidden => false,
+    }
+}
+
+/// Tells that there is no memory, and gives the fault by which the session ends. Takes no memory.
+fn tell_no_memory<W: Sink>(writer: &mut W) -> SessionFault
+    ensures ends { EndsWithoutMemory (W.contents writer.old) (W.contents writer.new) (W.failed writer.new) result }
+    ensures told { result ≢ SessionFault.Write → W.failed writer.new ≡ W.failed writer.old }
+    ensures same_stream { W.stream writer.new ≡ W.stream writer.old }
+{
+    match put(writer, answer_without_memory()) {
+        Ok(()) => SessionFault::OutOfMemory,
+        Err(_) => SessionFault::Write,
+    }
+}
+
+/// As `tell_no_memory`, unless something was done: then nothing is written, since a refusal would be false.
+fn leave_unanswered<W: Sink>(writer: &mut W, outcome: &Outcome) -> SessionFault
+    ensures done { did_something outcome.now ≡ true → (result ≡ SessionFault.OutOfMemory) × (W.contents writer.new ≡ W.contents writer.old) }
+    ensures ends { did_something outcome.now ≡ false → EndsWithoutMemory (W.contents writer.old) (W.contents writer.new) (W.failed writer.new) result }
+    ensures told { result ≢ SessionFault.Write → W.failed writer.new ≡ W.failed writer.old }
+    ensures same_stream { W.stream writer.new ≡ W.stream writer.old }
+{
+    if did_something(outcome) {
+        return SessionFault::OutOfMemory;
+    }
+    tell_no_memory(writer)
+}
+
+/// Answers a request, once the clock has told the moment: writes the response, and flushes it. Where there is no memory it tells so instead,
+/// unless something was done: then nothing is written.
 pub fn answer_request<D: Desk, C: Clock, W: Sink>(
     alloc: Global,
     routes: &Routes,
@@ -82,12 +139,16 @@ pub fn answer_request<D: Desk, C: Clock, W: Sink>(
     ensures same_stream { W.stream writer.new ≡ W.stream writer.old }
 {
     let moment = clock.now();
-    let outcome = outcome_of(alloc, routes, desk, request, moment)?;
-    let response = answer(alloc, &outcome, close)?;
+    let Ok(outcome) = outcome_of(alloc, routes, desk, request, moment) else {
+        return Err(tell_no_memory(writer));
+    };
+    let Ok(response) = answer(alloc, &outcome, close) else {
+        return Err(leave_unanswered(writer, &outcome));
+    };
     Ok(put(writer, response.as_slice())?)
 }
 
-/// Answers bytes that begin with no request by this fault, where the fault is theirs.
+/// Answers bytes that begin with no request by this fault, where the fault is theirs. Where there is no memory it tells so instead.
 pub fn refuse<W: Sink>(alloc: Global, writer: &mut W, fault: Fault) -> Result<(), SessionFault>
     ensures refuses { RefusesBy fault (W.contents writer.old) (W.contents writer.new) (W.failed writer.new) result }
     ensures sound { OnOk result (W.failed writer.new ≡ W.failed writer.old) }
@@ -96,10 +157,12 @@ pub fn refuse<W: Sink>(alloc: Global, writer: &mut W, fault: Fault) -> Result<()
     ensures same_stream { W.stream writer.new ≡ W.stream writer.old }
 {
     match fault {
-        Fault::OutOfMemory => return Err(SessionFault::OutOfMemory),
+        Fault::OutOfMemory => return Err(tell_no_memory(writer)),
         Fault::Read => return Err(SessionFault::Read),
         _ => {}
     }
-    let response = answer(alloc, &Outcome::Refused(fault), true)?;
+    let Ok(response) = answer(alloc, &Outcome::Refused(fault), true) else {
+        return Err(tell_no_memory(writer));
+    };
     Ok(put(writer, response.as_slice())?)
 }

@@ -61,7 +61,7 @@ impl<K: Label> Held<K> {
         ensures { IfOk result (λ held. held ≡ opening config expected peers) }
     {
         let mut book = Book::open(alloc, config, expected, peers)?;
-        // The order of the keys is kept from the first listing on. So the first one comes while there is nothing to sort.
+        // The order of the keys is kept from the first snapshot on. So the first one is taken while there is nothing to sort.
         let nothing = book.snapshot(alloc, &Query::All, Moment::new(0).unwrap())?;
         drop(nothing);
         let (totals, rest) = blanks.open::<K>();
@@ -169,15 +169,15 @@ impl<K: Label> Held<K> {
             return Err(fault);
         };
         let outcome = self.ask_with(alloc, pass, command, mine, moment, chooser);
-        drop(self.let_go());
+        drop(self.let_go(alloc));
         outcome
     }
 
     /// `Book::let_go`, for who holds a lock.
-    pub(crate) fn let_go(&mut self) -> Dropped
+    pub(crate) fn let_go(&mut self, alloc: Global) -> Dropped
         ensures { self.new ≡ self.old }
     {
-        self.book.let_go()
+        self.book.let_go(alloc)
     }
 
     /// As `ask`, where the command was copied before: `mine` is for the pass's log. No entry is let go of.
@@ -216,7 +216,6 @@ impl<K: Label> Held<K> {
         self.totals.add(&mut pass.shares, done);
         self.totals.audit(&mut pass.shares);
         let _totals = self.book.totals();
-        let _after = self.book.entries();
         pass.tally = sum(pass.tally, done);
         see(
             &mut pass.journal_first,
@@ -265,14 +264,14 @@ impl<K: Label> Held<K> {
         ensures before { IsLawful self.old.book }
         ensures same { (self.new ≡ self.old) × (pass.new ≡ pass.old) }
     {
-        let _lawful = self.book.entries();
+        let first = self.book.first();
         self.totals.audit(&mut pass.shares);
         let snapshot = self.book.snapshot(alloc, query, moment)?;
-        Ok((snapshot, self.book.first()))
+        Ok((snapshot, first))
     }
 
     /// Begins the journal anew (`Book::checkpoint`), for a pass, which has seen then where it begins. Registry, queues, totals, and
-    /// the pass's log and tallies stay. Gives the journal as it was. `AllocError` where no memory is left, which changes neither the book
+    /// the pass's log and tallies stay. Gives the journal, its entries as they were. `AllocError` where no memory is left, which changes neither the book
     /// nor the pass.
     pub fn checkpoint(
         &mut self,

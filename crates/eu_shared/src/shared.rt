@@ -62,7 +62,7 @@ impl<K: Label> Shared<K> {
 
     /// Takes the lock. The book behind it is lawful: its invariant says so once it is looked at.
     ///
-    /// A heartbeat holds it for some 1,200 instructions, and to sleep and be woken takes many times as long. So it is looked for first.
+    /// A heartbeat holds it for some 2,000 instructions, and to sleep and be woken takes many times as long. So it is looked for first.
     fn lock<R: Wait>(&self, rt: &R) -> MutexGuard<'_, Held<K>>
         ensures { IsLawful (mutex_guard_value result).book }
     {
@@ -131,7 +131,7 @@ impl<K: Label> Pass<K> {
         };
         let mut held = shared.lock(rt);
         let outcome = held.ask_with(alloc, self, command, mine, moment, chooser);
-        let dropped = held.let_go();
+        let dropped = held.let_go(alloc);
         drop(held);
         drop(dropped);
         outcome

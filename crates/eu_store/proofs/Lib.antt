@@ -11,3 +11,5 @@ pub mod OrderLemmas
 pub mod PlaceLemmas
 pub mod DirectoryLemmas
 pub mod PartLemmas
+pub mod SweepLemmas
+pub mod UndoLemmas

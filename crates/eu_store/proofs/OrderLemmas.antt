@@ -94,7 +94,7 @@ one_spot gs a b d up low high same = by (cases_lt a b) (cases_lt b a)
     by (inr x) (inr y) = omega (arith, x, y)
 
 -- keys that differ stand at one place each
-one_place : (ks : List Key) (a b : ℕ) (x : Key) → IsDistinct key_eq ks → slice_get ks a ≡ Some x → slice_get ks b ≡ Some x → a ≡ b
+pub one_place : (ks : List Key) (a b : ℕ) (x : Key) → IsDistinct key_eq ks → slice_get ks a ≡ Some x → slice_get ks b ≡ Some x → a ≡ b
 one_place ks a b x apart at_a at_b = by (cases_lt a b) (cases_lt b a)
   where
     never : (i j : ℕ) → i < j → slice_get ks i ≡ Some x → slice_get ks j ≡ Some x → ⊥

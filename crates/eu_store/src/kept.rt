@@ -1,16 +1,18 @@
 //! The directory, where one is kept.
-ghost use Rattle.std.specs.Prelude.{◌≡◌, ◌∷◌, ◌++◌, ◌+◌, ◌<◌, ◌≤◌, [], None, Some, List, OnOk, IsTrue, is_some, true, length, slice_get};
+ghost use Rattle.std.specs.Prelude.{◌≡◌, ◌∷◌, ◌++◌, ◌+◌, ◌-◌, ◌<◌, ◌≤◌, [], None, Some, List, OnOk, IsTrue, MatchOption, ⊤, is_some, true, length, map as all, slice_get};
 ghost use Rattle.std.specs.FinMap as map;
-ghost use Rattle.std.specs.List.{swap_remove as swapped};
+ghost use Rattle.std.specs.List.{IsDistinct, swap_remove as swapped};
 ghost use Rattle.std.specs.Map.{keys_of};
 ghost use Rattle.indexmap.specs.IndexMap.{set_value_at};
 ghost use Rattle.eu_base.specs.Limits.{most_leases};
+ghost use Rattle.eu_base.specs.Values.{key_eq};
 ghost use Rattle.eu_base.specs.declared.names.Key.{Key};
 ghost use Rattle.eu_model.specs.declared.views.Listed.{Listed};
-ghost use Rattle.eu_store.specs.Order.{AreOrdered, instances_of, map_by, room_of};
+ghost use Rattle.eu_store.specs.Order.{at_places, AreOrdered, instances_of, map_by, room_of};
+ghost use Rattle.eu_store.specs.Sweep.{AreBelow, ArePartsOf, ArePlacesOf, places_in};
 
-use crate::HeldLease;
 use crate::directory::Directory;
+use crate::{HeldLease, places};
 use eu_base::Key;
 use indexmap::IndexMap;
 use std::alloc::{AllocError, Global};
@@ -76,6 +78,30 @@ pub(crate) fn take(
         let at = directory.standing(table, place);
         let moved = directory.standing(table, last);
         directory.swap_remove(at, moved, place, last);
+    }
+}
+
+/// Lets the parts of two places go: that of the lease that goes, and that of the last one, which gets its place.
+pub(crate) fn forget(directory: &mut Option<Directory>, gone: usize, last: usize)
+    ensures places { places_in directory.new ≡ places_in directory.old }
+    ensures parts { (es : List (Key × Listed)) → (fs : List (Key × Listed)) → (d : Key × Listed) → 0 < length es → last ≡ length es - 1 → fs ≡ swapped es gone d → ArePartsOf es directory.old → ArePartsOf fs directory.new }
+{
+    if let Some(directory) = directory {
+        directory.forget(gone);
+        directory.forget(last);
+    }
+}
+
+/// Writes the directory's places anew. `origins` tells where the leases that stay stood before.
+pub(crate) fn renumber(directory: &mut Option<Directory>, origins: &[u16], moved: &mut [u16])
+    requires few { length origins.now ≤ most_leases }
+    requires origins { AreBelow (length moved.old) origins.now }
+    requires places { MatchOption directory.old ⊤ (λ d. AreBelow (length moved.old) d.places.items) }
+    ensures ordered { (es : List (Key × Listed)) → (fs : List (Key × Listed)) → IsDistinct key_eq (keys_of es) → at_places es origins.now ≡ all Some fs → ArePlacesOf es directory.old → ArePartsOf fs directory.old → AreOrdered fs directory.new }
+    ensures room { room_of directory.old ≤ room_of directory.new }
+{
+    if let Some(directory) = directory {
+        places::renumber(&mut directory.places, origins, moved);
     }
 }
 

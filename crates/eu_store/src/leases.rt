@@ -4,11 +4,15 @@ ghost use Rattle.std.specs.Option.{option_copied};
 ghost use Rattle.std.specs.FinMap as map;
 ghost use Rattle.indexmap.specs.IndexMap.{values, index_map_len, get_by, index_of_by, IsUnique};
 ghost use Rattle.eu_base.specs.Values.{key_eq};
+ghost use Rattle.eu_store.specs.Removed.{with_values};
 ghost use Rattle.eu_store.specs.Stored.{amended, changed, expired_keys, listing_of};
+ghost use Rattle.eu_store.specs.Sweep.{Suffices};
+ghost use Rattle.eu_model.specs.Machine.{without};
 ghost use Rattle.eu_model.specs.View.{status_counts, with_one_more, with_one_fewer, in_status};
 
 use crate::directory::Directory;
 use crate::rows::listed_rows;
+use crate::sweep::{self, Taking};
 use crate::{Amendment, HeldLease, Snapshot, kept};
 use eu_base::{App, Fault, Key, MOST_LEASES, Moment, Status};
 use eu_deadlines::Deadlines;
@@ -153,10 +157,39 @@ impl Leases {
     {
         let place = place_of(&self.table, key, hint)?;
         kept::take(&mut self.directory, &self.table, place);
-        let (_key, held) = self.table.swap_remove_index(place).unwrap();
-        self.index.swap_remove(place);
-        self.counts.remove(held.instance().status());
+        let (_key, held) = sweep::take_out(
+            &mut self.table,
+            &mut self.index,
+            &mut self.counts,
+            place,
+        );
         Some(held)
+    }
+
+    /// Room to take out what is held under so many keys, out of as many leases as are held. For no key none is made. `AllocError` where no memory is
+    /// left.
+    pub fn room_for(&self, alloc: Global, number: usize) -> Result<Taking, AllocError>
+        ensures { IfOk result (λ room. Suffices room number (map.len self.now.held)) }
+    {
+        Taking::new(alloc, number, self.table.len())
+    }
+
+    /// Takes out what is held under these keys, one after the other, and gives it in their order. A key under which nothing is held gives
+    /// `None`. What is kept in key order is gone through once, however many go. Takes no memory.
+    pub fn take_all(&mut self, keys: &[Key], room: Taking) -> Vec<Option<HeldLease>>
+        requires room { Suffices room (length keys.now) (map.len self.old.held) }
+        ensures held { self.new.held ≡ without self.old.held keys.now }
+        ensures back { with_values self.new.held keys.now result.items ≡ self.old.held }
+        ensures room { self.old.room ≤ self.new.room }
+    {
+        sweep::take_all(
+            &mut self.table,
+            &mut self.index,
+            &mut self.counts,
+            &mut self.directory,
+            keys,
+            room,
+        )
     }
 
     /// Amends the lease of that key, and tells whether one is held. Takes no memory.

@@ -5,9 +5,12 @@ mod directory;
 mod held;
 mod kept;
 mod leases;
+mod places;
 mod rows;
 mod snapshot;
+mod sweep;
 
 pub use held::{Amendment, HeldLease};
 pub use leases::{Leases, Place};
 pub use snapshot::Snapshot;
+pub use sweep::Taking;

@@ -7,3 +7,4 @@ mod model;
 mod outbox;
 mod page;
 mod texts;
+mod value_memory;

@@ -149,7 +149,7 @@ impl Desk {
             .apply_logged(alloc, pass, command, mine, moment, &mut self.chooser)
         {
             Ok(logged) => {
-                let dropped = self.book.let_go();
+                let dropped = self.book.let_go(alloc);
                 let told = tell_logged(out, &logged, &dropped);
                 drop((logged, dropped));
                 Ok(told?)

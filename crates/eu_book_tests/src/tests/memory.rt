@@ -2,7 +2,7 @@
 use eu_base::{Fault, MOST_ENTRIES, Moment};
 use eu_book::Book;
 use eu_clock::FirstChooser;
-use eu_fixtures::{at, pause_or_go_on, read_ask, settings};
+use eu_fixtures::{at, pause_or_go_on, read_ask, settings, with_long_ids};
 use eu_model::{Ask, Command, Query, Reply, View};
 use std::alloc::{AllocError, Global};
 
@@ -134,10 +134,21 @@ fn both(alloc: Global, twins: &mut Twins, words: &str) -> Told {
     answer
 }
 
+/// Tells both these words, or the same of ids of more than forty bytes.
+fn both_of(alloc: Global, twins: &mut Twins, words: &str, long: bool) -> Told {
+    if !long {
+        return both(alloc, twins, words);
+    }
+    let words = with_long_ids(alloc, words)?;
+    let told = both(alloc, twins, words.as_str());
+    drop(words);
+    told
+}
+
 /// Whether both are told so, and stay the same.
-fn are_told(alloc: Global, twins: &mut Twins, lines: &[(&str, Told)]) -> bool {
+fn are_told(alloc: Global, twins: &mut Twins, lines: &[(&str, Told)], long: bool) -> bool {
     for (words, told) in lines {
-        if both(alloc, twins, words) != *told {
+        if both_of(alloc, twins, words, long) != *told {
             return false;
         }
     }
@@ -182,12 +193,12 @@ fn extent(alloc: Global, book: &Book) -> Result<(u64, usize, usize, u64), AllocE
 /// Minutes end until the journal is full, of which none is refused memory.
 fn begin_anew(alloc: Global, twins: &mut Twins) -> bool {
     pause_or_go_on(alloc);
-    let begun = are_told(alloc, twins, BEGUN.as_slice()) && fill(alloc, twins);
+    let begun = are_told(alloc, twins, BEGUN.as_slice(), false) && fill(alloc, twins);
     pause_or_go_on(alloc);
     begun
-        && are_told(alloc, twins, &ANEW[..1])
+        && are_told(alloc, twins, &ANEW[..1], false)
         && extent(alloc, &twins.tried) == Ok((65_536, 1, 1, 65_537))
-        && are_told(alloc, twins, &ANEW[1..])
+        && are_told(alloc, twins, &ANEW[1..], false)
         && extent(alloc, &twins.tried) == Ok((65_537, 0, 1, 65_537))
 }
 
@@ -253,16 +264,22 @@ fn begins_anew(alloc: Global) -> Result<bool, Fault> {
     Ok(begins_anew)
 }
 
-fn is_played(alloc: Global) -> Result<bool, Fault> {
+/// Whether both are told all of it, of ids as they stand, or of long ones.
+fn is_played(alloc: Global, long: bool) -> Result<bool, Fault> {
     let mut twins = make_twins(alloc)?;
-    let played = are_told(alloc, &mut twins, PLAYED.as_slice())
-        && are_told(alloc, &mut twins, LATER.as_slice());
+    let played = are_told(alloc, &mut twins, PLAYED.as_slice(), long)
+        && are_told(alloc, &mut twins, LATER.as_slice(), long);
     drop(twins);
     Ok(played)
 }
 
 #[test]
-fn memory_book(rt: HostRuntime) {
+fn memory_checkpoint(rt: HostRuntime) {
     assert!(rt; begins_anew(rt.alloc()) == Ok(true));
-    assert!(rt; is_played(rt.alloc()) == Ok(true));
+}
+
+#[test]
+fn memory_book(rt: HostRuntime) {
+    assert!(rt; is_played(rt.alloc(), false) == Ok(true));
+    assert!(rt; is_played(rt.alloc(), true) == Ok(true));
 }

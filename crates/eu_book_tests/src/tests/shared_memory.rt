@@ -125,35 +125,65 @@ impl<K: Label, R: Wait> Asked<K> for Locked<'_, K, R> {
     }
 }
 
-/// What is asked for, by which pass, and the number that it is answered by: that of the entry, or the sum of the last updates that are seen.
-const ASKS: [(usize, &str, u64); 12] = [
+/// What is asked for, by which pass, and the number that it is answered by: that of the entry, or the sum of the last updates that are seen. A copy
+/// of the second id takes memory, and one of the first none.
+const ASKS: [(usize, &str, u64); 20] = [
     (0, "register 0 A i1 90 UP UNKNOWN 5 c", 0),
-    (0, "register 1 A i2 90 UP UNKNOWN 5 c", 1),
+    (
+        0,
+        "register 1 A an-id-of-an-instance-of-more-than-40-bytes-i2 90 UP UNKNOWN 5 c",
+        1,
+    ),
     (0, "renew 2 A i1 - - c", 2),
     (0, "renew 3 A i1 - - c", 3),
     (0, "renew 4 A i1 - - c", 4),
-    (1, "renew 5 A i2 - - c", 5),
-    (1, "renew 6 A i2 - - c", 6),
+    (
+        1,
+        "renew 5 A an-id-of-an-instance-of-more-than-40-bytes-i2 - - c",
+        5,
+    ),
+    (
+        1,
+        "renew 6 A an-id-of-an-instance-of-more-than-40-bytes-i2 - - c",
+        6,
+    ),
     (1, "look 6 A i1", 90_004),
-    (0, "look 6 A i2", 90_006),
+    (
+        0,
+        "look 6 A an-id-of-an-instance-of-more-than-40-bytes-i2",
+        90_006,
+    ),
     (1, "all 6", 180_010),
     (0, "of 6 A", 180_010),
     (0, "checkpoint", 0),
+    (0, "set 6 A i1 OUT_OF_SERVICE - c", 7),
+    (1, "unset 6 A i1 UP - c", 8),
+    (0, "adopt 6 A i3 90 UP UNKNOWN 5", 9),
+    (1, "cancel 6 A i3 c", 10),
+    (0, "roll 6", 11),
+    (0, "update 6", 12),
+    (1, "config 6 on 50 15 60000", 13),
+    (0, "evict 6", 14),
 ];
 
 /// What a book with those leases is, once it is closed.
-const CLOSED: &str = r#"account = 7 0 Tally { steps: 7, counted: 5, added: 2, removed: 0 } 2 0:5 1:2
-base = true 85 30 60000 expected 0 last 0 since 5 previous None;A/i1 UP UNKNOWN 5 90 30 Rest { members: OfHost("i1") } 0 90004 0;A/i2 UP UNKNOWN 5 90 30 Rest { members: OfHost("i2") } 1 90006 1;
-end = true 85 30 60000 expected 0 last 0 since 5 previous None;A/i1 UP UNKNOWN 5 90 30 Rest { members: OfHost("i1") } 0 90004 0;A/i2 UP UNKNOWN 5 90 30 Rest { members: OfHost("i2") } 1 90006 1;
+const CLOSED: &str =
+    r#"account = 7 8 Tally { steps: 15, counted: 5, added: 3, removed: 1 } 2 0:10 1:5
+base = true 85 30 60000 expected 0 last 0 since 5 previous None;A/an-id-of-an-instance-of-more-than-40-bytes-i2 UP UNKNOWN 5 90 30 Rest { members: OfHost("an-id-of-an-instance-of-more-than-40-bytes-i2") } 1 90006 1;A/i1 UP UNKNOWN 5 90 30 Rest { members: OfHost("i1") } 0 90004 0;
+end = true 50 15 60000 expected 2 last 5 since 0 previous Some(6);A/an-id-of-an-instance-of-more-than-40-bytes-i2 UP UNKNOWN 5 90 30 Rest { members: OfHost("an-id-of-an-instance-of-more-than-40-bytes-i2") } 1 90006 1;A/i1 UP UNKNOWN 5 90 30 Rest { members: OfHost("i1") } 0 90006 0;
 settle = Ok(())"#;
 
-/// The number of the entry of a lease that came or was renewed.
+/// The number of the entry of what was done.
 fn accepted(answer: Result<Receipt, Fault>) -> Result<u64, Fault> {
     let receipt = answer?;
     let number = receipt.number;
     let is_accepted = matches!(
         receipt.reply,
-        Reply::Registered { fresh: true } | Reply::Done
+        Reply::Registered { fresh: true }
+            | Reply::Done
+            | Reply::Last(_)
+            | Reply::Expected(_)
+            | Reply::Evicted(_)
     );
     drop(receipt);
     if is_accepted {

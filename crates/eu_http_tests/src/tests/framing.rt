@@ -153,7 +153,7 @@ fn fault_at_once(
 }
 
 /// Texts, and the fault of each.
-const FAULTS: [(&[u8], Fault); 23] = [
+pub const FAULTS: [(&[u8], Fault); 23] = [
     (b"GET / HTTP/1.1\r\nHost: x\r\n", Fault::BadHead),
     (b"\r", Fault::BadHead),
     (b"GET / HTTP/1.1\r\n\r\n", Fault::BadHead),

@@ -1,5 +1,5 @@
 //! Want of memory. In a usual run no allocation is refused; `tools/sweep_memory.sh` refuses one after another.
-use crate::tests::framing::{THREE, is_request, with_chunks, with_length};
+use crate::tests::framing::{FAULTS, THREE, is_request, with_chunks, with_length};
 use crate::tests::routes::{ROWS, words};
 use eu_base::Fault;
 use eu_fixtures::are_so;
@@ -47,6 +47,34 @@ fn memory_request(rt: HostRuntime) {
     let alloc = rt.alloc();
     assert!(rt; are_so(are_read_by_length(alloc), are_read_by_length(alloc)));
     assert!(rt; are_so(are_read_by_chunks(alloc), are_read_by_chunks(alloc)));
+}
+
+/// Whether a text has that fault.
+fn is_refused(alloc: Global, text: &[u8], wanted: Fault) -> Result<bool, Fault> {
+    let mut reader = text;
+    let mut buffer = Vec::new(alloc);
+    let mut room = EMPTY_ROOM;
+    match read_request(alloc, &mut reader, &mut buffer, &mut room) {
+        Err(Fault::OutOfMemory) => Err(Fault::OutOfMemory),
+        Err(fault) => Ok(fault == wanted),
+        Ok(request) => {
+            drop(request);
+            Ok(false)
+        }
+    }
+}
+
+#[test]
+fn memory_faults(rt: HostRuntime) {
+    let alloc = rt.alloc();
+    for (text, fault) in &FAULTS {
+        assert!(rt;
+            are_so(
+                is_refused(alloc, text, *fault),
+                is_refused(alloc, text, *fault)
+            )
+        );
+    }
 }
 
 /// Whether a request asks for that.

@@ -2,7 +2,7 @@
 use eu_base::{App, Config, Fault, Instance, Key, Keys, SharedInstance, Stamp, Status};
 use eu_fixtures::{MISSING, REGISTRATION, moment, push_each};
 use eu_framing::{EMPTY_ROOM, Request, read_request};
-use eu_http::{Asked, Outcome, Wanted, answer, asks};
+use eu_http::{Asked, Outcome, Wanted, answer, answer_without_memory, asks};
 use eu_json::read_instance;
 use eu_model::{
     Answer, Ask, Command, Counts, Listed, Listing, Query, Reply, StatusCounts, Times, View,
@@ -531,4 +531,12 @@ fn refusals_are_written(rt: HostRuntime) {
     let full =
         "HTTP/1.1 503 Service Unavailable\r\nContent-Type: application/json\r\nContent-Length: 11\r\n\r\n{\"fault\":7}";
     assert!(rt; is_answered(alloc, line, Err(Fault::Full), full));
+}
+
+const WITHOUT_MEMORY: &[u8] =
+    b"HTTP/1.1 503 Service Unavailable\r\nContent-Type: application/json\r\nContent-Length: 11\r\nConnection: close\r\n\r\n{\"fault\":3}";
+
+#[test]
+fn without_memory_a_request_is_refused(rt: HostRuntime) {
+    assert!(rt; answer_without_memory() == WITHOUT_MEMORY);
 }

@@ -1,6 +1,7 @@
 //! A registry, what is said to it, and what comes of that.
 use crate::tests::texts::{
-    read_app, read_opening, tell_answer, tell_lease, tell_listing, tell_plain, tell_step,
+    read_app, read_opening, tell_answer, tell_lease, tell_listing, tell_plain, tell_previous,
+    tell_step,
 };
 use eu_base::{Fault, Moment};
 use eu_clock::{Chooser, ListChooser};
@@ -15,9 +16,10 @@ use std::alloc::Global;
 /// A registry, and by which words an eviction draws from it.
 ///
 /// It is told lines as a script has them, of which each command is a call. `step WORDS` takes a step in the place of a call, with one copy, and
-/// `log WORDS` the same for one who logs it. It is asked to `list` all leases, or to `list APP`; for its `plain` form, and how that is `shown` in
-/// full. `open N config T on P I M` opens another registry, for N clients and with these settings; `draw WORD WORD` has the next evictions draw by
-/// these words; and `fill N` has clients i0 and so on register at 0, N in all.
+/// `log WORDS` the same for one who logs it. `undone WORDS` takes a step in a copy, undoes it, and tells the copy's plain form. It is asked to `list`
+/// all leases, or to `list APP`; for its `plain` form, and how that is `shown` in full. `open N config T on P I M` opens another registry, for N
+/// clients and with these settings; `draw WORD WORD` has the next evictions draw by these words; and `fill N` has clients i0 and so on register at
+/// 0, N in all.
 #[derive(Drop)]
 pub struct Desk {
     registry: Registry,
@@ -92,6 +94,32 @@ fn step<C: Chooser>(
     }
 }
 
+/// A copy of a registry, in which a step was taken and undone.
+fn undone<C: Chooser>(
+    alloc: Global,
+    registry: &Registry,
+    command: &Command,
+    now: Moment,
+    chooser: &mut C,
+) -> Result<Registry, Fault> {
+    let mut copy = registry.copy(alloc)?;
+    let stepped = step(alloc, &mut copy, command, now, false, chooser)?;
+    let undone = copy.undo(alloc, command, &stepped.undo);
+    drop(stepped);
+    undone?;
+    Ok(copy)
+}
+
+/// Writes a registry's plain form, and when its previous eviction was.
+fn tell_state(alloc: Global, registry: &Registry, out: &mut String) -> Result<(), Fault> {
+    let state = registry.plain(alloc)?;
+    let previous = state.previous;
+    let told = tell_plain(out, &state);
+    drop(state);
+    told?;
+    Ok(tell_previous(out, previous)?)
+}
+
 /// Has clients i0 and so on register at 0, so many in all, of which none is held.
 fn fill(alloc: Global, registry: &mut Registry, words: &str) -> Result<(), Fault> {
     let now = moment(0)?;
@@ -145,6 +173,16 @@ impl Desk {
         Ok(tell_step(out, &stepped)?)
     }
 
+    /// Takes a step in a copy of the registry, undoes it, and writes what the copy is then.
+    fn undo(&mut self, alloc: Global, words: &str, out: &mut String) -> Result<(), Fault> {
+        let Line::Apply { moment, command } = read_said(alloc, words)? else {
+            return Err(Fault::BadValue);
+        };
+        let copy = undone(alloc, &self.registry, &command, moment, &mut self.chooser);
+        drop(command);
+        tell_state(alloc, &copy?, out)
+    }
+
     fn say(&mut self, alloc: Global, words: &str, out: &mut String) -> Result<(), Fault> {
         match read_said(alloc, words)? {
             Line::Apply { moment, command } => {
@@ -184,6 +222,7 @@ impl Told for Desk {
             "fill" => tell_done(out, fill(alloc, &mut self.registry, rest)),
             "step" => self.step(alloc, rest, false, out),
             "log" => self.step(alloc, rest, true, out),
+            "undone" => self.undo(alloc, rest, out),
             "list" => self.list(alloc, rest, out),
             "plain" => self.show(alloc, false, out),
             "shown" => self.show(alloc, true, out),

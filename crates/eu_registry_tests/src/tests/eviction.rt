@@ -1,17 +1,18 @@
 //! Override rows, and an eviction by given words, with what it leaves worked out by hand.
 use crate::tests::store::put_each;
+use crate::tests::twins::first_wrong_of_both;
 use eu_base::{Config, Fault, Id, Status};
 use eu_clock::ListChooser;
 use eu_eviction::{Overrides, run_eviction};
-use eu_fixtures::{Told, cut, first_wrong, moment, tell_done, tell_ids};
+use eu_fixtures::{Told, cut, first_wrong, moment, tell_done, tell_ids, with_long_ids};
 use eu_store::Leases;
 use std::alloc::Global;
 use std::test::Fail;
 
 /// Leases and override rows.
 ///
-/// `new ID ID` begins with leases of 10 s, made at 0, and no row; `insert ID STATUS` puts a row of an id that has none, and `set ID STATUS` sets the
-/// row of one that may have none; `reserve` makes room for a row; and `row ID` tells one. `permitted` and `forbidden` evict at 10,001, and tell how
+/// `new ID ID` begins with leases of 10 s, made at 0, and no row; `put ID STATUS` puts a row of an id that has none, and `set ID STATUS` sets the
+/// row of one that may have none; `reserve` makes room for a row; `row ID` tells one, and `shown` all leases and rows in full. `permitted` and `forbidden` evict at 10,001, and tell how
 /// many replies there are, how many leases are left, and whom it takes: at 50 percent half may go, which the words 3 and 0 draw.
 #[derive(Drop)]
 struct Desk {
@@ -25,7 +26,7 @@ fn change(alloc: Global, overrides: &mut Overrides, verb: &str, words: &str) -> 
     let status = Status::read(word.as_bytes()).ok_or(Fault::BadValue)?;
     let id = Id::read(alloc, id)?;
     match verb {
-        "insert" => {
+        "put" => {
             overrides.reserve()?;
             overrides.insert(id, status);
         }
@@ -49,6 +50,14 @@ impl Desk {
     fn tell_row(&self, alloc: Global, id: &str, out: &mut String) -> Result<(), Fault> {
         let id = Id::read(alloc, id)?;
         Ok(write!(out, "{:?}", self.overrides.get(&id))?)
+    }
+
+    fn show(&self, alloc: Global, out: &mut String) -> Result<(), Fault> {
+        let leases = self.leases.listed(alloc, None)?;
+        write!(out, "{leases:?}")?;
+        drop(leases);
+        let rows = self.overrides.listed(alloc)?;
+        Ok(write!(out, " {rows:?}")?)
     }
 
     fn evict(&mut self, alloc: Global, permitted: bool, out: &mut String) -> Result<(), Fault> {
@@ -85,6 +94,7 @@ impl Told for Desk {
             "permitted" => self.evict(alloc, true, out),
             "forbidden" => self.evict(alloc, false, out),
             "row" => self.tell_row(alloc, rest, out),
+            "shown" => self.show(alloc, out),
             _ => tell_done(out, change(alloc, &mut self.overrides, verb, rest)),
         }
     }
@@ -92,14 +102,14 @@ impl Told for Desk {
 
 const ROWS: &str = "
     # Room for a row changes none.
-    insert i2 DOWN = done
-    insert i3 DOWN = done
+    put i2 DOWN = done
+    put i3 DOWN = done
     reserve = done
     row i2 = Some(Down)
     row i3 = Some(Down)
     # A row that is put stands.
     new i0 = done
-    insert i3 DOWN = done
+    put i3 DOWN = done
     row i2 = None
     row i3 = Some(Down)
     # A row is set where one stands.
@@ -119,15 +129,15 @@ fn a_row_is_set_where_one_stands(rt: HostRuntime) -> Result<(), Fail> {
 const EVICTIONS: &str = "
     # An eviction takes half of the expired with their rows.
     new i0 i1 i2 i3 = done
-    insert i2 DOWN = done
-    insert i3 DOWN = done
+    put i2 DOWN = done
+    put i3 DOWN = done
     permitted = 1 2 i3 i1
     row i2 = Some(Down)
     row i3 = None
     # One that isn't permitted takes nobody.
     new i0 i1 i2 i3 = done
-    insert i2 DOWN = done
-    insert i3 DOWN = done
+    put i2 DOWN = done
+    put i3 DOWN = done
     forbidden = 1 4
     row i2 = Some(Down)
     row i3 = Some(Down)
@@ -138,4 +148,36 @@ fn an_eviction_takes_half_of_the_expired_with_their_rows(rt: HostRuntime) -> Res
     let mut desk = Desk::begin(rt.alloc(), "i0")?;
     assert_eq!(rt; first_wrong(rt.alloc(), &mut desk, EVICTIONS), None);
     Ok(())
+}
+
+const PLAYED: &str = "
+    new i0 i1 i2 i3 = done
+    put i2 DOWN = done
+    put i3 DOWN = done
+    forbidden = 1 4
+    permitted = 1 2 i3 i1
+    row i2 = Some(Down)
+    row i3 = None
+";
+
+/// The first wrong line of a table, of which one allocation may be refused.
+fn plays(alloc: Global, table: &str) -> Result<Option<usize>, Fault> {
+    let mut tried = Desk::begin(alloc, "i0")?;
+    let mut other = Desk::begin(alloc, "i0")?;
+    let wrong = first_wrong_of_both(alloc, &mut tried, &mut other, "shown", table);
+    drop((tried, other));
+    wrong
+}
+
+fn plays_long(alloc: Global) -> Result<Option<usize>, Fault> {
+    let table = with_long_ids(alloc, PLAYED)?;
+    match plays(alloc, table.as_str()) {
+        Err(Fault::OutOfMemory) => plays(alloc, table.as_str()),
+        wrong => wrong,
+    }
+}
+
+#[test]
+fn memory_eviction(rt: HostRuntime) {
+    assert_eq!(rt; plays_long(rt.alloc()), Ok(None));
 }

@@ -2,6 +2,7 @@
 use crate::tests::desk::Desk;
 use crate::tests::twins::first_wrong_of_both;
 use eu_base::Fault;
+use eu_fixtures::with_long_ids;
 use std::alloc::Global;
 
 const PLAYED: &str = "
@@ -20,6 +21,7 @@ const PLAYED: &str = "
     list = 2 i1 UNKNOWN 90003 i2 OUT_OF_SERVICE 90008
     list A = 2 i1 UNKNOWN 90003 i2 OUT_OF_SERVICE 90008
     list B = 0
+    undone evict 1000000 = 0 1 1; 2 i1 UNKNOWN 90003 i2 OUT_OF_SERVICE 90008 i2=OUT_OF_SERVICE
     evict 1000000 = Evicted i1 i2
     # The same in steps, each with a reply for each use and a copy: a client registers twice, a peer's heartbeat is told of the newer instance,
     # a status is set and taken back, and the client leaves.
@@ -38,19 +40,30 @@ const PLAYED: &str = "
     log evict 3000000 = Evicted, Evicted, Evicted
 ";
 
-fn plays(alloc: Global) -> Result<Option<usize>, Fault> {
+/// The first wrong line of a table of which both are told.
+fn plays(alloc: Global, table: &str) -> Result<Option<usize>, Fault> {
     let mut tried = Desk::new(alloc)?;
     let mut other = Desk::new(alloc)?;
-    let wrong = first_wrong_of_both(alloc, &mut tried, &mut other, "shown", PLAYED);
+    let wrong = first_wrong_of_both(alloc, &mut tried, &mut other, "shown", table);
     drop((tried, other));
     wrong
 }
 
+/// The same, at the second try where there was no room for an answer.
+fn plays_twice(alloc: Global, table: &str) -> Result<Option<usize>, Fault> {
+    match plays(alloc, table) {
+        Err(Fault::OutOfMemory) => plays(alloc, table),
+        wrong => wrong,
+    }
+}
+
+fn plays_long(alloc: Global) -> Result<Option<usize>, Fault> {
+    let table = with_long_ids(alloc, PLAYED)?;
+    plays_twice(alloc, table.as_str())
+}
+
 #[test]
 fn memory_core(rt: HostRuntime) {
-    let mut wrong = plays(rt.alloc());
-    if wrong == Err(Fault::OutOfMemory) {
-        wrong = plays(rt.alloc());
-    }
-    assert_eq!(rt; wrong, Ok(None));
+    assert_eq!(rt; plays_twice(rt.alloc(), PLAYED), Ok(None));
+    assert_eq!(rt; plays_long(rt.alloc()), Ok(None));
 }

@@ -57,3 +57,39 @@ const PLAIN: &str = "
 fn a_registry_is_plain_data(rt: HostRuntime) {
     assert_eq!(rt; first_wrong_of_registry(rt.alloc(), PLAIN), Ok(None));
 }
+
+const UNDONE: &str = "
+    # A newcomer goes again, and who came again is who it was.
+    open 1 config 0 off 0 30 60000 = done
+    undone register 0 A i1 90 UP UNKNOWN 5 c = 1 0 0; 0
+    register 0 A i1 90 UP UNKNOWN 5 c = Registered { fresh: true }
+    undone register 7 A i1 60 DOWN UNKNOWN 6 c = 2 0 0; 1 i1 UP 0
+    undone adopt 7 A i1 60 DOWN UNKNOWN 6 = 2 0 0; 1 i1 UP 0
+    # So are a renewal's moment and its count, a cancelled lease, and a status with its row.
+    undone renew 1 A i1 - - c = 2 0 0; 1 i1 UP 0
+    renew 1 A i1 - - c = Done
+    undone renew 10 A i1 - - c = 2 0 1; 1 i1 UP 90001
+    undone cancel 10 A i1 c = 2 0 1; 1 i1 UP 90001
+    undone set 10 A i1 DOWN 9 c = 2 0 1; 1 i1 UP 90001
+    set 10 A i1 DOWN 9 c = Done
+    plain = 2 0 1; 1 i1 DOWN 90010 i1=DOWN
+    undone set 20 A i1 OUT_OF_SERVICE 9 c = 2 0 1; 1 i1 DOWN 90010 i1=DOWN
+    undone unset 20 A i1 UP - c = 2 0 1; 1 i1 DOWN 90010 i1=DOWN
+    undone cancel 20 A i1 c = 2 0 1; 1 i1 DOWN 90010 i1=DOWN
+    # A minute, an update and settings are undone.
+    undone roll 20 = 2 0 1; 1 i1 DOWN 90010 i1=DOWN
+    undone update 20 = 2 0 1; 1 i1 DOWN 90010 i1=DOWN
+    undone config 20 on 85 15 0 = 2 0 1; 1 i1 DOWN 90010 i1=DOWN
+    # Two leases that go come back, one with its row; and the eviction before is again the previous one.
+    register 20 A i2 90 UP UNKNOWN 5 c = Registered { fresh: true }
+    undone evict 1000000 = 3 0 1; 2 i1 DOWN 90010 i2 UP 20 i1=DOWN
+    evict 60000 = Evicted
+    undone evict 120000 = 3 0 1; 2 i1 DOWN 90010 i2 UP 20 i1=DOWN; evicted at 60000
+    evict 120000 = Evicted i2
+    plain = 2 0 1; 1 i1 DOWN 90010 i1=DOWN
+";
+
+#[test]
+fn a_step_is_undone_in_a_copy(rt: HostRuntime) {
+    assert_eq!(rt; first_wrong_of_registry(rt.alloc(), UNDONE), Ok(None));
+}

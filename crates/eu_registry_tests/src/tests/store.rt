@@ -20,7 +20,8 @@ use std::alloc::{AllocError, Global};
 /// `put ID ID` puts leases of application A, made at 0 for 10 s with the stamp 7; `new ID ID` begins anew with such, and `fill N` with so
 /// many, j0 and so on, each made at the moment of its number. `expired T` tells how many leases have expired, how many deadlines were
 /// read, and the ids. All leases are told by `list`, those of an application by `list APP`, and those of the snapshot that was taken as the Nth,
-/// from 0, by `snapshot N`. `snap` takes one.
+/// from 0, by `snapshot N`. `snap` takes one. `sweep ID ID` takes all of these at once, and tells how many, the ids of
+/// those that were held, and a dash for each that was not.
 #[derive(Drop)]
 pub struct Desk {
     leases: Leases,
@@ -169,6 +170,24 @@ impl Desk {
         Ok(tell_ids(out, keys.as_slice())?)
     }
 
+    /// Takes out all of these at once.
+    fn sweep(&mut self, alloc: Global, ids: &str, out: &mut String) -> Result<(), Fault> {
+        let mut keys = Vec::new(alloc);
+        for id in ids.split(' ') {
+            keys.push(key(alloc, id)?)?;
+        }
+        let room = self.leases.room_for(alloc, keys.len())?;
+        let taken = self.leases.take_all(&keys, room);
+        write!(out, "{}:", taken.len())?;
+        for held in &taken {
+            match held {
+                Some(held) => write!(out, " {}", held.instance().key().id.as_str())?,
+                None => write!(out, " -")?,
+            }
+        }
+        Ok(())
+    }
+
     fn list(&self, alloc: Global, app: &str, out: &mut String) -> Result<(), Fault> {
         let app = read_app(alloc, app)?;
         let leases = self.leases.listed(alloc, app.as_ref())?;
@@ -220,6 +239,7 @@ impl Told for Desk {
             "fill" => tell_done(out, self.fill(alloc, rest)),
             "find" => tell_done(out, self.find(alloc, rest)),
             "snap" => tell_done(out, self.snap(alloc)),
+            "sweep" => self.sweep(alloc, rest, out),
             "by" => self.say(alloc, rest, self.found, out),
             "expired" => self.tell_expired(alloc, rest, out),
             "list" => self.list(alloc, rest, out),
@@ -358,4 +378,46 @@ const LISTED: &str = "
 fn snapshots_and_listings_follow_each_step(rt: HostRuntime) {
     let mut desk = Desk::new(rt.alloc());
     assert_eq!(rt; first_wrong(rt.alloc(), &mut desk, LISTED), None);
+}
+
+const SWEPT: &str = "
+    # Three of six go at once; the others are listed in key order.
+    new i6 i1 i5 i2 i4 i3 = done
+    snap = done
+    sweep i3 i6 i1 = 3: i3 i6 i1
+    counts 0 = 3
+    list = 3 i2 UP 0 i4 UP 0 i5 UP 0
+    snap = done
+    snapshot 1 = 3 i2 UP 0 i4 UP 0 i5 UP 0
+    snapshot 0 = 6 i1 UP 0 i2 UP 0 i3 UP 0 i4 UP 0 i5 UP 0 i6 UP 0
+    expired 10001 = 3 3: i2 i4 i5
+    # A key that isn't held, or that comes twice, gives nothing.
+    new i6 i1 i5 i2 i4 i3 = done
+    snap = done
+    sweep i9 i2 i2 i5 = 4: - i2 - i5
+    snap = done
+    snapshot 1 = 4 i1 UP 0 i3 UP 0 i4 UP 0 i6 UP 0
+    # What comes later stands in its place.
+    put i2 i7 i0 = done
+    snap = done
+    snapshot 2 = 7 i0 UP 0 i1 UP 0 i2 UP 0 i3 UP 0 i4 UP 0 i6 UP 0 i7 UP 0
+    cancel 0 A i3 c = true
+    snap = done
+    snapshot 3 = 6 i0 UP 0 i1 UP 0 i2 UP 0 i4 UP 0 i6 UP 0 i7 UP 0
+    # All go, with a snapshot before and without.
+    new i2 i1 = done
+    snap = done
+    sweep i1 i2 = 2: i1 i2
+    list = 0
+    snap = done
+    snapshot 1 = 0
+    new i2 i1 i3 = done
+    sweep i2 i3 i1 = 3: i2 i3 i1
+    counts 0 = 0
+";
+
+#[test]
+fn many_leases_are_taken_at_once(rt: HostRuntime) {
+    let mut desk = Desk::new(rt.alloc());
+    assert_eq!(rt; first_wrong(rt.alloc(), &mut desk, SWEPT), None);
 }

@@ -2,6 +2,7 @@
 use crate::tests::store::Desk;
 use crate::tests::twins::first_wrong_of_both;
 use eu_base::Fault;
+use eu_fixtures::with_long_ids;
 use std::alloc::Global;
 
 const PLAYED: &str = "
@@ -18,21 +19,34 @@ const PLAYED: &str = "
     expired 100000 = 10 10: i0 i1 i2 i3 i4 i5 i6 i7 i8 i9
     list A = 10 i0 UP 0 i1 UP 0 i2 UP 0 i3 UP 0 i4 UP 0 i5 UP 0 i6 UP 0 i7 UP 0 i8 UP 0 i9 UP 0
     list B = 0
+    sweep i3 i8 ix i0 = 4: i3 i8 - i0
+    list A = 7 i1 UP 0 i2 UP 0 i4 UP 0 i5 UP 0 i6 UP 0 i7 UP 0 i9 UP 0
 ";
 
-fn plays(alloc: Global) -> Result<Option<usize>, Fault> {
+/// The first wrong line of a table of which both are told.
+fn plays(alloc: Global, table: &str) -> Result<Option<usize>, Fault> {
     let mut tried = Desk::new(alloc);
     let mut other = Desk::new(alloc);
-    let wrong = first_wrong_of_both(alloc, &mut tried, &mut other, "list", PLAYED);
+    let wrong = first_wrong_of_both(alloc, &mut tried, &mut other, "list", table);
     drop((tried, other));
     wrong
 }
 
+/// The same, at the second try where there was no room for an answer.
+fn plays_twice(alloc: Global, table: &str) -> Result<Option<usize>, Fault> {
+    match plays(alloc, table) {
+        Err(Fault::OutOfMemory) => plays(alloc, table),
+        wrong => wrong,
+    }
+}
+
+fn plays_long(alloc: Global) -> Result<Option<usize>, Fault> {
+    let table = with_long_ids(alloc, PLAYED)?;
+    plays_twice(alloc, table.as_str())
+}
+
 #[test]
 fn memory_store(rt: HostRuntime) {
-    let mut wrong = plays(rt.alloc());
-    if wrong == Err(Fault::OutOfMemory) {
-        wrong = plays(rt.alloc());
-    }
-    assert_eq!(rt; wrong, Ok(None));
+    assert_eq!(rt; plays_twice(rt.alloc(), PLAYED), Ok(None));
+    assert_eq!(rt; plays_long(rt.alloc()), Ok(None));
 }

@@ -1,5 +1,5 @@
 //! What calls are given, from text, and what comes of them, as text.
-use eu_base::{App, Config, Fault, SharedInstance};
+use eu_base::{App, Config, Fault, Moment, SharedInstance};
 use eu_core::Stepped;
 use eu_fixtures::{cut, read_config, small_of, tell_fault, tell_reply};
 use eu_model::{Listed, Reply, State, Times};
@@ -77,4 +77,12 @@ pub fn tell_plain(out: &mut String, state: &State) -> Result<(), AllocError> {
         write!(out, " {}={}", row.0.as_str(), row.1.name())?;
     }
     Ok(())
+}
+
+/// Writes when the previous eviction was, if there was one.
+pub fn tell_previous(out: &mut String, previous: Option<Moment>) -> Result<(), AllocError> {
+    match previous {
+        Some(moment) => write!(out, "; evicted at {}", moment.ms()),
+        None => Ok(()),
+    }
 }

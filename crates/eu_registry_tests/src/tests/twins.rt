@@ -4,7 +4,7 @@ use eu_fixtures::{Told, content_of};
 use std::alloc::Global;
 
 /// An answer has so much room: then none is told without memory once the call was made.
-const ROOM: usize = 256;
+const ROOM: usize = 1024;
 
 /// Whether both hold the same: each is asked by that word for all that it holds.
 fn are_same<T: Told>(

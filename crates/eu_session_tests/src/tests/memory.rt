@@ -12,6 +12,10 @@ use std::alloc::{AllocError, Global};
 const UNAVAILABLE: &str =
     "HTTP/1.1 503 Service Unavailable\r\nContent-Type: application/json\r\nContent-Length: 11\r\n\r\n{\"fault\":3}";
 
+/// The response where the session finds none, and nothing was done.
+const LAST: &str =
+    "HTTP/1.1 503 Service Unavailable\r\nContent-Type: application/json\r\nContent-Length: 11\r\nConnection: close\r\n\r\n{\"fault\":3}";
+
 /// How a batch of one item is answered for which it finds none.
 const ITEM_UNAVAILABLE: &str = r#"{"responseList":[{"statusCode":503}]}"#;
 
@@ -79,15 +83,24 @@ fn responses(text: &str) -> Option<u32> {
     if rest.is_empty() { Some(count) } else { None }
 }
 
-/// Whether a session of three requests answered them all, or ended by want of memory behind whole responses, and asked for no more than their
-/// commands and those of one request more.
-fn is_served(said: &Said, steps: u64) -> bool {
-    let Some(count) = responses(said.text()) else {
-        return false;
+/// Whether want of memory ended a session behind whole responses, and no more was done than their commands; or those of one request more, where
+/// nothing tells that there was no memory.
+fn is_ended(text: &str, steps: u64) -> bool {
+    let (before, most) = match text.strip_suffix(LAST) {
+        Some(before) => (before, 0u64),
+        None => (text, 1),
     };
+    match responses(before) {
+        Some(count) => count < 3 && steps <= most + u64::from(count),
+        None => false,
+    }
+}
+
+/// Whether a session of three requests answered them all, or was ended by want of memory.
+fn is_served(said: &Said, steps: u64) -> bool {
     match said.ended {
-        Ok(3) => count == 3 && steps <= 2,
-        Err(SessionFault::OutOfMemory) => count < 3 && steps <= u64::from(count) + 1,
+        Ok(3) => responses(said.text()) == Some(3) && steps <= 2,
+        Err(SessionFault::OutOfMemory) => is_ended(said.text(), steps),
         _ => false,
     }
 }
@@ -142,25 +155,34 @@ fn is_wanting(text: &str) -> bool {
     text == UNAVAILABLE || text.ends_with(ITEM_UNAVAILABLE)
 }
 
+/// Whether a session ended by a fault without a response.
+fn is_silent(said: &Said) -> bool {
+    said.ended.is_err() && said.out.is_empty()
+}
+
 /// Whether a session found no memory, and wrote nothing but what tells so. `Mismatch` where it ended otherwise than it may.
 fn found_none(said: &Said) -> Result<bool, Fault> {
     match said.ended {
         Ok(1) => Ok(is_wanting(said.text())),
-        Err(SessionFault::OutOfMemory) if said.out.is_empty() => Ok(true),
+        Err(SessionFault::OutOfMemory) if is_silent(said) || said.text() == LAST => Ok(true),
         _ => Err(Fault::Mismatch),
     }
 }
 
 /// What a request is answered where there is memory, at the second try where the first found none, if that changed nothing. None where the session
-/// ended without an answer, and the command stands. `Mismatch` where the book changed otherwise.
+/// ended without a response, as it does exactly where the command stands. `Mismatch` where the book changed otherwise.
 fn answer(alloc: Global, twins: &mut Twins, request: &str) -> Result<Option<Said>, Fault> {
     let said = say(alloc, &twins.routes, &mut twins.tried, request, true)?;
     if !found_none(&said)? {
         return Ok(Some(said));
     }
-    let has_ended = said.ended.is_err();
+    let is_silent = is_silent(&said);
     drop(said);
-    if has_ended && twins.tried.totals().steps != twins.other.totals().steps {
+    let is_done = twins.tried.totals().steps != twins.other.totals().steps;
+    if is_silent != is_done {
+        return Err(Fault::Mismatch);
+    }
+    if is_done {
         return Ok(None);
     }
     if !are_same(alloc, twins)? {
@@ -183,8 +205,8 @@ fn is_answered(alloc: Global, twins: &mut Twins, request: &str, head: &str) -> R
     Ok(is_alike && has_head && are_same(alloc, twins)?)
 }
 
-/// Requests, each with how its answer begins.
-const ROWS: [&str; 14] = [
+/// Requests, each with how its answer begins; the last four begin with none.
+const ROWS: [&str; 18] = [
     "POST /eureka/apps/A HTTP/1.1\r\nHost: x\r\nTransfer-Encoding: chunked\r\n\r\n96\r\n{\"instance\":{\"instanceId\":\"i1\",\"hostName\":\"h\",\"app\":\"a\",\"ipAddr\":\"10.0.0.1\",\"status\":\"UP\",\"lastDirtyTimestamp\":\"5\",\"dataCenterInfo\":{\"name\":\"MyOwn\"}}}\r\n0\r\n\r\n = HTTP/1.1 204 No Content\r\n\r\n",
     "POST /eureka/peerreplication/batch/ {\"replicationList\":[{\"action\":\"Heartbeat\",\"appName\":\"A\",\"id\":\"i1\",\"lastDirtyTimestamp\":\"4\"}]} = HTTP/1.1 200 OK\r\n",
     "GET /eureka/apps/A/%69%31 = HTTP/1.1 200 OK\r\n",
@@ -199,6 +221,10 @@ const ROWS: [&str; 14] = [
     "GET /eureka/apps/delta = HTTP/1.1 403 Forbidden\r\n",
     "DELETE /eureka/apps/A/i1 = HTTP/1.1 200 OK\r\n",
     "GET /eureka/apps/A/i1 = HTTP/1.1 404 Not Found\r\n",
+    "GET /eureka/apps HTTP/1.1\r\n\r\n = HTTP/1.1 400 Bad Request\r\n",
+    "POST /eureka/apps/A HTTP/1.1\r\nHost: x\r\nContent-Length: 1048577\r\n\r\n = HTTP/1.1 413 Payload Too Large\r\n",
+    "POST /eureka/apps/A HTTP/1.1\r\nHost: x\r\nContent-Encoding: gzip\r\n\r\n = HTTP/1.1 415 Unsupported Media Type\r\n",
+    "POST /eureka/apps/A HTTP/1.1\r\nHost: x\r\nTransfer-Encoding: chunked\r\n\r\nzz\r\n = HTTP/1.1 400 Bad Request\r\n",
 ];
 
 /// Whether each request is answered so.

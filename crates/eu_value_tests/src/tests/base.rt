@@ -9,7 +9,7 @@ use std::alloc::{AllocError, Global};
 /// Names. What is read and its copy are told of `app TEXT` and of `id TEXT`, and of `apps N` and of `ids N` how long a name of so many letters is. Of
 /// `keys APP/ID APP/ID`, `app-order` and `id-order` it is told whether the first is less than the second, greater, and the same.
 #[derive(Drop)]
-struct Names;
+pub struct Names;
 
 fn tell_app(alloc: Global, text: &str, out: &mut String) -> Result<(), Fault> {
     let app = App::read(alloc, text)?;
@@ -188,7 +188,7 @@ fn settings_have_limits(rt: HostRuntime) {
 /// Values that are compared or shared. It is told whether two of them are the same: `instances STATUS STATUS` by their overridden status, `tasks MS MS` by when they were
 /// queued, `codes N N` by their last code. `share STATUS` tells what shares an instance, and whether it is the same.
 #[derive(Drop)]
-struct Plain;
+pub struct Plain;
 
 fn overridden(alloc: Global, status: &str) -> Result<SharedInstance, Fault> {
     let status = Status::read(status.as_bytes()).ok_or(Fault::BadValue)?;

@@ -1,6 +1,6 @@
 //! Want of memory. In a usual run no allocation is refused; `tools/sweep_memory.sh` refuses one after another.
 use eu_base::{Action, Fault, Status, Task, Tasks};
-use eu_fixtures::{key, moment};
+use eu_fixtures::{instance, key, moment};
 use eu_model::Queue;
 use eu_outbox::Outbox;
 use std::alloc::{AllocError, Global};
@@ -25,15 +25,15 @@ struct Twins {
     other: Outbox,
 }
 
-/// A registration without its instance.
+/// A registration, whose id has more than 40 bytes, so that each copy of it takes memory.
 fn task(alloc: Global, number: u32) -> Result<Task, Fault> {
-    let id = format!(in alloc; "i{number}")?;
-    let key = key(alloc, id.as_str())?;
+    let id = format!(in alloc; "an-id-of-an-instance-of-more-than-40-bytes-{number}")?;
+    let instance = instance(alloc, id.as_str(), 5, 90)?;
     Ok(Task {
         action: Action::Register,
-        key,
+        key: key(alloc, id.as_str())?,
         status: Some(Status::Up),
-        instance: None,
+        instance: Some(instance),
         queued: moment(0)?,
     })
 }

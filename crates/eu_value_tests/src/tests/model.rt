@@ -131,7 +131,7 @@ fn tell_command(command: &Command, out: &mut String) -> Result<(), AllocError> {
 /// Values of the machine. The copy is told of `copy-reply REPLY` and of `copy LINE`, and whether it is the same. Of `replies REPLY, REPLY` and `commands LINE, LINE` it is told
 /// whether they are the same; of `tally LINE, REPLY` the steps, the counted renewals, and the leases added and removed.
 #[derive(Drop)]
-struct Machine;
+pub struct Machine;
 
 /// The two parts of a text.
 fn parts(text: &str) -> Result<(&str, &str), Fault> {

@@ -32,7 +32,7 @@ fn counted(alloc: Global, statuses: &[Status]) -> Result<StatusCounts, Fault> {
 }
 
 /// Whether leases with these statuses have that hash code.
-fn has_code(alloc: Global, statuses: &[Status], code: &str) -> Result<bool, Fault> {
+pub fn has_code(alloc: Global, statuses: &[Status], code: &str) -> Result<bool, Fault> {
     let told = hash_code(alloc, &counted(alloc, statuses)?)?;
     Ok(told.as_str() == code)
 }
@@ -65,7 +65,12 @@ fn statuses_stand_in_the_order_of_their_bytes_where_somebody_has_them(rt: HostRu
 }
 
 /// Whether the page of leases with these statuses is that text.
-fn is_page(alloc: Global, counts: &Counts, statuses: &[Status], text: &str) -> Result<bool, Fault> {
+pub fn is_page(
+    alloc: Global,
+    counts: &Counts,
+    statuses: &[Status],
+    text: &str,
+) -> Result<bool, Fault> {
     let page = page_of(alloc, counts, &counted(alloc, statuses)?)?;
     let told = status_page(alloc, &page);
     drop(page);

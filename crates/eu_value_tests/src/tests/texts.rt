@@ -1,18 +1,22 @@
 //! Objects of JSON that are kept as their text, and numbers in digits, with texts written by hand (RFC 8259).
 use eu_base::{Fault, Rest, read_digits};
+use eu_fixtures::pause_or_go_on;
 use eu_text::{Cut, append_piece, append_quoted, append_text};
 use serde_json::Value;
 use std::alloc::{AllocError, Global};
 
 /// What is kept of the object that a text says.
 fn kept(alloc: Global, text: &str) -> Result<Rest, Fault> {
-    let value = Value::from_str(alloc, text).map_err(|_| Fault::NotJson)?;
+    pause_or_go_on(alloc);
+    let value = Value::from_str(alloc, text);
+    pause_or_go_on(alloc);
+    let value = value.map_err(|_| Fault::NotJson)?;
     let rest = Rest::new(alloc, value)?;
     rest.ok_or(Fault::NotWhole)
 }
 
 /// Whether what is kept of a text is these bytes.
-fn is_kept_as(alloc: Global, text: &str, bytes: &str) -> Result<bool, Fault> {
+pub fn is_kept_as(alloc: Global, text: &str, bytes: &str) -> Result<bool, Fault> {
     let rest = kept(alloc, text)?;
     let same = match rest.kept_text() {
         Some(object) => object.pieces().bytes == bytes.as_bytes(),
@@ -54,7 +58,7 @@ fn texts_are_the_same_where_their_trees_are(rt: HostRuntime) {
 }
 
 /// How many members are read again of what is kept of a text.
-fn read_again(alloc: Global, text: &str) -> Result<usize, Fault> {
+pub fn read_again(alloc: Global, text: &str) -> Result<usize, Fault> {
     let rest = kept(alloc, text)?;
     Ok(rest.to_members(alloc)?.len())
 }
@@ -81,16 +85,21 @@ fn put(alloc: Global, out: &mut Vec<u8>) -> Result<(), AllocError> {
     out.extend_from_slice(left)
 }
 
+/// Whether they stand where they belong then.
+pub fn is_put(alloc: Global) -> Result<bool, Fault> {
+    let mut out = Vec::new(alloc);
+    put(alloc, &mut out)?;
+    let text = ",\"a\":1,\"app\":\"A\\\"\",\"m\":3,\"status\":5";
+    Ok(out.as_slice() == text.as_bytes())
+}
+
 #[test]
 fn own_members_are_put_in_their_places(rt: HostRuntime) {
-    let mut out = Vec::new(rt.alloc());
-    assert!(rt; put(rt.alloc(), &mut out).is_ok());
-    let text = ",\"a\":1,\"app\":\"A\\\"\",\"m\":3,\"status\":5";
-    assert!(rt; out.as_slice() == text.as_bytes());
+    assert!(rt; is_put(rt.alloc()) == Ok(true));
 }
 
 /// Whether a text is quoted so.
-fn is_quoted_as(alloc: Global, text: &str, quoted: &str) -> Result<bool, AllocError> {
+pub fn is_quoted_as(alloc: Global, text: &str, quoted: &str) -> Result<bool, Fault> {
     let mut out = Vec::new(alloc);
     append_quoted(alloc, &mut out, text)?;
     Ok(out.as_slice() == quoted.as_bytes())

@@ -1,6 +1,6 @@
 use Rattle.std.proofs.Common.{◌≡◌, ◌∙◌, min, length, arith}
 use Rattle.std.specs.Option.{option_copied}
-use Rattle.eu_eviction.proofs.UndoLemmas.{put_more, with_values-short}
+use Rattle.eu_store.proofs.UndoLemmas.{put_more, with_values-short}
 use Rattle.eu_core.proofs.undo.put_leases.Goals as goal
 
 pub loop-left-init : goal.loop-left-init

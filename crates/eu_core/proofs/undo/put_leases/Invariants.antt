@@ -1,5 +1,5 @@
 use Rattle.std.proofs.Common.{◌≡◌, ◌≤◌, length, take}
-use Rattle.eu_eviction.specs.Removed.{with_values}
+use Rattle.eu_store.specs.Removed.{with_values}
 use Rattle.eu_core.proofs.undo.put_leases.Given as goal
 
 -- what is left to put leads to the whole

@@ -1,7 +1,7 @@
 use Rattle.std.proofs.Common.{◌≡◌, ◌≤◌, ◌<◌, ◌-◌, List, ℕ, None, get_or, min, map, length, sym, refl, arith}
 use Rattle.std.proofs.lemmas.List.{get_or-map, length-map}
 use Rattle.eu_base.specs.declared.names.Key.{Key}
-use Rattle.eu_eviction.proofs.UndoLemmas.{put_more, with_values-short}
+use Rattle.eu_store.proofs.UndoLemmas.{put_more, with_values-short}
 use Rattle.eu_core.proofs.undo.put_rows.Goals as goal
 
 abbrev id : Key → List ℕ

@@ -2,9 +2,9 @@ use Rattle.std.proofs.Common.{◌≡◌, ◌≤◌, ◌+◌, ◌∷◌, [], ◌+
 use Rattle.std.proofs.lemmas.List.{take_more, drop_more, map_push, length-map, length-take-le}
 use Rattle.eu_base.specs.declared.names.Key.{Key}
 use Rattle.eu_model.specs.Machine.{without}
-use Rattle.eu_store.proofs.TableLemmas.{by_key, by_name}
-use Rattle.eu_eviction.specs.Removed.{with_values}
-use Rattle.eu_eviction.proofs.UndoLemmas.{removed_more}
+use Rattle.eu_store.proofs.TableLemmas.{by_name}
+use Rattle.eu_store.specs.Removed.{with_values}
+use Rattle.eu_store.proofs.UndoLemmas.{removed_more}
 use Rattle.eu_eviction.proofs.eviction.remove_all.Goals as goal
 
 pub loop-key-preserved : goal.loop-key-preserved
@@ -22,14 +22,9 @@ loop-key-preserved c =
     let long = length-take-le at keys short in
     let through_ids : ids (take (at + 1) keys) ≡ ids before ++ k.id ∷ [] = ap ids through ∙ map_push (λ (x : Key). x.id) before k in
     record {
-      leases = ap (λ m. without m after) c.take.ensures.held ∙ sym (ap (without c.loop-key.leases.held) from) ∙ so_far.leases;
-      overrides = ap (λ m. without m (ids after)) c.take-in-loop-key.ensures.rows ∙ sym (ap (λ y. without c.loop-key.overrides.rows (ids y)) from) ∙ so_far.overrides;
-      leases_back = (λ i. with_values (c.take.ensures.held i) (through i) (c.push_reserved.ensures.items i))
-          ∙ removed_more by_key c.loop-key.leases.held c.args.leases.now.held before c.loop-key.held.items k c.take.result (so_far.held_long ∙ sym long) c.take.ensures.before so_far.leases_back;
-      rows_back = (λ i. with_values (c.take-in-loop-key.ensures.rows i) (through_ids i) (c.push_reserved-in-loop-key.ensures.items i))
-          ∙ removed_more by_name c.loop-key.overrides.rows c.args.overrides.now.rows (ids before) c.loop-key.rows.items k.id c.take-in-loop-key.result (so_far.rows_long ∙ sym (length-map before (λ (x : Key). x.id) ∙ long)) c.take-in-loop-key.ensures.before so_far.rows_back;
-      held_long = omega (arith, ap length c.push_reserved.ensures.items, so_far.held_long);
-      rows_long = omega (arith, ap length c.push_reserved-in-loop-key.ensures.items, so_far.rows_long);
-      held_room = omega (arith, c.push_reserved.ensures.capacity, so_far.held_room);
-      rows_room = omega (arith, c.push_reserved-in-loop-key.ensures.capacity, so_far.rows_room);
+      overrides = ap (λ m. without m (ids after)) c.take.ensures.rows ∙ sym (ap (λ y. without c.loop-key.overrides.rows (ids y)) from) ∙ so_far.overrides;
+      rows_back = (λ i. with_values (c.take.ensures.rows i) (through_ids i) (c.push_reserved.ensures.items i))
+          ∙ removed_more by_name c.loop-key.overrides.rows c.args.overrides.now.rows (ids before) c.loop-key.rows.items k.id c.take.result (so_far.rows_long ∙ sym (length-map before (λ (x : Key). x.id) ∙ long)) c.take.ensures.before so_far.rows_back;
+      rows_long = omega (arith, ap length c.push_reserved.ensures.items, so_far.rows_long);
+      rows_room = omega (arith, c.push_reserved.ensures.capacity, so_far.rows_room);
     }

@@ -1,14 +1,9 @@
-use Rattle.std.proofs.Common.{◌≡◌, None, [], inr, length, refl, ap, ◌∙◌, arith}
+use Rattle.std.proofs.Common.{◌≡◌, inr, length, refl, ap, ◌∙◌, arith}
 use Rattle.std.proofs.lemmas.Bool.Decides.{nat_tests}
 use Rattle.std.proofs.lemmas.List.{nil_from_length}
-use Rattle.json.specs.Json.{value}
-use Rattle.json.specs.Lex.{lex, punctuate}
 use Rattle.serde_json.specs.Read.{read}
+use Rattle.eu_json.proofs.EmptyLemmas.{nothing_read}
 use Rattle.eu_json.proofs.read.parse.Goals as goal
-
-nothing_read : read [] ≡ None
-unfolding value lex punctuate
-nothing_read = refl
 
 pub returns-then-is_empty-clause-said : goal.returns-then-is_empty-clause-said
 returns-then-is_empty-clause-said c =

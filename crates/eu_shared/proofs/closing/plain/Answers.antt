@@ -16,7 +16,7 @@ returns-clause-whole g c =
       logs = c.args.logs;
     } in
     closed_is closed c.args.held.book c.book.ensures.lawful c.requires.base
-    (c.first-first.ensures ∙ ap (λ (a : Account). a.first) is)
+    (c.first-first.ensures.first ∙ ap (λ (a : Account). a.first) is)
     (c.into_entries.ensures ∙ ap (λ (a : Account). a.entries) c.into_book.ensures)
     c.requires.end
     (c.totals-totals.ensures ∙ ap (λ (a : Account). a.totals) c.book-2.ensures.book)

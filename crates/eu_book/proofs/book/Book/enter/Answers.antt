@@ -45,9 +45,9 @@ invariant_of-self g c =
     let new = server_with c.answer.new.registry c.answer.new.peers in
     let reply = accepted.served.answered.reply in
     let e = entry c.args.pass b.totals.steps c.args.command c.args.moment reply in
-    let whole = entered b.journal c.answer.new.journal c.note.new.journal b.totals b.registry b.peers c.answer.new.spare accepted.next e accepted.served.undo c.self.invariant.0 is.journal is.full is.next noted.entries noted.undos
+    let whole = entered b.journal c.answer.new.journal c.note.new.journal b.totals b.registry b.peers c.answer.new.spare accepted.begins_anew e accepted.served.undo c.self.invariant.0 is.journal is.full is.next noted.entries noted.undos
     c.note.new.totals c.answer.new.registry c.answer.new.peers noted.first noted.queues noted.totals is.undo in (
-      entered_paired b.journal c.answer.new.journal c.note.new.journal b.totals b.registry b.peers c.answer.new.spare accepted.next e accepted.served.undo c.self.invariant.0 is.journal is.full is.next noted.entries noted.undos,
+      entered_paired b.journal c.answer.new.journal c.note.new.journal b.totals b.registry b.peers c.answer.new.spare accepted.begins_anew e accepted.served.undo c.self.invariant.0 is.journal is.full is.next noted.entries noted.undos,
       subst IsKept (sym whole) (kept_entered a kept c.args.pass c.args.command c.args.moment reply new is.counts is.answers),
     )
 
@@ -62,7 +62,7 @@ returns-in-Ok-clause-applied g c =
     let new = server_with c.answer.new.registry c.answer.new.peers in
     let reply = accepted.served.answered.reply in
     let e = entry c.args.pass b.totals.steps c.args.command c.args.moment reply in
-    let whole = entered b.journal c.answer.new.journal c.note.new.journal b.totals b.registry b.peers c.answer.new.spare accepted.next e accepted.served.undo c.self.invariant.0 is.journal is.full is.next noted.entries noted.undos
+    let whole = entered b.journal c.answer.new.journal c.note.new.journal b.totals b.registry b.peers c.answer.new.spare accepted.begins_anew e accepted.served.undo c.self.invariant.0 is.journal is.full is.next noted.entries noted.undos
     c.note.new.totals c.answer.new.registry c.answer.new.peers noted.first noted.queues noted.totals is.undo in
     let after = account_with c.note.new.journal c.note.new.totals c.answer.new.registry c.answer.new.peers in
     let told = noted.told ∙ ap (λ x. x.answer) is.same in

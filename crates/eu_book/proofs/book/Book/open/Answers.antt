@@ -7,8 +7,8 @@ use Rattle.eu_book.proofs.book.Book.open.Goals as goal
 
 pub returns : goal.returns
 returns c =
-    let at = c.in_ok-journal.ensures in
-    let registry = c.open-3.ensures in
+    let at = c.in_ok-prepare.ensures in
+    let registry = c.open-2.ensures in
     let peers = c.in_ok-peers.ensures in
     let queues = at.waiting ∙ peers in
     let totals = c.nothing.ensures in
@@ -20,4 +20,4 @@ returns c =
 
 pub invariant_of-result : goal.invariant_of-result
 invariant_of-result c =
-    (begins_paired c.in_ok-journal.journal _ _ c.in_ok-journal.ensures, subst IsKept (sym (returns c)) (opened_kept c.args.config c.args.expected c.args.peers c.ranges.expected.fits c.requires))
+    (begins_paired c.prepare.new.room _ _ c.in_ok-prepare.ensures, subst IsKept (sym (returns c)) (opened_kept c.args.config c.args.expected c.args.peers c.ranges.expected.fits c.requires))

@@ -6,7 +6,7 @@ use Rattle.std.specs.declared.cmp.Ordering.{Ordering}
 use Rattle.std.specs.Ordering.{eq_by_cmp}
 use Rattle.eu_model.specs.Machine.{with_value}
 use Rattle.eu_store.proofs.TableLemmas.{IsKeyed, equal_of_test}
-use Rattle.eu_eviction.specs.Removed.{with_values}
+use Rattle.eu_store.specs.Removed.{with_values}
 
 module _ {K X : Type 0} {R : K → K → Ordering} {eq : K → K → Bool} (w : IsKeyed R eq) where
   get-with_value : (m : FinMap R X) (k : K) (o : Option X) (q : K) → get (with_value m k o) q ≡ cond (eq_by_cmp R q k) o (get m q)

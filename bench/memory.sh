@@ -13,7 +13,7 @@ trap 'stop; rm -rf "$work"' EXIT
 if [ -z "${PROGRAM:-}" ]; then "$top/eureka" --help > "$work/help"; fi
 room=${ROOM:-16}
 seconds=${HOLD:-30}
-sessions=${SESSIONS:-12000}
+sessions=${SESSIONS:-150000}
 port=${PORT:-18861}
 
 # Waits until the server has told that it listens.
@@ -43,7 +43,8 @@ limit=$((idle + room * 1024))
 echo "idle: $((idle / 1024)) MiB of address space; limit: $((limit / 1024)) MiB"
 port=$((port + 1))
 serve "$sessions" "$limit"
-timeout 120 python3 "$top/bench/memory_load.py" "$port" "$sessions" "$seconds"
+timeout 300 python3 "$top/bench/memory_load.py" "$port" "$sessions" "$seconds"
+timeout 60 tail --pid="$started" -f /dev/null || { echo "the server doesn't end after its last connection" >&2; exit 1; }
 status=0
 wait "$started" || status=$?
 started=

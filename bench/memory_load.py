@@ -2,8 +2,8 @@
 """Clients of a server that is short of memory, which register and renew.
 
 memory_load.py PORT SESSIONS SECONDS: makes exactly so many connections. Four threads register instances until the server has refused 20 of them for
-want of memory. For so many seconds each then renews what it registered, and registers more. Then all is cancelled, and one instance registered; the
-connections that are left look at the status page. Prints what was answered, and how often a lease was renewed at least. Ends by 1 where an answer is
+want of memory. For so many seconds each then renews what it registered, and registers more. Then all is cancelled, and one instance registered, after as many
+heartbeats as that wants; the connections that are left look at the status page. Prints what was answered, and how often a lease was renewed at least. Ends by 1 where an answer is
 none of those that may come, where a lease was never renewed, where the last registration was refused, and where the page tells other than one lease.
 """
 import collections
@@ -24,7 +24,7 @@ class Client:
 
     def __init__(self, port, counts, sessions):
         self.port, self.counts, self.sessions = port, counts, sessions
-        self.stream, self.left = None, 0
+        self.stream, self.left, self.ends = None, 0, False
 
     def connect(self):
         with self.counts.lock:
@@ -35,6 +35,7 @@ class Client:
         self.stream = socket.create_connection(("127.0.0.1", self.port), timeout=20)
         self.reader = self.stream.makefile("rb")
         self.left = REQUESTS
+        self.ends = False
 
     def close(self):
         if self.stream is not None:
@@ -56,7 +57,7 @@ class Client:
             answer = self.answer()
         except (ConnectionError, BrokenPipeError):
             answer = None
-        if last or answer is None:
+        if last or answer is None or self.ends:
             self.close()
         if answer is None:
             time.sleep(PAUSE)
@@ -67,11 +68,16 @@ class Client:
         if not line:
             return None
         status, length = int(line.split()[1]), 0
-        while (field := self.reader.readline()) not in (b"\r\n", b""):
+        while (field := self.reader.readline()) != b"\r\n":
             name, _, value = field.partition(b":")
+            if not field:
+                return "cut", b""
             if name.lower() == b"content-length":
                 length = int(value)
-        return status, self.reader.read(length)
+            if name.lower() == b"connection" and value.strip().lower() == b"close":
+                self.ends = True
+        body = self.reader.read(length)
+        return (status if len(body) == length else "cut"), body
 
 
 class Counts:
@@ -139,13 +145,26 @@ def hold(client, prefix, held, seconds):
 
 
 def clear(client, names):
-    """Cancels all that was sent: what was answered by the end of the connection may be held or not."""
+    """Cancels all that was sent: what was answered by the end of the connection may be held or not. A cancel may want memory that comes back only as
+    the journal goes on, which heartbeats have it do. So after each that is refused a heartbeat is sent."""
     for name in names:
-        for _ in range(1_000):
+        for _ in range(10_000):
             word = client.counts.note("clear", "cancel", client.ask("DELETE", f"/eureka/apps/A/{name}"))
             if word in ("200", "404"):
                 break
+            client.counts.note("clear", "heartbeat", client.ask("PUT", f"/eureka/apps/A/{name}"))
     client.close()
+
+
+def await_memory(client):
+    """Registers one more instance. What was cancelled stands in the journal, until as many commands came as it and the spare one have entries: so
+    heartbeats are sent until there is memory again. The last answer, and how many heartbeats it took."""
+    beats = 0
+    while (word := register(client, "end", "one")) == "503" and beats < 200_000:
+        for _ in range(100):
+            client.counts.note("end", "heartbeat", client.ask("PUT", "/eureka/apps/A/one"))
+        beats += 100
+    return word, beats
 
 
 def work(client, prefix, seconds, barrier):
@@ -162,7 +181,8 @@ def work(client, prefix, seconds, barrier):
 
 MAY_COME = {
     "register 204", "register 503", "register no answer", "renew 200", "renew 503", "renew no answer",
-    "cancel 200", "cancel 404", "cancel 503", "cancel no answer", "look 200",
+    "cancel 200", "cancel 404", "cancel 503", "cancel no answer", "heartbeat 200", "heartbeat 404", "heartbeat 503", "heartbeat no answer",
+    "look 200", "look 503", "look no answer",
 }
 
 
@@ -177,7 +197,7 @@ def main():
     for thread in threads:
         thread.join()
     last = Client(port, counts, sessions)
-    registered = register(last, "end", "one")
+    registered, beats = await_memory(last)
     last.close()
     page = None
     while counts.made < sessions:
@@ -186,7 +206,8 @@ def main():
     for phase, answers in counts.answers.items():
         print(f"{phase}:", ", ".join(f"{count} {what}" for what, count in sorted(answers.items())))
     least = min(counts.renewed.values(), default=0)
-    print(f"each of {len(counts.renewed)} leases renewed {least} times or more; longest renewal: {counts.longest * 1000:.0f} ms; {counts.made} connections")
+    print(f"each of {len(counts.renewed)} leases renewed {least} times or more; longest renewal: {counts.longest * 1000:.0f} ms; "
+          f"{beats} heartbeats before the last registration; {counts.made} connections")
     others = {what for answers in counts.answers.values() for what in answers} - MAY_COME
     refused = counts.answers["hold"]["register 503"] or counts.answers["fill"]["register 503"]
     if others or counts.ended < 4 or not refused or not least or registered != "204" or page is None or b"held 1\n" not in page[1]:

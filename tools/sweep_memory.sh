@@ -16,30 +16,31 @@ cd "$(dirname "${BASH_SOURCE[0]}")/.."
 
 # The crate, the test, the refusals that it meets at least.
 tests='
-eu_registry_tests store_memory::memory_store 110
-eu_registry_tests memory::memory_core 100
-eu_registry_tests eviction::memory_eviction 1
-eu_value_tests memory::memory_outbox 610
-eu_value_tests value_memory::memory_values 1
-eu_value_tests value_memory::memory_texts 1
-eu_value_tests value_memory::memory_pages 1
-eu_book_tests memory::memory_checkpoint 1
-eu_book_tests memory::memory_book 320
-eu_book_tests shared_memory::memory_shared 28
-eu_book_tests shared_memory::memory_lock 28
-eu_book_tests session_memory::memory_seat 1
+eu_registry_tests store_memory::memory_store 310
+eu_registry_tests memory::memory_core 380
+eu_registry_tests eviction::memory_eviction 135
+eu_value_tests memory::memory_outbox 4200
+eu_value_tests value_memory::memory_values 145
+eu_value_tests value_memory::memory_texts 82
+eu_value_tests value_memory::memory_pages 23
+eu_book_tests memory::memory_checkpoint 150
+eu_book_tests memory::memory_book 620
+eu_book_tests shared_memory::memory_shared 61
+eu_book_tests shared_memory::memory_lock 61
+eu_book_tests session_memory::memory_seat 93
 eu_http_tests request_memory::memory_request 40
-eu_http_tests request_memory::memory_faults 1
+eu_http_tests request_memory::memory_faults 74
 eu_http_tests request_memory::memory_routes 300
 eu_http_tests memory::memory_json 470
 eu_session_tests memory::memory_http 400
-eu_session_tests memory::memory_requests 150
-eu_workers_tests memory::memory_turn 130
-eu_script_tests memory::memory_script 150
-eu_script_tests memory::memory_run_audit 240
+eu_session_tests memory::memory_requests 163
+eu_workers_tests memory::memory_turn 135
+eu_script_tests memory::memory_script 162
+eu_script_tests memory::memory_run_audit 261
 eu_script_tests memory::memory_journal 1800
 eu_journal_tests memory::memory_journal_audit 640
-eu_audit_tests memory::a_refused_allocation_is_no_verdict 180
+eu_audit_tests memory::a_refused_allocation_is_no_verdict 337
+eu_program_tests options::memory_options 160
 '
 
 work=$(mktemp -d)

@@ -220,6 +220,13 @@ impl Book {
         }
     }
 
+    /// Makes room for as many leases as may be held (`Registry::reserve_all`). The book stays as it is. `AllocError` where no memory is left.
+    pub fn reserve_all(&mut self) -> Result<(), AllocError>
+        ensures { self.new ≡ self.old }
+    {
+        self.registry.reserve_all()
+    }
+
     /// Lets go of one entry that the journal had when it was full and began anew last, if one is left, with what its step replaced. To do so
     /// at each command spreads over all of them what a whole journal would take at once. Takes no memory, and all else stays as it is.
     pub fn let_go(&mut self, alloc: Global) -> Dropped

@@ -73,6 +73,7 @@ pub(crate) fn answer<C: Chooser>(
 
 /// Enters in the journal a command, its reply, and what its step replaced. A journal that begins anew trades its place with the spare one before, which
 /// takes no memory. Adds what the command did, and gives who asked the replies that are theirs.
+#[inline(always)]
 pub(crate) fn note(
     journal: &mut Journal,
     spare: &mut Journal,

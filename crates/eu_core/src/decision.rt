@@ -92,6 +92,7 @@ pub fn write_lease(leases: &mut Leases, key: &Key, place: Place, change: LeaseCh
 }
 
 /// A copy of an id, and room for its row, where it is to have one and has none. `AllocError` where no memory is left; no row changes.
+#[inline(always)]
 pub fn new_id(
     overrides: &mut Overrides,
     alloc: Global,
@@ -114,6 +115,7 @@ pub fn new_id(
 }
 
 /// Carries out that an id has this row, which had that one before. `new` is its copy, where it had none. Takes no memory.
+#[inline(always)]
 pub fn write_row(
     overrides: &mut Overrides,
     id: &Id,

@@ -376,6 +376,14 @@ impl Registry {
         self.leases.snapshot(alloc)
     }
 
+    /// Makes room for as many leases as may be held, so that no table grows any more as they come. The registry stays as it is. `AllocError` where no memory
+    /// is left.
+    pub fn reserve_all(&mut self) -> Result<(), AllocError>
+        ensures { self.new ≡ self.old }
+    {
+        self.leases.reserve_all()
+    }
+
     /// The registry as plain data: settings, number expected, leases in key order, override rows in the order of their ids, the
     /// counts of renewals and the previous eviction, and no peers. `AllocError` where no memory is left.
     pub fn plain(&self, alloc: Global) -> Result<State, AllocError>
@@ -695,6 +703,7 @@ impl Registry {
 
     /// What a command on the lease of that key is to replace by that change, where this is held and its id has that row. `AllocError`
     /// where no memory is left, or 2^63 share its instance.
+    #[inline(always)]
     pub(crate) fn lease_before(
         &self,
         alloc: Global,

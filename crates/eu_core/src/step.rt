@@ -44,6 +44,7 @@ impl Registry {
     /// refusals it has.
     /// Refused with `Full` or `Exhausted` where that call is, and else with `OutOfMemory`, also where no memory is left for
     /// replies and copies; a refusal changes nothing, and asks the chooser for no word. Only an `Evict` asks it.
+    #[inline(always)]
     pub fn step<C: Chooser>(
         &mut self,
         alloc: Global,

@@ -51,15 +51,15 @@ impl Deadlines {
         self.places.len()
     }
 
-    /// Makes room for one more. Where there is no memory for it, no deadline changes.
-    pub fn reserve(&mut self) -> Result<(), AllocError>
+    /// Makes room for so many more. Where there is no memory for it, no deadline changes.
+    pub fn reserve(&mut self, more: usize) -> Result<(), AllocError>
         ensures list { self.new.list ≡ self.old.list }
-        ensures ok { OnOk result (0 < self.new.room) }
+        ensures ok { OnOk result (more ≤ self.new.room) }
         ensures room { self.old.room ≤ self.new.room }
     {
-        self.deadlines.reserve(1)?;
-        self.positions.reserve(1)?;
-        self.places.reserve(1)
+        self.deadlines.reserve(more)?;
+        self.positions.reserve(more)?;
+        self.places.reserve(more)
     }
 
     /// Adds the deadline of the next position, in the room that was made. Takes no memory.

@@ -1,5 +1,5 @@
 //! A response as it is written.
-ghost use Rattle.std.specs.Prelude.{◌≡◌, ◌≤◌, ◌++◌, codes, false, drop, length, IfOk, IfSome, OnOk, string_bytes};
+ghost use Rattle.std.specs.Prelude.{◌≡◌, ◌≤◌, ◌++◌, codes, false, true, drop, length, IfOk, IfSome, OnOk, string_bytes};
 ghost use Rattle.http.specs.StatusCode.{status_text};
 ghost use Rattle.eu_http.specs.Response.{content_of, response_of};
 ghost use Rattle.eu_http.specs.Response as spec;
@@ -9,21 +9,31 @@ use http::StatusCode;
 use std::alloc::{AllocError, Global};
 use std::marker::Model;
 
+/// Where the bytes of a response lie.
+#[derive(Debug, Drop)]
+enum Bytes {
+    /// In a text of the program.
+    Ready(&'static str),
+    /// In memory that was taken for them.
+    Made(Vec<u8>),
+}
+
 /// The bytes of a response.
 #[derive(Debug, Drop)]
 pub struct ResponseBytes {
-    buffer: Vec<u8>,
+    bytes: Bytes,
     start: usize,
 }
 
 impl Model for ResponseBytes {
     ghost use Rattle.std.specs.Prelude.{ℕ, List, ◌≤◌, drop, length};
+    ghost use Rattle.eu_http.specs.Written.{written};
 
     ghost Value = { List ℕ };
 
-    ghost view = { λ r. drop r.start r.buffer.items };
+    ghost view = { λ r. drop r.start (written r.bytes) };
 
-    ghost invariant = { λ r. r.start ≤ length r.buffer.items };
+    ghost invariant = { λ r. r.start ≤ length (written r.bytes) };
 }
 
 impl ResponseBytes {
@@ -31,7 +41,10 @@ impl ResponseBytes {
     pub fn as_slice(&self) -> &[u8]
         ensures { result.now ≡ self.now }
     {
-        &self.buffer[self.start..]
+        match &self.bytes {
+            Bytes::Ready(text) => &text.as_bytes()[self.start..],
+            Bytes::Made(buffer) => &buffer[self.start..],
+        }
     }
 }
 
@@ -112,7 +125,10 @@ fn join(alloc: Global, head: &str, content: &[u8]) -> Result<ResponseBytes, Allo
     let mut buffer = Vec::with_capacity(alloc, head.len().saturating_add(content.len()))?;
     buffer.extend_from_slice(head.as_bytes())?;
     buffer.extend_from_slice(content)?;
-    Ok(ResponseBytes { buffer, start: 0 })
+    Ok(ResponseBytes {
+        bytes: Bytes::Made(buffer),
+        start: 0,
+    })
 }
 
 /// The same where room for the head was left before the content, which isn't copied.
@@ -123,7 +139,10 @@ fn join_in_room(mut buffer: Vec<u8>, head: &str) -> ResponseBytes
 {
     let start = HEAD_ROOM - head.len();
     buffer[start..HEAD_ROOM].copy_from_slice(head.as_bytes());
-    ResponseBytes { buffer, start }
+    ResponseBytes {
+        bytes: Bytes::Made(buffer),
+        start,
+    }
 }
 
 /// What stands behind the room for a head.
@@ -169,25 +188,42 @@ fn bare_text(status: StatusCode) -> Option<&'static str>
     }
 }
 
+/// The same, where the connection ends with it.
+fn last_text(status: StatusCode) -> Option<&'static str>
+    ensures { IfSome result (λ text. text.now ≡ spec.print (spec.bare status) true) }
+{
+    match status {
+        StatusCode::OK => {
+            Some("HTTP/1.1 200 OK\r\nContent-Length: 0\r\nConnection: close\r\n\r\n")
+        }
+        StatusCode::NO_CONTENT => Some("HTTP/1.1 204 No Content\r\nConnection: close\r\n\r\n"),
+        StatusCode::NOT_FOUND => {
+            Some("HTTP/1.1 404 Not Found\r\nContent-Length: 0\r\nConnection: close\r\n\r\n")
+        }
+        _ => None,
+    }
+}
+
 /// The text of a response, where it needn't be put together.
 fn ready_text(response: &Response, close: bool) -> Option<&'static str>
     ensures { IfSome result (λ text. text.now ≡ spec.print (response_of response.now) close) }
 {
-    if close {
-        return None;
-    }
     match &response.content {
+        Content::Nothing if close => last_text(response.status),
         Content::Nothing => bare_text(response.status),
         _ => None,
     }
 }
 
-/// The bytes of a response. `AllocError` where no memory is left.
+/// The bytes of a response. `AllocError` where no memory is left; a text that is ready takes none.
 pub fn print(alloc: Global, response: Response, close: bool) -> Result<ResponseBytes, AllocError>
     ensures { IfOk result (λ bytes. bytes ≡ spec.print (response_of response) close) }
 {
     if let Some(text) = ready_text(&response, close) {
-        return join(alloc, text, b"");
+        return Ok(ResponseBytes {
+            bytes: Bytes::Ready(text),
+            start: 0,
+        });
     }
     let head = head(alloc, &response, close)?;
     join_content(alloc, response.content, head.as_str())

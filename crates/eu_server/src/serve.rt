@@ -106,7 +106,8 @@ fn job<'a, K: Label, R: Wait + Clock, H: Chooser>(
     })
 }
 
-/// Adds a worker that is ready for this work, with a pass of its own. `OutOfMemory`, and the fault of `Shared::pass`.
+/// Adds a worker that is ready for this work, with a pass of its own. That of a worker of sessions has room in its log for a whole journal: else
+/// no heartbeat would be answered any more where memory is short and each log as long as its room. `OutOfMemory`, and the fault of `Shared::pass`.
 fn add<'a, K: Label, R: Wait + Clock, H: Chooser + Drop>(
     workers: &mut Vec<ServerWorker<'a, K, R, H>>,
     rt: &'a R,
@@ -117,7 +118,10 @@ fn add<'a, K: Label, R: Wait + Clock, H: Chooser + Drop>(
     ensures made { OnOk result ((worker : _) × IsReadyFor work.entry worker × (workers.new.items ≡ workers.old.items ++ worker ∷ [])) }
     ensures fault { IfErr result IsStart }
 {
-    let pass = shared.pass(rt, alloc)?;
+    let mut pass = shared.pass(rt, alloc)?;
+    if matches!(work, Work::Sessions { .. }) {
+        pass.reserve_log()?;
+    }
     workers.push(job(rt, pass, work))?;
     Ok(())
 }

@@ -46,8 +46,8 @@ impl<K: Label> Model for Held<K> {
 
 impl<K: Label> Held<K> {
     /// A book that is opened now (`Book::open`) for no more than 8 peers, over four new ledgers of 1,025 parts each (`Blanks::new`),
-    /// and no pass. It keeps the order of its leases from the start, so that no listing sorts them under the lock. `AllocError` where no
-    /// memory is left.
+    /// and no pass. It keeps the order of its leases from the start, so that no listing sorts them under the lock, and has room for all that it may
+    /// hold, so that no table grows under it. `AllocError` where no memory is left.
     pub fn open(
         alloc: Global,
         config: Config,
@@ -64,6 +64,7 @@ impl<K: Label> Held<K> {
         // The order of the keys is kept from the first snapshot on. So the first one is taken while there is nothing to sort.
         let nothing = book.snapshot(alloc, &Query::All, Moment::new(0).unwrap())?;
         drop(nothing);
+        book.reserve_all()?;
         let (totals, rest) = blanks.open::<K>();
         Ok(Held {
             book,

@@ -5,6 +5,7 @@ ghost use Rattle.eu_shared.specs.Closing.{log_of, logged_by};
 ghost use Rattle.eu_shared.specs.Passes.{trimmed};
 
 use crate::shares::{Label, Shares};
+use eu_base::MOST_ENTRIES;
 use eu_book::Logged;
 use eu_model::{Command, Tally};
 use eu_settle::PassLog;
@@ -70,6 +71,14 @@ impl<K: Label> Pass<K> {
         ensures { self.new ≡ trimmed self.old }
     {
         trim_log(&mut self.log, self.journal_first, &mut self.is_stale);
+    }
+
+    /// Makes room in its log for as many items as the journal has entries. Where it is trimmed after each that the journal begins anew, hardly an ask
+    /// wants memory for it then. The pass stays as it is. `AllocError` where no memory is left.
+    pub fn reserve_log(&mut self) -> Result<(), AllocError>
+        ensures { self.new ≡ self.old }
+    {
+        self.log.reserve(MOST_ENTRIES)
     }
 
     /// Makes room in its log for what it is answered next, and gives the command once more, to be kept there. `AllocError` where no

@@ -62,14 +62,14 @@ impl Directory {
         })
     }
 
-    /// Makes room for one lease more.
-    pub(crate) fn reserve(&mut self) -> Result<(), AllocError>
+    /// Makes room for so many leases more.
+    pub(crate) fn reserve(&mut self, more: usize) -> Result<(), AllocError>
         ensures places { self.new.places.items ≡ self.old.places.items }
         ensures parts { self.new.parts ≡ self.old.parts }
-        ensures ready { OnOk result (0 < room_in self.new) }
+        ensures ready { OnOk result (more ≤ room_in self.new) }
         ensures room { room_in self.old ≤ room_in self.new }
     {
-        self.places.reserve(1)
+        self.places.reserve(more)
     }
 
     /// Puts a key in it that comes behind the last of the table, into the room that was made. Takes no memory.

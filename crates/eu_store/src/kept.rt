@@ -34,14 +34,15 @@ pub(crate) fn make(
     Ok(())
 }
 
-/// Makes room in it for one lease more.
-pub(crate) fn reserve(directory: &mut Option<Directory>) -> Result<(), AllocError>
+/// Makes room in it for so many leases more.
+pub(crate) fn reserve(directory: &mut Option<Directory>, more: usize) -> Result<(), AllocError>
+    requires { more ≤ most_leases }
     ensures ordered { (es : List (Key × Listed)) → AreOrdered es directory.old → AreOrdered es directory.new }
-    ensures ready { OnOk result (0 < room_of directory.new) }
+    ensures ready { OnOk result (more ≤ room_of directory.new) }
     ensures room { room_of directory.old ≤ room_of directory.new }
 {
     match directory {
-        Some(directory) => directory.reserve(),
+        Some(directory) => directory.reserve(more),
         None => Ok(()),
     }
 }

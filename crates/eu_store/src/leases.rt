@@ -118,6 +118,19 @@ impl Leases {
         self.counts
     }
 
+    /// Makes room for as many leases as may be held, so that nothing grows any more as they come. `AllocError` where no memory is left, which changes
+    /// nothing that is held, and takes no room away.
+    pub fn reserve_all(&mut self) -> Result<(), AllocError>
+        ensures held { self.new.held ≡ self.old.held }
+        ensures room { self.old.room ≤ self.new.room }
+        ensures ready { OnOk result (map.len self.old.held + self.new.room ≡ MOST_LEASES) }
+    {
+        let more = MOST_LEASES - self.table.len();
+        self.table.reserve(more)?;
+        self.index.reserve(more)?;
+        kept::reserve(&mut self.directory, more)
+    }
+
     /// Makes room for one lease more. `Full` exactly where 65,536 are held; else `OutOfMemory`. Neither changes what is held, or
     /// takes room away.
     pub fn reserve(&mut self) -> Result<(), Fault>
@@ -131,8 +144,8 @@ impl Leases {
             return Err(Fault::Full);
         }
         self.table.reserve(1)?;
-        self.index.reserve()?;
-        kept::reserve(&mut self.directory)?;
+        self.index.reserve(1)?;
+        kept::reserve(&mut self.directory, 1)?;
         Ok(())
     }
 
@@ -179,6 +192,7 @@ impl Leases {
     pub fn take_all(&mut self, keys: &[Key], room: Taking) -> Vec<Option<HeldLease>>
         requires room { Suffices room (length keys.now) (map.len self.old.held) }
         ensures held { self.new.held ≡ without self.old.held keys.now }
+        ensures long { length result.items ≡ length keys.now }
         ensures back { with_values self.new.held keys.now result.items ≡ self.old.held }
         ensures room { self.old.room ≤ self.new.room }
     {

@@ -137,6 +137,7 @@ pub(crate) fn take_all(
     requires ordered { AreOrdered table.old.entries directory.old }
     requires room { Suffices room (length keys.now) (map.len (map_by table.old.entries)) }
     ensures held { map_by table.new.entries ≡ without (map_by table.old.entries) keys.now }
+    ensures long { length result.items ≡ length keys.now }
     ensures back { with_values (map_by table.new.entries) keys.now result.items ≡ map_by table.old.entries }
     ensures index { index.new.list ≡ deadlines table.new.entries }
     ensures counts { counts.new ≡ counts_of (map_by table.new.entries) }

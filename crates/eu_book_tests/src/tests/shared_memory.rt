@@ -127,7 +127,7 @@ impl<K: Label, R: Wait> Asked<K> for Locked<'_, K, R> {
 
 /// What is asked for, by which pass, and the number that it is answered by: that of the entry, or the sum of the last updates that are seen. A copy
 /// of the second id takes memory, and one of the first none.
-const ASKS: [(usize, &str, u64); 20] = [
+const ASKS: [(usize, &str, u64); 21] = [
     (0, "register 0 A i1 90 UP UNKNOWN 5 c", 0),
     (
         0,
@@ -156,6 +156,7 @@ const ASKS: [(usize, &str, u64); 20] = [
     (1, "all 6", 180_010),
     (0, "of 6 A", 180_010),
     (0, "checkpoint", 0),
+    (0, "reserve", 0),
     (0, "set 6 A i1 OUT_OF_SERVICE - c", 7),
     (1, "unset 6 A i1 UP - c", 8),
     (0, "adopt 6 A i3 90 UP UNKNOWN 5", 9),
@@ -219,9 +220,16 @@ fn tell<K: Label, A: Asked<K>>(
     pass: &mut Pass<K>,
     words: &str,
 ) -> Result<u64, Fault> {
-    if words == "checkpoint" {
-        asked.checkpoint(alloc, pass)?;
-        return Ok(0);
+    match words {
+        "checkpoint" => {
+            asked.checkpoint(alloc, pass)?;
+            return Ok(0);
+        }
+        "reserve" => {
+            pass.reserve_log()?;
+            return Ok(0);
+        }
+        _ => {}
     }
     let (moment, ask) = read_ask(alloc, words)?;
     match ask {

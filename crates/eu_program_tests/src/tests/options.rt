@@ -5,7 +5,7 @@
 use clap::ArgMatches;
 use clap::error::ErrorKind;
 use eu_base::{Config, Fault};
-use eu_fixtures::{Told, first_wrong};
+use eu_fixtures::{Told, are_so, first_wrong};
 use eu_options::{command, config_of, journal_of, seed_of, serving_of};
 use std::alloc::{AllocError, Global};
 
@@ -97,4 +97,25 @@ eureka, serve, --journal=x, --port, 0, --sessions, 0 = serve true 85 30 60000 No
 #[test]
 fn a_server_has_what_its_options_say(rt: HostRuntime) {
     assert_eq!(rt; first_wrong(rt.alloc(), &mut Options, SERVERS), None);
+}
+
+/// The line of a server, and what it says.
+const SERVER: (&str, &str) = (
+    "eureka, serve, --port, 8761, --sessions, 7",
+    "serve true 85 30 60000 None None Some(Serving { port: 8761, sessions: 7, workers: 2, expected: 1 })",
+);
+
+/// Whether it says that.
+fn is_said(alloc: Global) -> Result<bool, Fault> {
+    let (said, wanted) = SERVER;
+    let mut out = String::with_capacity(alloc, 256)?;
+    let mut options = Options;
+    options.tell(alloc, said, &mut out)?;
+    Ok(out.as_str() == wanted)
+}
+
+/// Want of memory is told as that. In a usual run no allocation is refused; `tools/sweep_memory.sh` refuses one after another.
+#[test]
+fn memory_options(rt: HostRuntime) {
+    assert!(rt; are_so(is_said(rt.alloc()), is_said(rt.alloc())));
 }

@@ -26,7 +26,7 @@ fn change(index: &mut Deadlines, verb: &str, words: &str) -> Result<(), Fault> {
     let position = first as usize;
     match verb {
         "push" => {
-            index.reserve()?;
+            index.reserve(1)?;
             index.push(first);
         }
         "set" if position < index.len() => index.set(position, number_of(rest)?),

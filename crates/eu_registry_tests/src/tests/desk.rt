@@ -223,6 +223,7 @@ impl Told for Desk {
             "step" => self.step(alloc, rest, false, out),
             "log" => self.step(alloc, rest, true, out),
             "undone" => self.undo(alloc, rest, out),
+            "reserve" => tell_done(out, Ok(self.registry.reserve_all()?)),
             "list" => self.list(alloc, rest, out),
             "plain" => self.show(alloc, false, out),
             "shown" => self.show(alloc, true, out),

@@ -38,6 +38,7 @@ const PLAYED: &str = "
     log update 2000000 = Expected(1), Expected(1), Expected(1)
     log config 2000000 off 85 15 0 = Done, Done, Done
     log evict 3000000 = Evicted, Evicted, Evicted
+    reserve = done
 ";
 
 /// The first wrong line of a table of which both are told.

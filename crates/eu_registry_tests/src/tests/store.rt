@@ -237,6 +237,7 @@ impl Told for Desk {
             "new" => tell_done(out, self.begin(alloc, rest)),
             "put" => tell_done(out, put_each(alloc, &mut self.leases, rest)),
             "fill" => tell_done(out, self.fill(alloc, rest)),
+            "reserve" => tell_done(out, Ok(self.leases.reserve_all()?)),
             "find" => tell_done(out, self.find(alloc, rest)),
             "snap" => tell_done(out, self.snap(alloc)),
             "sweep" => self.sweep(alloc, rest, out),
@@ -250,8 +251,9 @@ impl Told for Desk {
 }
 
 const CHANGED: &str = "
-    # A lease is put and taken, and put again.
+    # A lease is put and taken, and put again, with room for all that may be.
     new i1 i2 = done
+    reserve = done
     counts 0 = 2
     cancel 0 A i1 c = true
     cancel 0 A i1 c = false

@@ -21,6 +21,8 @@ const PLAYED: &str = "
     list B = 0
     sweep i3 i8 ix i0 = 4: i3 i8 - i0
     list A = 7 i1 UP 0 i2 UP 0 i4 UP 0 i5 UP 0 i6 UP 0 i7 UP 0 i9 UP 0
+    reserve = done
+    put i3 = done
 ";
 
 /// The first wrong line of a table of which both are told.

@@ -36,9 +36,6 @@ module _ (positions positions' places places' : List ℕ) (a b : ℕ) (l : AreLi
   of_is : (k j : ℕ) → k < length positions → j < length positions → get_or positions k 0 ≡ get_or positions j 0 → k ≡ j
   of_is k j hk hj e = sym (l.to k hk).1 ∙ ap (λ p. get_or places p 0) e ∙ (l.to j hj).1
 
-  place_is : (p q : ℕ) → p < length positions → q < length positions → get_or places p 0 ≡ get_or places q 0 → p ≡ q
-  place_is p q hp hq e = sym (l.back p hp).1 ∙ ap (λ k. get_or positions k 0) e ∙ (l.back q hq).1
-
   to_by : (k : ℕ) → k < length positions' → (k ≡ a) ⊎ (k ≢ a) → (k ≡ b) ⊎ (k ≢ b) → (get_or positions' k 0 < length positions') × (get_or places' (get_or positions' k 0) 0 ≡ k)
   to_by k hk (inl e) _ =
       let o : get_or positions' k 0 ≡ get_or positions b 0 = ap (λ j. get_or positions' j 0) e ∙ x.at_a in

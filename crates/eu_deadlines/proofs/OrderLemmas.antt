@@ -1,7 +1,7 @@
 -- Steps of a sift, and its ends.
 use Rattle.std.proofs.Common.{◌≡◌, ◌≢◌, ℕ, ◌-◌, ◌/◌, ◌<◌, ◌≤◌, ◌⊎◌, inl, inr, List, length, get_or, ap, arith}
 use Rattle.std.proofs.lemmas.Bool.{cases_eq}
-use Rattle.eu_deadlines.specs.Heap.{IsOrdered, RisesFrom, SinksFrom}
+use Rattle.eu_deadlines.specs.Heap.{RisesFrom, SinksFrom}
 
 -- the list ys has the entries of xs, but that those at a and b have changed places
 pub record Exchanged (xs ys : List ℕ) (a b : ℕ) : Type 0 where
@@ -56,41 +56,3 @@ module _ (xs ys : List ℕ) (h : ℕ) where
       around = λ k pos inside e top.
           omega (arith, ap (λ j. get_or ys j 0) below, ap (λ j. get_or xs j 0) e, x.at_a, x.rest k (omega arith) (omega arith), s.others k pos (omega (arith, x.long)) (omega arith));
     }
-
--- the ends
-module _ (xs : List ℕ) (h : ℕ) where
-  pub ordered_at_top : RisesFrom xs h → (0 < h → get_or xs ((h - 1) / 2) 0 ≤ get_or xs h 0) → IsOrdered xs
-  ordered_at_top r held = record { up = λ k pos inside. by k pos inside (cases_eq k h) }
-    where
-      by : (k : ℕ) → 0 < k → k < length xs → (k ≡ h) ⊎ (k ≢ h) → get_or xs ((k - 1) / 2) 0 ≤ get_or xs k 0
-      by k pos inside (inl e) = omega (arith, ap (λ j. get_or xs j 0) e, ap (λ j. get_or xs ((j - 1) / 2) 0) e, held (omega arith))
-      by k pos inside (inr ne) = r.others k pos inside ne
-
-  pub ordered_at_end : SinksFrom xs h → ((k : ℕ) → 0 < k → k < length xs → (k - 1) / 2 ≡ h → get_or xs h 0 ≤ get_or xs k 0) → IsOrdered xs
-  ordered_at_end s held = record { up = λ k pos inside. by k pos inside (cases_eq ((k - 1) / 2) h) }
-    where
-      by : (k : ℕ) → 0 < k → k < length xs → ((k - 1) / 2 ≡ h) ⊎ ((k - 1) / 2 ≢ h) → get_or xs ((k - 1) / 2) 0 ≤ get_or xs k 0
-      by k pos inside (inl e) = omega (arith, ap (λ j. get_or xs j 0) e, held k pos inside e)
-      by k pos inside (inr ne) = s.others k pos inside ne
-
--- one entry is written, and the list may end earlier
-module _ (xs ys : List ℕ) (h : ℕ) (o : IsOrdered xs) (short : length ys ≤ length xs) (rest : (k : ℕ) → k < length ys → k ≢ h → get_or ys k 0 ≡ get_or xs k 0) where
-  pub earlier_rises : get_or ys h 0 ≤ get_or xs h 0 → RisesFrom ys h
-  earlier_rises low = record {
-    others = λ k pos inside ne. by k pos inside ne (cases_eq ((k - 1) / 2) h);
-    around = λ k pos inside e top. omega (arith, rest ((h - 1) / 2) (omega arith) (omega arith), rest k inside (omega arith), o.up k pos (omega arith), o.up h top (omega arith), ap (λ j. get_or xs j 0) e);
-  }
-    where
-      by : (k : ℕ) → 0 < k → k < length ys → k ≢ h → ((k - 1) / 2 ≡ h) ⊎ ((k - 1) / 2 ≢ h) → get_or ys ((k - 1) / 2) 0 ≤ get_or ys k 0
-      by k pos inside ne (inl e) = omega (arith, ap (λ j. get_or ys j 0) e, ap (λ j. get_or xs j 0) e, rest k inside ne, o.up k pos (omega arith))
-      by k pos inside ne (inr pe) = omega (arith, rest ((k - 1) / 2) (omega arith) pe, rest k inside ne, o.up k pos (omega arith))
-
-  pub later_sinks : get_or xs h 0 ≤ get_or ys h 0 → SinksFrom ys h
-  later_sinks high = record {
-    others = λ k pos inside pe. by k pos inside pe (cases_eq k h);
-    around = λ k pos inside e top. omega (arith, rest ((h - 1) / 2) (omega arith) (omega arith), rest k inside (omega arith), o.up k pos (omega arith), o.up h top (omega arith), ap (λ j. get_or xs j 0) e);
-  }
-    where
-      by : (k : ℕ) → 0 < k → k < length ys → (k - 1) / 2 ≢ h → (k ≡ h) ⊎ (k ≢ h) → get_or ys ((k - 1) / 2) 0 ≤ get_or ys k 0
-      by k pos inside pe (inl e) = omega (arith, ap (λ j. get_or ys j 0) e, ap (λ j. get_or xs j 0) e, ap (λ j. get_or xs ((j - 1) / 2) 0) e, rest ((k - 1) / 2) (omega arith) pe, o.up k pos (omega arith))
-      by k pos inside pe (inr ne) = omega (arith, rest ((k - 1) / 2) (omega arith) pe, rest k inside ne, o.up k pos (omega arith))

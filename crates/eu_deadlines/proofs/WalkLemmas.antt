@@ -1,7 +1,7 @@
 -- A walk from the top that stops where a deadline is not before the limit misses none.
 use Rattle.std.proofs.Common.{◌≡◌, ℕ, suc, zero, ◌+◌, ◌-◌, ◌*◌, ◌/◌, ◌<◌, ◌≤◌, ◌⊎◌, inl, inr, Bool, true, false, cond, ◌&&◌, List, [], ◌∷◌, ◌++◌, length, get_or, refl, sym, ap, subst, ◌∙◌, arith, ltb, true≢false}
-use borrow.Author.Tests.{ltb-true, ltb-false}
-use Rattle.std.proofs.lemmas.Bool.{cases_lt, cases_Bool}
+use borrow.Author.Tests.{ltb-true}
+use Rattle.std.proofs.lemmas.Bool.{cases_lt, lt-ltb}
 use Rattle.eu_deadlines.specs.Heap.{IsOrdered}
 use Rattle.eu_deadlines.specs.Walk.{is_earlier, IsAllEarlier}
 
@@ -53,9 +53,6 @@ module _ (found : List ℕ) (rising : (j : ℕ) → j + 1 < length found → get
       there a b h = omega arith
 
 module _ (deadlines : List ℕ) (limit : ℕ) where
-  no_place : DecidedBelow deadlines limit [] 0
-  no_place = record { sound = λ j h. absurd (omega arith); rising = λ j h. absurd (omega arith); complete = λ h low. absurd (omega arith) }
-
   -- the place m is offered
   decide_taken : (found : List ℕ) (m : ℕ) → DecidedBelow deadlines limit found m → m < length deadlines → get_or deadlines m 0 < limit → DecidedBelow deadlines limit (found ++ m ∷ []) (m + 1)
   decide_taken found m d inside early = record {
@@ -116,13 +113,6 @@ module _ (deadlines : List ℕ) (limit : ℕ) where
   both_false true false h p q = true≢false (sym q)
   both_false false b h p q = true≢false (sym p)
 
-  ltb_of : (a b : ℕ) → a < b → ltb a b ≡ true
-  ltb_of a b h = by (cases_Bool (ltb a b))
-    where
-      by : (ltb a b ≡ true) ⊎ (ltb a b ≡ false) → ltb a b ≡ true
-      by (inl e) = e
-      by (inr e) = absurd (omega (arith, ltb-false a b e))
-
   pub decide : (found : List ℕ) (m : ℕ) → DecidedBelow deadlines limit found m → DecidedBelow deadlines limit (offered found m) (m + 1) × Extends found (offered found m)
   decide found m d = by (is_earlier deadlines limit m) refl
     where
@@ -133,7 +123,7 @@ module _ (deadlines : List ℕ) (limit : ℕ) where
       by false e = (
         skip found m (m + 1) (omega arith) d (λ k lo hi inside soon.
             let is : k ≡ m = omega arith in
-            both_false (ltb m (length deadlines)) (ltb (get_or deadlines m 0) limit) e (ltb_of m (length deadlines) (omega (arith, is))) (ltb_of (get_or deadlines m 0) limit (omega (arith, ap (λ j. get_or deadlines j 0) is)))),
+            both_false (ltb m (length deadlines)) (ltb (get_or deadlines m 0) limit) e (lt-ltb m (length deadlines) (omega (arith, is))) (lt-ltb (get_or deadlines m 0) limit (omega (arith, ap (λ j. get_or deadlines j 0) is)))),
         record { longer = omega arith; same = λ j h. refl },
       )
 
@@ -143,18 +133,6 @@ module _ (deadlines : List ℕ) (limit : ℕ) where
       by : (b : Bool) → length found ≤ length (cond b (found ++ m ∷ []) found)
       by true = omega (arith, length_end found m)
       by false = omega arith
-
-  -- once the top is offered
-  pub walked_none : (found : List ℕ) → found ≡ offered [] 0 → Walked deadlines limit found 0
-  walked_none found e =
-      let d = (decide [] 0 no_place).0 in
-      record {
-        m = 1;
-        some = omega arith;
-        decided = subst (λ l. DecidedBelow deadlines limit l 1) (sym e) d;
-        done = λ j low. absurd (omega arith);
-        ahead = λ j le h. omega arith;
-      }
 
   -- the i-th place that was found: no place before those below it is missed
   module _ (o : IsOrdered deadlines) (found : List ℕ) (i : ℕ) (w : Walked deadlines limit found i) where

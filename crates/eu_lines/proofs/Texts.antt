@@ -1,13 +1,7 @@
 -- Texts and their lines.
-use Rattle.std.proofs.Common.{◌≡◌, ℕ, zero, suc, ◌<◌, false, ◌==◌, List, [], ◌∷◌, ◌++◌, length, get_or, take, refl, arith}
+use Rattle.std.proofs.Common.{◌≡◌, ℕ, false, ◌==◌, List, [], ◌∷◌, ◌++◌, refl}
 use Rattle.std.proofs.lemmas.Bool.{ne_eqb}
 use Rattle.eu_lines.specs.Lines.{lines_of, HasNoEnd}
-
--- one byte more that is no LF
-pub no_end_more : (text : List ℕ) (i : ℕ) → i < length text → HasNoEnd (take i text) → (get_or text i 0 ≡ 10 → ⊥) → HasNoEnd (take (suc i) text)
-no_end_more [] i lt before here = absurd (omega arith)
-no_end_more (x ∷ xs) zero lt before here = (here, tt)
-no_end_more (x ∷ xs) (suc i) lt before here = (before.0, no_end_more xs i (omega arith) before.1 here)
 
 pub no_end_append : (xs ys : List ℕ) → HasNoEnd xs → HasNoEnd ys → HasNoEnd (xs ++ ys)
 no_end_append [] ys p q = q

@@ -13,8 +13,7 @@ use Rattle.serde_json.specs.Data.{Num, unsigned, negative, float, Data, null, bo
 use Rattle.serde_json.specs.Find.{is_float}
 use Rattle.serde_json.specs.Read.{max_depth, is_integer, float_of, number_from, number_of, of_json, of_items, of_members, read}
 use Rattle.serde_json.specs.Written.{has_float, items_have_float, members_have_float}
-use Rattle.serde_json.proofs.Nesting.{depth-read}
-use Rattle.eu_text.specs.Fit.{is_whole, follows, fits, items_fit, members_fit, is_fit}
+use Rattle.eu_text.specs.Fit.{is_whole, follows, fits, items_fit, members_fit}
 use Rattle.eu_text.proofs.OrderLemmas.{IsBelow, below_more}
 
 -- ---- what is so of each tree that was read
@@ -177,7 +176,3 @@ mutual
       let parts = or_parts (has_float d) (members_have_float ms) whole in
       ap₂ (◌&&◌) (follows_below last k d ms below)
       (ap₂ (◌&&◌) (ordered_fits n d order.1 parts.0 (omega (arith, within))) (members_ordered_fit n (Some k) ms order.0 order.2 parts.1 (omega (arith, within))))
-
--- what was read, and has whole numbers alone, fits
-pub read_fits : (text : List ℕ) (d : Data) → read text ≡ Some d → has_float d ≡ false → is_fit d ≡ true
-read_fits text d is whole = ordered_fits max_depth d (read_ordered text d is) whole (depth-read text d is)

@@ -34,7 +34,7 @@ led_cut k ms =
 
 -- ---- a member that is put in
 
-equal_names : (k l : List ℕ) → slice_cmp nat_cmp k l ≡ Equal → k ≡ l
+pub equal_names : (k l : List ℕ) → slice_cmp nat_cmp k l ≡ Equal → k ≡ l
 equal_names k l is = (bytes_eq-Decides k l).0 (sym (is_eq-slice_cmp k l) ∙ ap is_eq is)
 
 put_step : (o : Ordering) (k l : List ℕ) (d e : Data) (ms p b f : Members) → (o ≡ Equal → k ≡ l) → p ≡ joined b (member k d f)

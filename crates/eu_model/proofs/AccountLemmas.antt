@@ -31,10 +31,6 @@ tally_push (d ∷ es) e =
     ap (plus one) (tally_push es e)
     ∙ tally_eq (plus one (plus (tally_of es) more)) (plus (plus one (tally_of es)) more) (omega (arith)) (omega (arith)) (omega (arith)) (omega (arith))
 
-pub steps_are : (es : List Entry) → (tally_of es).steps ≡ length es
-steps_are [] = refl
-steps_are (e ∷ es) = ap (λ n. 1 + n) (steps_are es) ∙ omega (arith)
-
 pub numbered_push : (first : ℕ) (es : List Entry) (e : Entry) → IsNumbered first es → e.number ≡ first + length es → IsNumbered first (es ++ (e ∷ []))
 numbered_push first [] e numbered is = (is ∙ omega (arith), tt)
 numbered_push first (d ∷ es) e numbered is = (numbered.0, numbered_push (first + 1) es e numbered.1 (is ∙ omega (arith)))

@@ -6,7 +6,6 @@ use Rattle.eu_base.proofs.Crossing.{SharedInstance-send, Task-send}
 use Rattle.eu_model.specs.contracts.commands.Command as command
 use Rattle.eu_model.specs.contracts.commands.Entry as entry
 use Rattle.eu_model.specs.contracts.commands.Reply as reply
-use Rattle.eu_model.specs.contracts.states.State as state
 
 pub Command-send : IsSend command.the_field.row
 Command-send = search (SharedInstance-send, sendable, heap.crosses, maps.crosses) depth 60 fits 60000
@@ -17,6 +16,3 @@ Reply-send = search (SharedInstance-send, Task-send, sendable, heap.crosses, map
 -- as an element of a journal
 pub Entry-send : IsSend entry.the_row
 Entry-send = search (Command-send, Reply-send, sendable) depth 40 fits 20000
-
-pub State-send : IsSend state.the_field.row
-State-send = search (SharedInstance-send, Task-send, sendable, heap.crosses, maps.crosses) depth 60 fits 60000

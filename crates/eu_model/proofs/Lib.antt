@@ -28,4 +28,3 @@ pub mod ServerLemmas
 pub mod ServedLemmas
 pub mod Crossing
 pub mod ChainLemmas
-pub mod StatusCountLemmas

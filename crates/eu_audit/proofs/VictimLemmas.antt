@@ -128,7 +128,3 @@ module _ (p : Plain) (t : ℕ) where
       back new (ws, is, v, to) =
           let same = sym (victims_are vs ws is) in
           (are_taken vs (subst (ArePlainVictims p t) same v), to ∙ ap (plain_evicted p t) same)
-
-  -- or they aren't
-  pub by_number : (vs : List Key) → (length vs ≡ plain_number_evicted p t → ⊥) → Judged (PlainStep p Evict t (Evicted vs)) None
-  by_number vs not new (ws, is, v, to) = not (ap length (victims_are vs ws is) ∙ v.number)

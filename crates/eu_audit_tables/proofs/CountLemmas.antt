@@ -14,7 +14,7 @@ use Rattle.std.proofs.lemmas.Cmp.{ranked, nat_cmp_total}
 use Rattle.std.proofs.lemmas.Map.{lookup-none}
 use Rattle.std.proofs.lemmas.Map.Entries.{none_below_head, none_past_head}
 use Rattle.std.proofs.lemmas.Map.Keys.{sorted_head, sorted_tail, IsDistinct-from_sorted}
-use Rattle.std.proofs.lemmas.List.Sums.{sum_by-cons, sum_by-le-sum_by, length-filter, count_by-le-length}
+use Rattle.std.proofs.lemmas.List.Sums.{sum_by-cons, sum_by-le-sum_by, length-filter}
 use borrow.Author.Tests.{ltb-true, ltb-false, lt-ltb, le-ltb}
 use Rattle.eu_base.specs.declared.names.Key.{Key}
 use Rattle.eu_base.specs.Values.{key_cmp}
@@ -180,9 +180,6 @@ pub held_before-insert : (es : List (Key × Listed)) (k : Key) (l : Listed) (lim
 held_before-insert es k l limit up none =
     let this : weight keys_exact (due limit) k (lookup (is_at (key_cmp k)) es) ≡ 0 = ap (weight keys_exact (due limit) k) none in
     omega (arith, this, sum_by-insert_entry keys_exact (due limit) keys_total es k l up)
-
-pub held_before-le : (es : List (Key × Listed)) (limit : ℕ) → held_before es limit ≤ length es
-held_before-le es limit = count_by-le-length (λ e. ltb (deadline_of e.1) limit) es
 
 one_before-grows : (deadline limit : ℕ) → one_before deadline limit ≤ one_before deadline (limit + 1)
 one_before-grows deadline limit = by (ltb deadline limit) refl

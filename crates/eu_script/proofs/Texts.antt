@@ -1,14 +1,12 @@
 -- What a script leaves of its journal, of the run whose account a desk keeps
 use Rattle.std.proofs.Common.{◌≡◌, ℕ, Bool, List, [], Option, Some, None, Result, Ok, Err, IfErr, refl, ap, inl, inr}
-use Rattle.std.proofs.KnownBytes.{Appends-kept, Appends-nil}
-use Rattle.std.specs.Io.KnownBytes.{Keeps}
 use Rattle.eu_base.specs.declared.settings.Config.{Config}
 use Rattle.eu_book.specs.Account.{Account}
 use Rattle.eu_book.specs.Peers.{state_of}
 use Rattle.eu_journal_text.specs.Text.{journal_text}
 use Rattle.eu_lines.specs.declared.faults.ScriptFault.{ScriptFault}
 use Rattle.eu_lines.specs.declared.faults.ScriptFault.TheVariants.{BadLine, Read, Write, OutOfMemory}
-use Rattle.eu_lines.specs.Script.{Streams, Wrote}
+use Rattle.eu_lines.specs.Script.{Streams}
 use Rattle.eu_model.specs.declared.commands.Entry.{Entry}
 use Rattle.eu_model.specs.declared.states.State.{State}
 use Rattle.eu_script.specs.declared.desk.ScriptDesk.{ScriptDesk}
@@ -21,10 +19,6 @@ use Rattle.eu_script.proofs.Scripts.{without_memory}
 pub beside : {A E P : Type 0} (result : Result A E) (Q : E → Type 0) → P → IfErr result (λ fault. Q fault → P)
 beside (Ok x) Q p = tt
 beside (Err fault) Q p = λ _. p
-
--- nothing was written
-pub nothing : (old new : Option (List ℕ)) (text : List ℕ) (failed : Bool) → Keeps old new → Wrote old new (Writes text failed (Err OutOfMemory))
-nothing old new text failed kept = ([], Appends-kept old old new [] (Appends-nil old) kept, refl)
 
 -- the text of the journal of the book that there is
 pub same_text : (book : Option Account) (a : Account) (base : State) (entries : List Entry) (end : State) → book ≡ Some a → base ≡ state_of a.base → entries ≡ a.entries → end ≡ state_of a.state

@@ -1,5 +1,5 @@
 -- What a server wrote to its journal, by the fault by which it ended
-use Rattle.std.proofs.Common.{◌≡◌, ◌⊎◌, ℕ, Bool, true, List, length, take, Option, Result, Ok, Err, OnOk, refl, sym, subst, inl, inr}
+use Rattle.std.proofs.Common.{◌≡◌, ◌⊎◌, ℕ, Bool, true, List, length, take, Option, Result, Err, refl, sym, subst, inl, inr}
 use Rattle.std.proofs.KnownBytes.{Appends-kept}
 use Rattle.std.proofs.Math.Seq.{take-length}
 use Rattle.std.specs.Io.KnownBytes.{Appends, Keeps}
@@ -12,11 +12,6 @@ use Rattle.eu_settle.specs.declared.closed.Closed.{Closed}
 use Rattle.eu_shared.specs.Closing.{account_of}
 
 module _ (old mid new : Option (List ℕ)) (text : List ℕ) (whole : Appends old mid text) (kept : Keeps mid new) where
-  -- a flush leaves what was written
-  pub flushed : (r : Result (Unit {0}) Fault) → OnOk r (Appends old new text)
-  flushed (Ok u) = Appends-kept old mid new text whole kept
-  flushed (Err e) = tt
-
   -- a text that was written whole is written in front
   pub front : (k : ℕ) × Appends old new (take k text)
   front = (length text, subst (Appends old new) (sym (take-length text)) (Appends-kept old mid new text whole kept))

@@ -58,10 +58,6 @@ texts_more : (ts : List Turn) (t : Turn) → flat_map text_of ts ++ text_of t �
 texts_more ts t = sym (flat_map-append text_of ts (t ∷ []) ∙ ap (λ (x : List ℕ). flat_map text_of ts ++ x) (append-nil (text_of t)))
 
 module _ {D C : Type 0} (asked : D → Ask → ℕ → Result Answer Fault → D → Type 0) (tells : C → ℕ → C → Type 0) where
-  -- the state with these bytes to come
-  abbrev state_with : D → C → Option (List ℕ) → Standing D C
-  state_with desk clock l = record { left = l; desk = desk; clock = clock }
-
   step_of : (l l' : Option (List ℕ)) (request : Request) (close : Bool) (desk desk' : D) (clock clock' : C) (c : Comes asked tells request desk clock desk' clock') → Between l l' (FindsNext (Some request))
       → Step asked tells (record { left = l; desk = desk; clock = clock }) (record { request = request; moment = c.moment; outcome = c.outcome; close = close }) (record { left = l'; desk = desk'; clock = clock' })
   step_of l l' request close desk desk' clock clock' c reads = record { reads = reads; told = c.told; comes = c.comes }

@@ -1,11 +1,11 @@
 -- The notes of when tasks were queued
-use Rattle.std.proofs.Common.{◌≡◌, ℕ, ◌+◌, ◌≤◌, Bool, true, false, true≢false, cond, not, ◌&&◌, inl, inr, List, [], ◌∷◌, ◌++◌, map, eqb, ltb, nat_cmp, is_eq, is_gt, Ordering, Less, Equal, Greater, refl, sym, ap, ◌∙◌, arith}
+use Rattle.std.proofs.Common.{◌≡◌, ℕ, ◌+◌, ◌≤◌, Bool, true, false, true≢false, cond, not, ◌&&◌, inl, inr, List, [], ◌∷◌, ◌++◌, map, eqb, ltb, nat_cmp, is_eq, is_gt, Less, Equal, Greater, refl, sym, ap, ◌∙◌, arith}
 use Rattle.std.specs.Ordering.{ordering_then}
 use Rattle.std.specs.BTreeSet.{BTreeSet, Updates, contains}
 use Rattle.std.proofs.lemmas.Bool.{and_left, and_right, or_parts, ne_eqb, eqb-true, ltb-true, lt-ltb, le-ltb, cases_Bool}
 use Rattle.eu_base.specs.declared.tasks.Task.{Task}
 use Rattle.eu_base.specs.Values.{key_cmp, same_name}
-use Rattle.eu_base.proofs.KeyLemmas.{key_eq-ties}
+use Rattle.eu_base.proofs.KeyLemmas.{is_eq-then, key_eq-ties}
 use Rattle.eu_model.specs.Server.{is_old, live}
 use Rattle.eu_audit_queue.specs.declared.name.Name.{Name}
 use Rattle.eu_audit_queue.specs.declared.ages.Note.{Note}
@@ -13,11 +13,6 @@ use Rattle.eu_audit_queue.specs.Names.{AreNoted, HasNoOld, HasOldOnly, has_name,
 use Rattle.eu_audit_queue.proofs.NameLemmas.{for_same}
 
 -- ---- the order of notes
-
-is_eq-then : (r s : Ordering) → is_eq (ordering_then r s) ≡ (is_eq r && is_eq s)
-is_eq-then Less s = refl
-is_eq-then Equal s = refl
-is_eq-then Greater s = refl
 
 is_eq-nat : (a b : ℕ) → is_eq (nat_cmp a b) ≡ eqb a b
 is_eq-nat a b = by (ltb a b) refl (eqb a b) refl

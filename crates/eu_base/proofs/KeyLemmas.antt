@@ -1,5 +1,5 @@
 -- The order of keys is total and tells keys apart, and equality is a tie
-use Rattle.std.proofs.Common.{◌≡◌, ℕ, List, ◌&&◌, refl, ap, sym, ◌∙◌}
+use Rattle.std.proofs.Common.{◌≡◌, ℕ, true, List, ◌&&◌, refl, ap, sym, ◌∙◌}
 use Rattle.std.specs.declared.cmp.Ordering.{Ordering}
 use Rattle.std.specs.declared.cmp.Ordering.TheVariants.{Less, Equal, Greater}
 use Rattle.std.specs.Bool.{Decides}
@@ -29,10 +29,15 @@ keys_exact a b h = ap (λ (p : List ℕ × List ℕ). record { app = p.0; id = p
 pub name_eq-ties : (a b : List ℕ) → name_eq a b ≡ eq_by_cmp name_cmp a b
 name_eq-ties = texts_ties
 
-is_eq-then : (r s : Ordering) → is_eq (ordering_then r s) ≡ (is_eq r && is_eq s)
+pub is_eq-then : (r s : Ordering) → is_eq (ordering_then r s) ≡ (is_eq r && is_eq s)
 is_eq-then Less s = refl
 is_eq-then Equal s = refl
 is_eq-then Greater s = refl
+
+pub equal_of_test : (r : Ordering) → is_eq r ≡ true → r ≡ Equal
+equal_of_test Less h = cc
+equal_of_test Equal h = refl
+equal_of_test Greater h = cc
 
 pub key_eq-ties : (a b : Key) → key_eq a b ≡ eq_by_cmp key_cmp a b
 key_eq-ties a b = (λ i. texts_ties a.app b.app i && texts_ties a.id b.id i) ∙ sym (is_eq-then (name_cmp a.app b.app) (name_cmp a.id b.id))

@@ -10,11 +10,11 @@ use Rattle.std.specs.Str.{bytes_eq}
 upper_lower : (c : ℕ) → to_ascii_uppercase (to_ascii_lowercase c) ≡ to_ascii_uppercase c
 upper_lower c = grind (arith, nat_tests)
 
-raised : (text : List ℕ) → map to_ascii_uppercase (map to_ascii_lowercase text) ≡ map to_ascii_uppercase text
+pub raised : (text : List ℕ) → map to_ascii_uppercase (map to_ascii_lowercase text) ≡ map to_ascii_uppercase text
 raised [] = refl
 raised (c ∷ text) = rw (upper_lower c, raised text) refl
 
-lowered : (text : List ℕ) → map to_ascii_lowercase (map to_ascii_uppercase text) ≡ map to_ascii_lowercase text
+pub lowered : (text : List ℕ) → map to_ascii_lowercase (map to_ascii_uppercase text) ≡ map to_ascii_lowercase text
 lowered [] = refl
 lowered (c ∷ text) = rw (lowercase-uppercase c, lowered text) refl
 

@@ -13,12 +13,10 @@ use Rattle.eu_json.specs.Tree.{but_member}
 use Rattle.std.proofs.lemmas.Bool.{or_parts}
 use Rattle.eu_text.proofs.OrderLemmas.{IsBelow}
 use Rattle.eu_text.proofs.FitLemmas.{MembersOrdered}
+use Rattle.eu_text.proofs.TextLemmas.{equal_names}
 
 same_name : (name : List ℕ) → slice_cmp nat_cmp name name ≡ Equal
 same_name name = tied_itself nat_list_cmp_total name
-
-equal_names : (k l : List ℕ) → slice_cmp nat_cmp k l ≡ Equal → k ≡ l
-equal_names k l is = (bytes_eq-Decides k l).0 (sym (is_eq-slice_cmp k l) ∙ ap is_eq is)
 
 either : (o : Ordering) (a b : Option Data) → is_eq o ≡ false → match_ordering o a b a ≡ a
 either Equal a b e = absurd (true≢false e)

@@ -3,7 +3,7 @@ use Rattle.std.proofs.Common.{◌≡◌, ℕ, zero, suc, ◌+◌, ◌≤◌, Boo
 use Rattle.std.specs.List.{list_any, IsDistinct, AllByRecursion}
 use Rattle.std.specs.Map.{lookup, keys_of}
 use Rattle.std.specs.Option.{option_map}
-use Rattle.std.proofs.lemmas.List.{append-nil, map-append, reverse-reverse}
+use Rattle.std.proofs.lemmas.List.{append-nil, reverse-reverse}
 use Rattle.std.proofs.lemmas.List.Elements.{filter-append}
 use Rattle.std.proofs.lemmas.List.Folds.{list_any-append}
 use Rattle.std.proofs.lemmas.Map.Keys.{IsDistinct-head, IsDistinct-tail}
@@ -18,7 +18,7 @@ use Rattle.eu_base.specs.Values.{is_action, same_name, key_eq}
 use Rattle.eu_model.specs.Server.{waits, is_old, live}
 use Rattle.eu_outbox.specs.declared.waiting.Waiting.{Waiting}
 use Rattle.eu_outbox.specs.Steps.{IsApart, in_line, named, placed, task_of}
-use Rattle.eu_outbox.proofs.NameLemmas.{first_false, first_true, second_true, same_action, same_key, list_any-reverse, map-reverse, filter-reverse, reverse-push}
+use Rattle.eu_outbox.proofs.NameLemmas.{first_false, first_true, second_true, same_action, same_key, list_any-reverse, map-reverse, filter-reverse}
 use Rattle.eu_outbox.proofs.TaskLemmas.{for_another, for-none, placed-left, placed-right, placed-before, IsApart-cross}
 
 pub at_ok : {X E : Type 0} {r : Result X E} {x : X} (P : Type 0) → OnOk r P → r ≡ Ok x → P
@@ -150,10 +150,6 @@ module _ {X : Type 0} where
   all_taken (suc i) (suc n) [] h le = refl
   all_taken zero (suc n) (y ∷ ys) h le = absurd (cc)
   all_taken (suc i) (suc n) (y ∷ ys) h le = ap (λ l. y ∷ l) (all_taken i n ys h (omega arith))
-
--- the last of the older is the first of all
-pub first_of_line : (es fs : List (TaskName × Waiting)) (e : TaskName × Waiting) → in_line (es ++ e ∷ []) fs ≡ task_of e ∷ in_line es fs
-first_of_line es fs e = ap (λ l. reverse l ++ map task_of fs) (map-append task_of es (e ∷ [])) ∙ ap (λ l. l ++ map task_of fs) (reverse-push (map task_of es) (task_of e))
 
 module _ {X : Type 0} where
   pub one_at : (xs : List X) (i : ℕ) (x : X) → slice_get xs i ≡ Some x → take 1 (drop i xs) ≡ x ∷ []

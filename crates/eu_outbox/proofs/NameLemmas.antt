@@ -1,9 +1,6 @@
 -- Names of tasks, and tests on lists
 use Rattle.std.proofs.Common.{◌≡◌, ℕ, zero, suc, Bool, true, false, true≢false, cond, ◌&&◌, ◌||◌, List, [], ◌∷◌, ◌++◌, map, filter, reverse, refl, sym, ap, ◌∙◌, arith}
 use Rattle.std.specs.List.{list_any}
-use Rattle.std.specs.declared.cmp.Ordering.{Ordering}
-use Rattle.std.specs.declared.cmp.Ordering.TheVariants.{Less, Equal, Greater}
-use Rattle.std.specs.Ordering.{is_eq}
 use Rattle.std.proofs.lemmas.Bool.Decides.{nat_tests}
 use Rattle.std.proofs.lemmas.Cmp.{nat_eq_equiv}
 use Rattle.std.proofs.lemmas.List.{append-nil, map-append, reverse-append}
@@ -15,7 +12,7 @@ use Rattle.eu_base.specs.declared.tasks.Action.TheVariants.{Register, Heartbeat,
 use Rattle.eu_base.specs.declared.tasks.Task.{Task}
 use Rattle.eu_base.specs.declared.tasks.TaskName.{TaskName}
 use Rattle.eu_base.specs.Values.{place_of_action, is_action, same_name, key_cmp, key_eq}
-use Rattle.eu_base.proofs.KeyLemmas.{keys_exact, key_eq-ties, key_eq-flips}
+use Rattle.eu_base.proofs.KeyLemmas.{equal_of_test, keys_exact, key_eq-ties, key_eq-flips}
 
 pub first_true : (a b : Bool) → (a && b) ≡ true → a ≡ true
 first_true true b h = refl
@@ -53,11 +50,6 @@ pub same_action : (a b : Action) → is_action a b ≡ true → a ≡ b
 same_action a b h =
     let e : place_of_action a ≡ place_of_action b = grind (arith, nat_tests, h) in
     sym (at_its_place a) ∙ ap action_at e ∙ at_its_place b
-
-equal_of_test : (r : Ordering) → is_eq r ≡ true → r ≡ Equal
-equal_of_test Less h = cc
-equal_of_test Equal h = refl
-equal_of_test Greater h = cc
 
 pub same_key : (a b : Key) → key_eq a b ≡ true → a ≡ b
 same_key a b h = keys_exact a b (equal_of_test (key_cmp a b) (sym (key_eq-ties a b) ∙ h))

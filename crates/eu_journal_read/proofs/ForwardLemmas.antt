@@ -16,7 +16,8 @@ use Rattle.eu_model.specs.declared.commands.Reply.TheVariants as reply
 use Rattle.eu_model.specs.declared.queues.Queue.{Queue}
 use Rattle.eu_model.specs.declared.states.State.{State}
 use Rattle.eu_model.specs.declared.views.Listed.{Listed}
-use Rattle.eu_journal_read.specs.Drafts.{Draft, begun, entry_of, idle, state_more, state_of}
+use Rattle.eu_model.specs.Server.{idle}
+use Rattle.eu_journal_read.specs.Drafts.{Draft, begun, entry_of, state_more, state_of}
 use Rattle.eu_journal_read.specs.Front.{Front}
 use Rattle.eu_journal_read.specs.Stages.{closed, take_line}
 use Rattle.eu_journal_read.specs.declared.entries.Asked.{Asked}

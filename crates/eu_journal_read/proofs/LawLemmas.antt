@@ -1,11 +1,12 @@
 -- A journal that was written says itself, and no other
-use Rattle.std.proofs.Common.{◌≡◌, ◌≤◌, ℕ, List, [], ◌∷◌, ◌++◌, length, map, refl, ap, sym, ◌∙◌, subst, append_assoc, append-nil}
+use Rattle.std.proofs.Common.{◌≡◌, ◌≤◌, ℕ, List, [], ◌∷◌, ◌++◌, length, map, refl, ap, sym, ◌∙◌, subst, append-nil}
 use Rattle.std.proofs.lemmas.List.{map-append}
 use Rattle.std.specs.List.{AllByRecursion}
 use Rattle.eu_lines.specs.Lines.{lines_of}
 use Rattle.eu_journal.proofs.LineLemmas.{lines_come_back}
 use Rattle.eu_journal.specs.Law.{IsLine, bare_line}
 use Rattle.eu_journal.specs.declared.lines.JournalLine.{JournalLine}
+use Rattle.eu_journal_text.proofs.PutLemmas.{lines_text_append}
 use Rattle.eu_journal_text.specs.Text.{IsReadBack, journal_lines, journal_text, line_text, lines_text, seal_line}
 use Rattle.eu_journal_read.specs.Drafts.{state_of}
 use Rattle.eu_journal_read.specs.Law.{IsShallow, IsShort, JournalsComeBack, OneJournal}
@@ -31,10 +32,6 @@ all_short : (ls : List JournalLine) → AllByRecursion IsShort ls → AllByRecur
 all_short [] all = tt
 all_short (l ∷ ls) all = (all.0, all_short ls all.1)
 
-lines_text-append : (xs ys : List JournalLine) → lines_text (xs ++ ys) ≡ lines_text xs ++ lines_text ys
-lines_text-append [] ys = refl
-lines_text-append (x ∷ xs) ys = ap (λ (t : List ℕ). line_text x ++ t) (lines_text-append xs ys) ∙ sym (append_assoc (line_text x) (lines_text xs) (lines_text ys))
-
 pub journals_back : JournalsComeBack
 journals_back base entries end is back shallow short few =
     let body = journal_lines base entries end in
@@ -43,7 +40,7 @@ journals_back base entries end is back shallow short few =
     let of_back = all_parts IsReadBack body seal back in
     let of_shallow = all_parts IsShallow body seal shallow in
     let texts : map text_of (body ++ seal ∷ []) ≡ map text_of body ++ text_of seal ∷ [] = map-append text_of body (seal ∷ []) in
-    let whole : journal_text base entries end ≡ lines_text (body ++ seal ∷ []) = rw (lines_text-append body (seal ∷ []), append-nil (line_text seal)) refl in
+    let whole : journal_text base entries end ≡ lines_text (body ++ seal ∷ []) = rw (lines_text_append body (seal ∷ []), append-nil (line_text seal)) refl in
     record {
       lines = map text_of body;
       last = text_of seal;

@@ -18,7 +18,8 @@ use Rattle.eu_model.specs.declared.commands.Reply.{Reply}
 use Rattle.eu_model.specs.declared.commands.Reply.TheVariants as reply
 use Rattle.eu_model.specs.declared.queues.Queue.{Queue}
 use Rattle.eu_model.specs.declared.views.Listed.{Listed}
-use Rattle.eu_journal_read.specs.Drafts.{Draft, answered, begun, entry_more, has_no_peers, flies_more, has_none, idle, reply_more, state_more, state_of, waits_more}
+use Rattle.eu_model.specs.Server.{idle}
+use Rattle.eu_journal_read.specs.Drafts.{Draft, answered, begun, entry_more, has_no_peers, flies_more, has_none, reply_more, state_more, state_of, waits_more}
 use Rattle.eu_journal_read.specs.Front.{Front}
 use Rattle.eu_journal_read.specs.Stages.{closed, take_head, take_line, take_of_entry, take_of_state}
 use Rattle.eu_journal_read.specs.declared.entries.Asked.{Asked}

@@ -9,6 +9,7 @@ use Rattle.eu_model.specs.declared.commands.Reply.TheVariants as reply
 use Rattle.eu_model.specs.declared.queues.Queue.{Queue}
 use Rattle.eu_model.specs.declared.states.State.{State}
 use Rattle.eu_model.specs.declared.views.Listed.{Listed}
+use Rattle.eu_model.specs.Server.{idle}
 use Rattle.eu_base.specs.Gives.{◌>>=◌}
 use Rattle.eu_journal_values.specs.declared.faults.LineFault.{LineFault}
 use Rattle.eu_journal_values.specs.declared.faults.LineFault.TheVariants.{NotALine, OutOfMemory}
@@ -56,9 +57,6 @@ has_none xs = length xs == 0
 
 abbrev pub has_no_peers : Draft → Bool
 has_no_peers d = has_none d.queues && not (is_some d.newest)
-
-abbrev pub idle : Queue
-idle = record { waiting = []; flight = [] }
 
 -- what waits comes before what is in flight
 abbrev pub waits_more : Option Queue → Task → Result Queue LineFault

@@ -1,7 +1,8 @@
 //! A state as far as it was read.
 ghost use Rattle.std.specs.Prelude.{◌≡◌, ◌++◌, IfOk, None, Some, option_to_list};
 ghost use Rattle.eu_journal_values.specs.Answered.{Gives};
-ghost use Rattle.eu_journal_read.specs.Drafts.{begun, flies_more, has_no_peers, idle, state_more, state_of, waits_more};
+ghost use Rattle.eu_model.specs.Server.{idle};
+ghost use Rattle.eu_journal_read.specs.Drafts.{begun, flies_more, has_no_peers, state_more, state_of, waits_more};
 
 use eu_base::{Id, Status, Task, Tasks};
 use eu_journal::{Head, JournalLine};

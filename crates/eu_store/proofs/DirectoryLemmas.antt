@@ -7,7 +7,6 @@ use Rattle.std.specs.Map.Iter.{deref_pair}
 use Rattle.std.specs.Option.{option_map, option_map_or}
 use Rattle.std.proofs.lemmas.List.{length-map, map-append, map_more, take_more}
 use Rattle.std.proofs.lemmas.Option.{slice_get-get_or, slice_get-map, slice_get_within}
-use Rattle.indexmap.specs.IndexMap.{set_value_at}
 use Rattle.eu_base.specs.declared.instances.Instance.{Instance}
 use Rattle.eu_base.specs.declared.names.Key.{Key}
 use Rattle.eu_base.specs.Values.{key_eq}
@@ -22,16 +21,6 @@ use Rattle.eu_store.proofs.FoundLemmas.{entry_there}
 use Rattle.eu_store.proofs.PartLemmas.{part_lookup}
 use Rattle.eu_store.proofs.PlaceLemmas.{same_all}
 use Rattle.eu_store.proofs.RowLemmas.{keys_shown}
-
--- ---- a value that is written at a place
-
-first : (x y : Listed) → ◌≡◌ {A = Option Listed} (Some x) (Some y) → x ≡ y
-first x y h = cc
-
-pub instances_stay : (es : Entries) (i : ℕ) (l n : Listed) → slice_get (values_of es) i ≡ Some l → n.instance ≡ l.instance → instances_of (set_value_at es i n) ≡ instances_of es
-instances_stay [] i l n there same = refl
-instances_stay (e ∷ es) zero l n there same = ap (λ x. x ∷ instances_of es) (same ∙ sym (ap (λ (x : Listed). x.instance) (first e.1 l there)))
-instances_stay (e ∷ es) (suc i) l n there same = ap (λ xs. e.1.instance ∷ xs) (instances_stay es i l n there same)
 
 -- ---- what is listed
 

@@ -1,11 +1,8 @@
 -- A change of the table is the same change of its deadlines.
-use Rattle.std.proofs.Common.{◌≡◌, ℕ, suc, zero, ◌+◌, ◌-◌, ◌<◌, Bool, true, cond, List, [], ◌∷◌, ◌++◌, length, set, take, get_or, position, slice_get, refl, sym, ap, subst, ◌∙◌, arith, Option, Some, None, true≢false}
+use Rattle.std.proofs.Common.{◌≡◌, ℕ, suc, zero, ◌+◌, ◌-◌, ◌<◌, Bool, true, cond, List, [], ◌∷◌, ◌++◌, length, set, take, get_or, position, slice_get, refl, sym, ap, subst, ◌∙◌, arith, Option, Some, None}
 use Rattle.std.specs.Option.{option_map}
 use Rattle.std.specs.List.{swap_remove}
 use Rattle.std.specs.Map.{keys_of, values_of, lookup}
-use Rattle.std.specs.declared.cmp.Ordering.{Ordering}
-use Rattle.std.specs.declared.cmp.Ordering.TheVariants.{Less, Equal, Greater}
-use Rattle.std.specs.Ordering.{is_eq}
 use Rattle.std.specs.Cmp.{IsEquivalence, eq_by_cmp_equiv}
 use Rattle.std.proofs.lemmas.List.Quantifiers.{position-Some}
 use Rattle.indexmap.specs.IndexMap.{IndexMap, IsUnique, set_value_at}
@@ -16,7 +13,7 @@ use Rattle.std.proofs.lemmas.Map.Entries.{lookup_from_place}
 use Rattle.std.proofs.lemmas.Option.{slice_get-map}
 use Rattle.eu_base.specs.declared.names.Key.{Key}
 use Rattle.eu_base.specs.Values.{key_cmp, key_eq}
-use Rattle.eu_base.proofs.KeyLemmas.{keys_total, keys_exact, key_eq-ties, key_eq-tie}
+use Rattle.eu_base.proofs.KeyLemmas.{equal_of_test, keys_total, keys_exact, key_eq-ties, key_eq-tie}
 use Rattle.eu_model.specs.declared.views.Listed.{Listed}
 use Rattle.eu_store.specs.Stored.{deadline_of, deadlines}
 
@@ -67,13 +64,8 @@ entry_at [] i l d there = absurd (nothing there)
 entry_at (e ∷ es) zero l d there = ap (option_map (λ (x : Listed). (e.0, x))) there
 entry_at (e ∷ es) (suc i) l d there = entry_at es i l d there
 
-tied : (r : Ordering) → is_eq r ≡ true → r ≡ Equal
-tied Less e = absurd (true≢false (sym e))
-tied Equal e = refl
-tied Greater e = absurd (true≢false (sym e))
-
 same_key : (k x : Key) → key_eq k x ≡ true → x ≡ k
-same_key k x e = sym (keys_exact k x (tied (key_cmp k x) (sym (key_eq-ties k x) ∙ e)))
+same_key k x e = sym (keys_exact k x (equal_of_test (key_cmp k x) (sym (key_eq-ties k x) ∙ e)))
 
 -- where a key was found, the entry has that key
 entry_of : (k : Key) (es : List (Key × Listed)) (i : ℕ) (l : Listed) → position (key_eq k) (keys_of es) ≡ Some i → slice_get (values_of es) i ≡ Some l → slice_get es i ≡ Some (k, l)
@@ -103,15 +95,6 @@ pub length-set_value_at : (es : List (Key × Listed)) (i : ℕ) (l : Listed) →
 length-set_value_at [] i l = refl
 length-set_value_at (e ∷ es) zero l = refl
 length-set_value_at (e ∷ es) (suc i) l = ap suc (length-set_value_at es i l)
-
--- a value with the deadline of the one that stands at a place is written there
-pub deadlines-stay : (es : List (Key × Listed)) (i : ℕ) (l n : Listed) → slice_get (values_of es) i ≡ Some l → deadline_of n ≡ deadline_of l → deadlines (set_value_at es i n) ≡ deadlines es
-deadlines-stay [] i l n there same = refl
-deadlines-stay (e ∷ es) zero l n there same = ap (λ d. d ∷ deadlines es) (same ∙ sym (ap deadline_of (first there)))
-  where
-    first : ◌≡◌ {A = Option Listed} (Some e.1) (Some l) → e.1 ≡ l
-    first h = cc
-deadlines-stay (e ∷ es) (suc i) l n there same = ap (λ ds. deadline_of e.1 ∷ ds) (deadlines-stay es i l n there same)
 
 -- what stands at a place where a key was found
 pub taken_at : (k : Key) (es : List (Key × Listed)) (i : ℕ) (e : Key × Listed) (o : Option Listed) → position (key_eq k) (keys_of es) ≡ Some i → slice_get (values_of es) i ≡ o → Some e ≡ slice_get es i → (e.0 ≡ k) × (Some e.1 ≡ o)

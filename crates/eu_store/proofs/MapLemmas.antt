@@ -1,5 +1,5 @@
 -- What the table's clauses say of the finite map that its entries make.
-use Rattle.std.proofs.Common.{◌≡◌, ℕ, IfSome, Result, Ok, Err, OnOk, subst, ◌+◌, ◌⊎◌, inl, inr, true≢false, Bool, true, false, List, [], ◌∷◌, length, refl, ap, sym, ◌∙◌, Option, None, Some, is_some, arith}
+use Rattle.std.proofs.Common.{◌≡◌, ℕ, IfSome, Result, Ok, Err, OnOk, subst, ◌+◌, true≢false, Bool, true, false, List, [], ◌∷◌, length, refl, ap, sym, ◌∙◌, Option, None, Some, is_some, arith}
 use Rattle.std.specs.Map.{keys_of}
 use Rattle.std.specs.List.{IsDistinct}
 use Rattle.std.specs.Ordering.{eq_by_cmp}
@@ -16,9 +16,9 @@ use Rattle.eu_deadlines.specs.Indexed.{AreBefore}
 use Rattle.std.proofs.Common.{◌-◌, ◌<◌, get_or, slice_get}
 use Rattle.std.proofs.lemmas.Map.Keys.{IsDistinct-IsPermutation}
 use Rattle.std.proofs.lemmas.List.Sorted.{list_any-IsPermutation}
-use borrow.Author.Tests.{ltb-true, ltb-false}
-use Rattle.std.proofs.Common.{ltb, zero, suc}
-use Rattle.std.proofs.lemmas.Bool.{cases_Bool}
+use borrow.Author.Tests.{ltb-true}
+use Rattle.std.proofs.Common.{zero, suc}
+use Rattle.std.proofs.lemmas.Bool.{lt-ltb}
 use Rattle.eu_store.specs.Stored.{deadline_of, deadlines}
 use Rattle.eu_store.proofs.TableLemmas.{map_of}
 use Rattle.eu_base.specs.Values.{key_cmp, key_eq}
@@ -36,13 +36,6 @@ none_from_is_some (Some x) e = absurd (true≢false e)
 
 pub at_some : {X : Type 0} {o : Option X} {x : X} (P : X → Type 0) → IfSome o P → o ≡ Some x → P x
 at_some P h e = subst (λ s. IfSome s P) e h
-
-ltb_of : (a b : ℕ) → a < b → ltb a b ≡ true
-ltb_of a b h = by (cases_Bool (ltb a b))
-  where
-    by : (ltb a b ≡ true) ⊎ (ltb a b ≡ false) → ltb a b ≡ true
-    by (inl e) = e
-    by (inr e) = absurd (omega (arith, ltb-false a b e))
 
 length-keys : (es : List (Key × Listed)) → length (keys_of es) ≡ length es
 length-keys [] = refl
@@ -80,7 +73,7 @@ sorted_expired moment extra es found ks sorted apart long told before moved up =
     tied = subst (λ (e : Key → Key → Bool). IsDistinct e (keys_of es)) key_eq-tie apart
 
     sound : (j : ℕ) (k : Key) (v : Listed) → j < length found → slice_get es (get_or found j 0) ≡ Some (k, v) → late v ≡ true
-    sound j k v h at = ltb_of (deadline_of v + extra) moment (omega (arith, deadline_there es (get_or found j 0) k v at, (before.sound j h).1))
+    sound j k v h at = lt-ltb (deadline_of v + extra) moment (omega (arith, deadline_there es (get_or found j 0) k v at, (before.sound j h).1))
 
     complete : (p : ℕ) (k : Key) (v : Listed) → slice_get es p ≡ Some (k, v) → late v ≡ true → (j : ℕ) × (j < length found) × (get_or found j 0 ≡ p)
     complete p k v at due =

@@ -18,15 +18,12 @@ use Rattle.std.proofs.lemmas.Map.Entries.{lookup_from_place}
 use Rattle.std.proofs.lemmas.Option.{slice_get-map, slice_get_within, get_or_from_slice_get}
 use Rattle.eu_base.specs.declared.names.Key.{Key}
 use Rattle.eu_base.specs.Values.{name_cmp, key_cmp, key_eq}
-use Rattle.eu_base.proofs.KeyLemmas.{names_total, names_exact, name_eq-ties, keys_total, keys_exact, key_eq-Decides}
+use Rattle.eu_base.proofs.KeyLemmas.{equal_of_test, names_total, names_exact, name_eq-ties, keys_total, keys_exact, key_eq-Decides}
 use Rattle.eu_model.specs.View.{is_of}
 use Rattle.eu_model.specs.declared.views.Listed.{Listed}
 use Rattle.eu_store.specs.Order.{at_places, at_place, is_below, is_before, is_through, keys_held, IsInOrder}
-use Rattle.eu_store.specs.Limit.{within}
 use Rattle.eu_store.specs.Stored.{rows_of, listing_of}
-use Rattle.eu_store.specs.declared.directory.Limit.{Limit}
-use Rattle.eu_store.specs.declared.directory.Limit.TheVariants.{Below, Before, Through}
-use Rattle.eu_store.proofs.TableLemmas.{by_key, map_of, equal_of_test, get_at, insert_same}
+use Rattle.eu_store.proofs.TableLemmas.{by_key, map_of, get_at, insert_same}
 use Rattle.eu_model.proofs.ListingLemmas.{filter_true}
 use Rattle.eu_store.proofs.CountLemmas.{entries_none, get_removed, insert_removed}
 use Rattle.eu_store.proofs.FoundLemmas.{any_place, entry_there}
@@ -193,10 +190,6 @@ keys_taken_out m k l i there low at =
 
 -- ---- each step
 
-pub order_none : (es : Entries) (ps : List ℕ) → es ≡ [] → ps ≡ [] → IsInOrder es ps
-order_none es ps none no_place =
-    (λ i. at_places (keys_of (none i)) (no_place i)) ∙ ap (map (λ (k : Key). Some k)) (sym (keys_in_order [])) ∙ ap (λ (l : Entries). map (λ (k : Key). Some k) (keys_held l)) (sym none)
-
 keys_push : (es : Entries) (k : Key) (v : Listed) → keys_of (es ++ (k, v) ∷ []) ≡ keys_of es ++ k ∷ []
 keys_push [] k v = refl
 keys_push (e ∷ es) k v = ap (λ ks. e.0 ∷ ks) (keys_push es k v)
@@ -317,12 +310,6 @@ through_holds_first app es = holds_first (is_through app) (λ x y up holds. by x
     by : (x y : Key) → is_through app y ≡ true → (name_cmp x.app y.app ≡ Less) ⊎ (name_cmp x.app y.app ≡ Equal) → is_through app x ≡ true
     by x y holds (inl less) = below app x y (name_cmp y.app app) refl holds less
     by x y holds (inr same) = ap is_le (names_total.congr x.app y.app app same) ∙ holds
-
--- what is within a limit are the first keys
-pub within_first : (limit : Limit) (es : Entries) → IsPartitionedBy (within limit) (keys_held es)
-within_first (Below k) es = below_holds_first k.now es
-within_first (Before app) es = before_holds_first app.now es
-within_first (Through app) es = through_holds_first app.now es
 
 before_through : (app : List ℕ) (x : Key) → is_before app x ≡ true → is_through app x ≡ true
 before_through app x = within (name_cmp x.app app)

@@ -17,7 +17,7 @@ use Rattle.eu_store.specs.declared.directory.Directory.{Directory}
 use Rattle.eu_store.specs.Order.{instance_at, instances_in, instances_of, window, AreOrdered, AreParts, AreWhole, IsForgotten, Part}
 use Rattle.eu_store.proofs.FoundLemmas.{entry_there}
 use Rattle.eu_store.proofs.OrderLemmas.{order_kept}
-use Rattle.eu_store.proofs.PlaceLemmas.{get_set_other, get_take, map_swapped, swapped_other}
+use Rattle.eu_store.proofs.PlaceLemmas.{get_take, map_swapped, swapped_other}
 
 -- a place is in the part that has its number
 parted : (p : ℕ) → (p / 512 * 512 + p % 512 ≡ p) × (p % 512 < 512)
@@ -178,26 +178,6 @@ pub ordered_alike : (es fs : Entries) (kept : Option Directory) → keys_of fs �
 ordered_alike es fs None keys instances is = tt
 ordered_alike es fs (Some d) keys instances is = (order_kept es fs d.places.items is.0 keys, parts_stay es fs d.parts.items is.1 instances)
 
--- what a part that is let go leaves
-pub forgotten : (parts : List (Option Part)) (p : ℕ) → IsForgotten p parts (set parts (p / 512) None)
-forgotten parts p n c at = by (cases_lt n (p / 512)) (cases_lt (p / 512) n)
-  where
-    none_there : (xs : List (Option Part)) (i : ℕ) → slice_get (set xs i None) i ≡ Some (Some c) → ⊥
-    none_there [] i h = cc
-    none_there (x ∷ xs) zero h = cc
-    none_there (x ∷ xs) (suc i) h = none_there xs i h
-
-    other : (n ≡ p / 512 → ⊥) → (slice_get parts n ≡ Some (Some c)) × (p / 512 ≢ n)
-    other apart = (sym (get_set_other parts (p / 512) n None apart) ∙ at, λ e. apart (sym e))
-
-    by : (n < p / 512) ⊎ (p / 512 ≤ n) → (p / 512 < n) ⊎ (n ≤ p / 512) → (slice_get parts n ≡ Some (Some c)) × (p / 512 ≢ n)
-    by (inl under) _ = other (λ e. omega (arith, under, e))
-    by (inr _) (inl over) = other (λ e. omega (arith, over, e))
-    by (inr a) (inr b) = absurd (none_there parts (p / 512) (ap (λ m. slice_get (set parts (p / 512) None) m) (sym (same a b)) ∙ at))
-      where
-        same : p / 512 ≤ n → n ≤ p / 512 → n ≡ p / 512
-        same a b = omega (arith, a, b)
-
 pub kept_part : (es : Entries) (parts after : List (Option Part)) (number : ℕ) (part : Part) → AreParts es parts → (arc_value part).items ≡ window number (instances_of es)
     → ((n : ℕ) (c : Part) → slice_get after n ≡ Some (Some c) → (slice_get parts n ≡ Some (Some c)) ⊎ ((n ≡ number) × (c ≡ part))) → AreParts es after
 kept_part es parts after number part right made left n c at = by (left n c at)
@@ -205,20 +185,6 @@ kept_part es parts after number part right made left n c at = by (left n c at)
     by : (slice_get parts n ≡ Some (Some c)) ⊎ ((n ≡ number) × (c ≡ part)) → (arc_value c).items ≡ window n (instances_of es)
     by (inl before) = right n c before
     by (inr now) = ap (λ (q : Part). (arc_value q).items) now.1 ∙ made ∙ ap (λ m. window m (instances_of es)) (sym now.0)
-
-pub set_part : (parts : List (Option Part)) (number : ℕ) (part : Part) (n : ℕ) (c : Part) → slice_get (set parts number (Some part)) n ≡ Some (Some c) → (slice_get parts n ≡ Some (Some c)) ⊎ ((n ≡ number) × (c ≡ part))
-set_part [] number part n c at = inl at
-set_part (x ∷ xs) zero part zero c at = inr (refl, same at)
-  where
-    same : ◌≡◌ {A = Option (Option Part)} (Some (Some part)) (Some (Some c)) → c ≡ part
-    same h = cc
-set_part (x ∷ xs) zero part (suc n) c at = inl at
-set_part (x ∷ xs) (suc number) part zero c at = inl at
-set_part (x ∷ xs) (suc number) part (suc n) c at = by (set_part xs number part n c at)
-  where
-    by : (slice_get xs n ≡ Some (Some c)) ⊎ ((n ≡ number) × (c ≡ part)) → (slice_get xs n ≡ Some (Some c)) ⊎ ((suc n ≡ suc number) × (c ≡ part))
-    by (inl before) = inl before
-    by (inr now) = inr (ap suc now.0, now.1)
 
 -- ---- what all parts show
 

@@ -1,5 +1,5 @@
 -- Entries whose keys pass a test, taken in any order and sorted by their keys, are those of the finite map in its order
-use Rattle.std.proofs.Common.{◌≡◌, ◌+◌, ◌<◌, T, Bool, true, false, cond, ◌&&◌, List, [], ◌∷◌, map, filter, length, refl, ap, sym, subst, ◌∙◌, None, Some, arith, IsPermutation, IsSorted}
+use Rattle.std.proofs.Common.{◌≡◌, ◌+◌, ◌<◌, T, Bool, cond, List, [], ◌∷◌, map, filter, length, refl, ap, sym, subst, ◌∙◌, None, Some, arith, IsPermutation, IsSorted}
 use Rattle.std.specs.declared.cmp.Ordering.{Ordering}
 use Rattle.std.specs.declared.cmp.Ordering.TheVariants.{Less, Equal}
 use Rattle.std.specs.List.{IsDistinct, AllByRecursion}
@@ -17,11 +17,7 @@ use Rattle.std.proofs.lemmas.Map.Keys.{IsDistinct-IsPermutation, sorted_head, so
 use Rattle.std.proofs.lemmas.Map.Lookups.{CmpEqualImpliesEq}
 use Rattle.std.proofs.lemmas.Map.Made.{IsDistinct-keys_filter}
 use Rattle.indexmap.proofs.MapLemmas.{lookup_permutation}
-use Rattle.eu_store.proofs.SortedLemmas.{strictly_sorted}
-
-both : (a b : Bool) → T a → T b → T (a && b)
-both true b p q = q
-both false b p q = p
+use Rattle.eu_store.proofs.SortedLemmas.{both, strictly_sorted}
 
 module _ {K X : Type 0} (R : K → K → Ordering) where
   below_rows : (x : K) (rows : List (K × X)) → AllByRecursion (λ y. R x y ≡ Less) (keys_of rows) → T (below_all R x rows)

@@ -10,14 +10,14 @@ use Rattle.std.specs.List.{swap_remove, list_any, IsDistinct, AllByRecursion}
 use Rattle.std.specs.List.Sorted.{IsStrictlySortedBy}
 use Rattle.std.specs.FinMap.{get, entries, entries_sorted, get-from_entries, contains_key-keys}
 use Rattle.std.specs.FinMap.Entries.{find}
-use Rattle.std.proofs.lemmas.Bool.{eq-eqb, eqb-true}
+use Rattle.std.proofs.lemmas.Bool.{eqb-true}
 use Rattle.std.proofs.lemmas.Cmp.{tied_itself}
 use Rattle.std.proofs.lemmas.Map.Entries.{lookup_from_place}
 use Rattle.std.proofs.lemmas.Option.{slice_get-map, slice_get-get_or, slice_get_within, get_or_from_slice_get}
 use Rattle.std.proofs.lemmas.List.{drop_more, length-map, length-take-le, take_more, take_more_set}
 use Rattle.eu_base.specs.declared.names.Key.{Key}
 use Rattle.eu_base.specs.Values.{key_cmp, key_eq}
-use Rattle.eu_base.proofs.KeyLemmas.{keys_total, keys_exact}
+use Rattle.eu_base.proofs.KeyLemmas.{equal_of_test, keys_total, keys_exact}
 use Rattle.eu_model.specs.declared.views.Listed.{Listed}
 use Rattle.eu_store.specs.declared.directory.Directory.{Directory}
 use Rattle.eu_store.specs.Order.{at_places, keys_held, AreOrdered, IsInOrder}
@@ -27,7 +27,7 @@ use Rattle.eu_store.proofs.IndexLemmas.{key_equiv}
 use Rattle.eu_store.proofs.OrderLemmas.{held, one_place, Entries}
 use Rattle.eu_store.proofs.PlaceLemmas.{at_from, at_length, get_take, map_swapped, place_within, same_some}
 use Rattle.eu_store.proofs.SortedLemmas.{same_keys, sorted_keys}
-use Rattle.eu_store.proofs.TableLemmas.{by_key, equal_of_test, get_at}
+use Rattle.eu_store.proofs.TableLemmas.{by_key, get_at}
 
 -- what stands at a place is held
 pub held_at : (es : Entries) (p : ℕ) (e : Key × Listed) → IsDistinct key_eq (keys_of es) → slice_get es p ≡ Some e → get (held es) e.0 ≡ Some e.1
@@ -245,9 +245,6 @@ from_place origins p i h = by (slice_get origins i) h
     by : (o : Option ℕ) → option_map_or (λ q. q == p) o false ≡ true → o ≡ Some p
     by None h = absurd (true≢false (sym h))
     by (Some q) h = ap (λ (n : ℕ). Some n) (eqb-true q p h)
-
-is_place : (origins : List ℕ) (p i : ℕ) → slice_get origins i ≡ Some p → is_from origins p i ≡ true
-is_place origins p i h = ap (λ o. option_map_or (λ q. q == p) o false) h ∙ eq-eqb p p refl
 
 now_sound : (origins moved : List ℕ) (p i : ℕ) → place_now origins moved p ≡ Some i → slice_get origins i ≡ Some p
 now_sound origins moved p i h = by (is_from origins p (get_or moved p 0)) refl h

@@ -6,13 +6,12 @@ use Rattle.std.specs.List.{IsDistinct, AllByRecursion}
 use Rattle.std.specs.FinMap.{FinMap, from_entries, get, insert, remove, len, IsAntisymmetric, get-from_entries, get-insert, get-remove, len-insert, len-empty, same_map}
 use Rattle.std.specs.FinMap.Entries.{find}
 use Rattle.std.specs.declared.cmp.Ordering.{Ordering}
-use Rattle.std.specs.declared.cmp.Ordering.TheVariants.{Less, Equal, Greater}
 use Rattle.std.specs.Ordering.{eq_by_cmp, is_eq}
 use Rattle.std.specs.Cmp.{IsTotalOrder, eq_by_cmp_equiv}
 use Rattle.std.proofs.lemmas.Cmp.{tied_itself}
 use Rattle.std.proofs.lemmas.Map.Keys.{IsDistinct-head, IsDistinct-tail}
 use Rattle.eu_base.specs.Values.{name_cmp, key_cmp, name_eq, key_eq}
-use Rattle.eu_base.proofs.KeyLemmas.{names_total, names_exact, name_eq-ties, keys_total, keys_exact, key_eq-ties}
+use Rattle.eu_base.proofs.KeyLemmas.{equal_of_test, names_total, names_exact, name_eq-ties, keys_total, keys_exact, key_eq-ties}
 
 -- a total order that tells its keys apart, and the equality that is its tie
 pub record IsKeyed {K : Type 0} (R : K → K → Ordering) (eq : K → K → Bool) : Type 0 where
@@ -28,11 +27,6 @@ by_name = record { total = names_total; exact = names_exact; ties = name_eq-ties
 
 abbrev pub map_of : {K X : Type 0} {R : K → K → Ordering} → List (K × X) → FinMap R X
 map_of es = from_entries es
-
-pub equal_of_test : (r : Ordering) → is_eq r ≡ true → r ≡ Equal
-equal_of_test Less h = cc
-equal_of_test Equal h = refl
-equal_of_test Greater h = cc
 
 module _ {K : Type 0} {R : K → K → Ordering} {eq : K → K → Bool} (w : IsKeyed R eq) where
   flipped : (k q : K) → eq k q ≡ eq_by_cmp R q k
@@ -113,13 +107,6 @@ module _ {K X : Type 0} {R : K → K → Ordering} {eq : K → K → Bool} (w : 
         | true ↦ λ t. sym (ap (get m) (same_of_test w q k t) ∙ is)
         | false ↦ λ t. refl
       ] refl)
-
-  pub insert_again : (m : FinMap R X) (k : K) (x y : X) → insert (insert m k x) k y ≡ insert m k y
-  insert_again m k x y = same_map w.total w.exact _ _ (λ q.
-      get-insert w.total (insert m k x) k y q
-      ∙ ap (cond (eq_by_cmp R q k) (Some y)) (get-insert w.total m k x q)
-      ∙ elim (eq_by_cmp R q k) as (λ b. cond b (Some y) (cond b (Some x) (get m q)) ≡ cond b (Some y) (get m q)) [ true ↦ refl | false ↦ refl ]
-      ∙ sym (get-insert w.total m k y q))
 
   pub get_inserted : (m : FinMap R X) (k : K) (x : X) → get (insert m k x) k ≡ Some x
   get_inserted m k x = get-insert w.total m k x k ∙ ap (λ (r : Ordering). cond (is_eq r) (Some x) (get m k)) (tied_itself w.total k)

@@ -5,7 +5,8 @@ use Rattle.std.specs.FinMap.{FinMap, get, remove, get-insert, get-remove, same_m
 use Rattle.std.specs.declared.cmp.Ordering.{Ordering}
 use Rattle.std.specs.Ordering.{eq_by_cmp}
 use Rattle.eu_model.specs.Machine.{with_value}
-use Rattle.eu_store.proofs.TableLemmas.{IsKeyed, equal_of_test}
+use Rattle.eu_base.proofs.KeyLemmas.{equal_of_test}
+use Rattle.eu_store.proofs.TableLemmas.{IsKeyed}
 use Rattle.eu_store.specs.Removed.{with_values}
 
 module _ {K X : Type 0} {R : K → K → Ordering} {eq : K → K → Bool} (w : IsKeyed R eq) where

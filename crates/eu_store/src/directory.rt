@@ -1,5 +1,5 @@
 //! What is held in key order, for who reads. It is kept once somebody took a snapshot: nobody pays for it before.
-ghost use Rattle.std.specs.Prelude.{◌≡◌, ◌≢◌, ◌+◌, ◌-◌, ◌*◌, ◌/◌, ◌%◌, ◌<◌, ◌≤◌, ◌⊎◌, ◌∷◌, [], filter, length, map, min, slice_index_or, slice_set as set, slice_get, IfOk, IfSome, None, OnOk, Some};
+ghost use Rattle.std.specs.Prelude.{◌≡◌, ◌≢◌, ◌+◌, ◌-◌, ◌*◌, ◌/◌, ◌<◌, ◌≤◌, ◌⊎◌, filter, length, map, min, slice_index_or, slice_set as set, slice_get, IfOk, IfSome, None, OnOk, Some};
 ghost use Rattle.std.specs.Arc.{arc_value};
 ghost use Rattle.std.specs.List as lists;
 ghost use Rattle.std.specs.List.{prefix_len};
@@ -11,7 +11,7 @@ ghost use Rattle.eu_base.specs.Limits.{most_leases};
 ghost use Rattle.eu_base.specs.Values.{key_eq};
 ghost use Rattle.eu_model.specs.View.{is_of};
 ghost use Rattle.eu_store.specs.Limit.{within};
-ghost use Rattle.eu_store.specs.Order.{at_place, at_places, instances_of, is_below, keys_held, room_in, times_of, window, AreParts, AreWhole, IsDirectory, IsForgotten, IsInOrder};
+ghost use Rattle.eu_store.specs.Order.{at_place, at_places, instances_of, is_below, keys_held, room_in, times_of, window, AreParts, AreWhole, IsDirectory, IsForgotten};
 ghost use Rattle.eu_store.specs.Stored.{listing_of};
 ghost use Rattle.std.specs.FinMap as map;
 

@@ -8,7 +8,7 @@ ghost use Rattle.eu_store.specs.Stored.{amended, deadline_of, term_of};
 use eu_base::{Moment, SharedInstance, Stamp, Status};
 use eu_lease::Lease;
 use eu_model::{Listed, Times};
-use std::alloc::{AllocError, Global};
+use std::alloc::AllocError;
 use std::marker::Model;
 use std::mem;
 

@@ -1,5 +1,5 @@
 -- Where two lists first differ
-use Rattle.std.proofs.Common.{◌≡◌, ℕ, ◌+◌, ◌≤◌, ◌<◌, List, [], ◌∷◌, ◌++◌, Option, Some, None, length, refl, sym, ap, ◌∙◌, arith, append_assoc, length-append, take, subst, Bool, true, false, get_or, suc}
+use Rattle.std.proofs.Common.{◌≡◌, ℕ, ◌+◌, ◌≤◌, ◌<◌, List, [], ◌∷◌, ◌++◌, Option, Some, None, length, refl, sym, ap, ◌∙◌, arith, append_assoc, take, Bool, true, false, get_or, suc}
 use Rattle.std.specs.Prelude.{◌≢◌, slice_get, IsTrue, All, nat_lt, ◌==◌, if◌then◌else◌}
 use Rattle.std.proofs.Math.Seq.{take-append_seam}
 use Rattle.eu_book.specs.declared.journal.Logged.{Logged}

@@ -1,4 +1,4 @@
-use Rattle.std.proofs.Common.{◌≡◌, ◌≤◌, ◌<◌, ◌+◌, ℕ, arith, sym, ap, ◌∙◌, subst, below_more}
+use Rattle.std.proofs.Common.{◌≤◌, arith, sym, ap, ◌∙◌, subst, below_more}
 use Rattle.std.specs.Prelude.{All, List}
 use Rattle.eu_model.specs.declared.commands.Entry.{Entry}
 use Rattle.eu_settle.specs.declared.closed.PassLog.{PassLog}

@@ -1,19 +1,16 @@
 -- A batch in flight keeps others back
-use Rattle.std.proofs.Common.{◌≡◌, ◌≢◌, ◌⊎◌, ⊎_elim, inl, inr, ℕ, not, eqb, cond, List, [], ◌∷◌, length, slice_get, Option, Some, None, Result, Ok, Err, refl, sym, ap, ◌∙◌, arith}
+use Rattle.std.proofs.Common.{◌≡◌, ◌≢◌, ◌⊎◌, ⊎_elim, ℕ, not, eqb, cond, List, [], ◌∷◌, length, slice_get, Some, None, Ok, Err, refl, sym, ap, ◌∙◌, arith}
 use Rattle.eu_base.specs.declared.faults.Fault.{Fault}
 use Rattle.eu_base.specs.declared.faults.Fault.TheVariants.{Busy, EmptyBatch, Exhausted, OutOfMemory}
 use Rattle.eu_base.specs.declared.tasks.Task.{Task}
 use Rattle.eu_base.specs.Limits.{most_steps}
-use Rattle.eu_book.specs.Account.{Account, IsLawful, fault_of, known_fault}
+use Rattle.eu_book.specs.Account.{fault_of, known_fault}
 use Rattle.eu_book.specs.Busy.{DrainsAreBusy}
-use Rattle.eu_book.specs.Desk.{BookAsks}
-use Rattle.eu_model.specs.declared.asks.Answer.{Answer}
 use Rattle.eu_model.specs.declared.asks.Answer.TheVariants.{Did, Saw}
-use Rattle.eu_model.specs.declared.asks.Ask.TheVariants.{Do}
 use Rattle.eu_model.specs.declared.commands.Command.TheVariants.{Drain}
 use Rattle.eu_model.specs.declared.queues.Queue.{Queue}
 use Rattle.eu_model.specs.Answers as model
-use Rattle.eu_model.specs.Server.{Server, PlainServer, plain_server, drain_fault, live, queue_fault, server_fault}
+use Rattle.eu_model.specs.Server.{PlainServer, drain_fault, live, queue_fault, server_fault}
 use Rattle.eu_book.proofs.BookLemmas.{differs}
 
 busy_of : (t : ℕ) (waiting flight : List Task) → flight ≢ [] → drain_fault t (record { waiting = waiting; flight = flight }) ≡ Some Busy

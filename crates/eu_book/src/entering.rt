@@ -18,7 +18,7 @@ use crate::serving::{Served, serve};
 use eu_base::{Fault, MOST_STEPS, Moment};
 use eu_clock::Chooser;
 use eu_core::Registry;
-use eu_model::{Command, Entry, Reply, Tally};
+use eu_model::{Command, Entry, Tally};
 use std::alloc::Global;
 use std::mem;
 
@@ -106,7 +106,7 @@ pub(crate) fn note(
     if begins_anew {
         mem::swap(journal, spare);
     }
-    add(totals, Tally::of(&command, &answered.reply));
+    *totals = totals.plus(Tally::of(&command, &answered.reply));
     journal.entries.push_reserved(Entry {
         pass,
         number,
@@ -122,18 +122,4 @@ pub(crate) fn note(
         },
         logged: answered.logged,
     }
-}
-
-/// Adds what is done now to what was done.
-fn add(total: &mut Tally, more: Tally)
-    requires steps { total.old.steps + more.steps < 2 ^ 64 }
-    requires counted { total.old.counted + more.counted < 2 ^ 64 }
-    requires added { total.old.added + more.added < 2 ^ 64 }
-    requires removed { total.old.removed + more.removed < 2 ^ 64 }
-    ensures { total.new ≡ plus total.old more }
-{
-    total.steps += more.steps;
-    total.counted += more.counted;
-    total.added += more.added;
-    total.removed += more.removed;
 }

@@ -1,5 +1,5 @@
 //! What a registry and the outboxes of its peers answer together.
-ghost use Rattle.std.specs.Prelude.{◌≡◌, ◌⊎◌, false, length, None, Some, Ok, Err, replicate, IfOk, IfErr, IfSome, OnErr};
+ghost use Rattle.std.specs.Prelude.{◌≡◌, ◌⊎◌, false, length, None, Some, Ok, replicate, IfOk, IfErr, IfSome, OnErr};
 ghost use Rattle.std.specs.Borrow.{Bor};
 ghost use Rattle.eu_base.specs.declared.names.Key.{Key};
 ghost use Rattle.eu_core.specs.Stepped.{Chooses};

@@ -1,6 +1,6 @@
 //! What commands did, in numbers.
-ghost use Rattle.std.specs.Prelude.{◌≡◌};
-ghost use Rattle.eu_model.specs.Delta.{counted_by, added_by, removed_by, delta, nothing};
+ghost use Rattle.std.specs.Prelude.{◌≡◌, ◌+◌, ◌<◌, ◌^◌};
+ghost use Rattle.eu_model.specs.Delta.{counted_by, added_by, removed_by, delta, nothing, plus};
 
 use crate::{Command, Reply};
 
@@ -39,6 +39,22 @@ impl Tally {
             counted: counted_by(command, reply),
             added: added_by(command, reply),
             removed: removed_by(command, reply),
+        }
+    }
+
+    /// Both together. Takes no memory.
+    pub fn plus(self, more: Tally) -> Tally
+        requires steps { self.steps + more.steps < 2 ^ 64 }
+        requires counted { self.counted + more.counted < 2 ^ 64 }
+        requires added { self.added + more.added < 2 ^ 64 }
+        requires removed { self.removed + more.removed < 2 ^ 64 }
+        ensures { result ≡ plus self more }
+    {
+        Tally {
+            steps: self.steps + more.steps,
+            counted: self.counted + more.counted,
+            added: self.added + more.added,
+            removed: self.removed + more.removed,
         }
     }
 }

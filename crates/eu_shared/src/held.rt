@@ -1,10 +1,9 @@
 //! The book behind the lock, with its part of the ledgers.
-ghost use Rattle.std.specs.Prelude.{◌≡◌, ◌↔◌, ◌+◌, ◌<◌, ◌≤◌, ◌^◌, Err, None, vec_len, IfOk, IfErr, OnOk, OnErr};
+ghost use Rattle.std.specs.Prelude.{◌≡◌, ◌↔◌, ◌+◌, ◌<◌, ◌≤◌, Err, None, vec_len, IfOk, IfErr, OnOk, OnErr};
 ghost use Rattle.eu_book.specs.Account.{cleared, entry, known_fault, logged, Applies, IsLawful, Refuses};
 ghost use Rattle.eu_book.specs.Checkpoint.{IsJournal, IsRoom};
 ghost use Rattle.eu_book.specs.Snapshot.{view_of};
 ghost use Rattle.eu_model.specs.Answers.{Shows};
-ghost use Rattle.eu_model.specs.Delta.{plus};
 ghost use Rattle.eu_model.specs.View.{view};
 ghost use Rattle.eu_shared.specs.Passes.{after_answer, done_for, new_pass, opening, after_view};
 
@@ -217,7 +216,7 @@ impl<K: Label> Held<K> {
         self.totals.add(&mut pass.shares, done);
         self.totals.audit(&mut pass.shares);
         let _totals = self.book.totals();
-        pass.tally = sum(pass.tally, done);
+        pass.tally = pass.tally.plus(done);
         see(
             &mut pass.journal_first,
             &mut pass.is_stale,
@@ -316,21 +315,5 @@ impl<K: Label> Held<K> {
             self.book.first(),
         );
         Ok(retired)
-    }
-}
-
-/// Both together.
-pub(crate) fn sum(a: Tally, b: Tally) -> Tally
-    requires steps { a.steps + b.steps < 2 ^ 64 }
-    requires counted { a.counted + b.counted < 2 ^ 64 }
-    requires added { a.added + b.added < 2 ^ 64 }
-    requires removed { a.removed + b.removed < 2 ^ 64 }
-    ensures { result ≡ plus a b }
-{
-    Tally {
-        steps: a.steps + b.steps,
-        counted: a.counted + b.counted,
-        added: a.added + b.added,
-        removed: a.removed + b.removed,
     }
 }

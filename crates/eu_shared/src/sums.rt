@@ -1,11 +1,10 @@
 //! What was done for passes together.
-ghost use Rattle.std.specs.Prelude.{◌≡◌, ◌+◌, ◌<◌, ◌^◌, length, vec_len};
+ghost use Rattle.std.specs.Prelude.{◌≡◌, ◌+◌, ◌<◌, vec_len};
 ghost use Rattle.std.specs.Vec.{vec_capacity};
 ghost use Rattle.eu_model.specs.Delta.{plus};
 ghost use Rattle.eu_shared.specs.Passes.{done_for};
 ghost use Rattle.eu_shared.specs.Shares.{IsAtMost, IsSmall};
 
-use crate::held::sum;
 use crate::pass::Pass;
 use crate::shares::{Label, Shares, Totals};
 use eu_model::Tally;
@@ -44,7 +43,7 @@ pub(crate) fn sum_up<K: Label>(
     } = pass;
     shares.lend(all, 1, tally);
     totals.audit(all);
-    let sums = sum_up(passes, all, totals, sum(so_far, tally));
+    let sums = sum_up(passes, all, totals, so_far.plus(tally));
     shares.take_back(all, 1, tally);
     passes.push_reserved(Pass {
         number,

@@ -253,6 +253,25 @@ fn changes_of_settings_are_compared(rt: HostRuntime) {
 fn what_is_done_is_counted(rt: HostRuntime) {
     assert_eq!(rt; first_wrong(rt.alloc(), &mut Machine, TALLIES), None);
     assert!(rt; Tally::nothing().steps == 0);
+    let before = Tally {
+        steps: 7,
+        counted: 3,
+        added: 2,
+        removed: 1,
+    };
+    let both = Tally {
+        steps: 12,
+        counted: 7,
+        added: 5,
+        removed: 3,
+    };
+    let more = Tally {
+        steps: 5,
+        counted: 4,
+        added: 3,
+        removed: 2,
+    };
+    assert!(rt; before.plus(more) == both);
 }
 
 /// The list of one lease.

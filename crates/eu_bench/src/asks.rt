@@ -1,5 +1,6 @@
 //! Threads that ask a shared book.
 ghost use Rattle.std.specs.Prelude.{◌≡◌};
+ghost use Rattle.eu_shared.specs.Shares.{HasNames, HasParts};
 
 use eu_base::{
     App, Config, Fault, Id, Instance, Key, LeaseSecs, Moment, RenewalSecs, Rest, SharedInstance,
@@ -8,7 +9,7 @@ use eu_base::{
 use eu_clock::FirstChooser;
 use eu_model::Command;
 use eu_settle::{Closed, settle};
-use eu_shared::{Blanks, Label, Pass, Shared, close};
+use eu_shared::{Blanks, Label, PARTS, Pass, Shared, close};
 use std::alloc::Global;
 use std::marker::Brand;
 use std::sync::Wait;
@@ -123,8 +124,8 @@ fn ask_book<K: Label + Send + Sync, R: Threads + Wait + Sync>(
     steps: u32,
     blanks: Blanks,
 ) -> Result<Closed, Fault>
-    requires names { (blanks.steps.name ≡ K.steps) × (blanks.counted.name ≡ K.counted) × (blanks.added.name ≡ K.added) × (blanks.removed.name ≡ K.removed) }
-    requires parts { (blanks.steps.parts ≡ K.parts) × (blanks.counted.parts ≡ K.parts) × (blanks.added.parts ≡ K.parts) × (blanks.removed.parts ≡ K.parts) × (K.parts ≡ 1025) }
+    requires names { HasNames blanks K.steps K.counted K.added K.removed }
+    requires parts { HasParts blanks K.parts × (K.parts ≡ PARTS) }
 {
     let config = Config::new(true, 85, 30, 60_000)?;
     let shared: Shared<K> = Shared::open(alloc, config, 0, 0, blanks)?;

@@ -50,31 +50,8 @@ fn look(buffer: &[u8], spans: &mut [HeaderSpan]) -> Result<Option<RequestSpans>,
     }
 }
 
-/// The head at the front, where nothing was looked through before. Most heads come whole, with one read, so this is parsed at once.
-/// Where it isn't whole, it is looked through, and a fault comes where an empty line has come that may end it.
-fn first_head(
-    buffer: &[u8],
-    spans: &mut [HeaderSpan],
-    scan: &mut Scan,
-) -> Result<Option<RequestSpans>, Fault>
-    requires { length spans.old ≡ max_fields }
-    ensures head { IfOk result (λ found. IfSome found (HasHeadAt buffer.now spans.new)) }
-    ensures none { IsAt false buffer.now scan.old → HeadEndsAfter scan.old.seen buffer.now → IfOk result (λ found. MatchOption found (HasNoRequest (take max_head buffer.now)) (λ _. Unit {0})) }
-    ensures at { IsAt false buffer.now scan.old → IsAt false buffer.now scan.new }
-    ensures fault { IfErr result (λ fault. (more : List ℕ) → IsHeadFault (buffer.now ++ more) fault) }
-{
-    let found = look(buffer, spans);
-    if matches!(found, Ok(Some(_))) {
-        return found;
-    }
-    if scan.finds_empty_line(buffer) {
-        found
-    } else {
-        Ok(None)
-    }
-}
-
-/// The head at the front, where an empty line has come that may end it.
+/// The head at the front, where an empty line has come that may end it. Most heads come whole, with one read: so where nothing was looked
+/// through before, this is parsed at once. Where it isn't whole then, a fault comes only where an empty line has come.
 fn try_head(
     buffer: &[u8],
     spans: &mut [HeaderSpan],
@@ -87,7 +64,15 @@ fn try_head(
     ensures fault { IfErr result (λ fault. (more : List ℕ) → IsHeadFault (buffer.now ++ more) fault) }
 {
     if scan.is_new() {
-        first_head(buffer, spans, scan)
+        let found = look(buffer, spans);
+        if matches!(found, Ok(Some(_))) {
+            return found;
+        }
+        if scan.finds_empty_line(buffer) {
+            found
+        } else {
+            Ok(None)
+        }
     } else if scan.finds_empty_line(buffer) {
         look(buffer, spans)
     } else {

@@ -11,7 +11,7 @@ use Rattle.eu_json.specs.declared.batch_write.ItemAnswer.{ItemAnswer}
 use Rattle.eu_model.specs.declared.commands.Command.TheVariants.{Adopt, Drain, Landed, Lost}
 use Rattle.eu_peer.specs.declared.turn.Turn.{Turn}
 use Rattle.eu_peer.specs.declared.turn.Turn.TheVariants as turn
-use Rattle.eu_peer.specs.Turns.{Adopts, GivesBack, Lands, Sends, Drained, Taken, TurnsAt, Turns}
+use Rattle.eu_peer.specs.Turns.{Adopts, GivesBack, Lands, Sends, Drained, Parties, Taken, TurnsAt, Turns}
 use Rattle.eu_model.specs.Chain.{Pairs}
 
 module _ {D : Type 0} (asked : D → Ask → ℕ → Result Answer Fault → D → Type 0) (R : D → D → Type 0)
@@ -69,7 +69,7 @@ pub turns_keep : {D P C : Type 0} (asked : D → Ask → ℕ → Result Answer F
     → ((a b c : D) → R a b → R b c → R a c)
     → ((a : D) (ask : Ask) (t : ℕ) (r : Result Answer Fault) (b : D) → asked a ask t r b → R a b)
     → (submits : P → List Task → Option (List ItemAnswer) → P → Type 0) (tells : C → ℕ → C → Type 0)
-    → (peer : ℕ) (a : D) (p : P) (c : C) (result : Result Turn Fault) (b : D) (p' : P) (c' : C)
-    → Turns asked submits tells peer a p c result b p' c' → R a b
-turns_keep asked R none on one submits tells peer a p c result b p' c' is =
-    turn_keeps asked R none on one is.0 submits peer p p' a b result is.2
+    → (number : ℕ) (old new : Parties D P C) (result : Result Turn Fault)
+    → Turns asked submits tells number old result new → R old.desk new.desk
+turns_keep asked R none on one submits tells number old new result is =
+    turn_keeps asked R none on one is.0 submits number old.peer new.peer old.desk new.desk result is.2

@@ -17,6 +17,12 @@ use Rattle.eu_peer.specs.declared.turn.Turn.{Turn}
 use Rattle.eu_peer.specs.declared.turn.Turn.TheVariants as turn
 use Rattle.eu_model.specs.Chain.{Pairs}
 
+-- who takes part in a turn: the desk that is asked, the peer, and the clock that tells the moment
+pub record Parties (D P C : Type 0) : Type 0 where
+  pub desk : D
+  pub peer : P
+  pub clock : C
+
 -- ---- what the answers say
 
 abbrev pub code : ItemAnswer → ℕ
@@ -112,6 +118,6 @@ module _ {D : Type 0} (asked : D → Ask → ℕ → Result Answer Fault → D �
 -- at one moment, which the clock told
 abbrev pub Turns :
     {D P C : Type 0} → (D → Ask → ℕ → Result Answer Fault → D → Type 0) → (P → List Task → Option (List ItemAnswer) → P → Type 0)
-    → (C → ℕ → C → Type 0) → ℕ → D → P → C → Result Turn Fault → D → P → C → Type 0
-Turns asked submits tells peer desk p clock result desk' p' clock' =
-    (moment : ℕ) × tells clock moment clock' × TurnsAt asked moment submits peer desk p result desk' p'
+    → (C → ℕ → C → Type 0) → ℕ → Parties D P C → Result Turn Fault → Parties D P C → Type 0
+Turns asked submits tells number old result new =
+    (moment : ℕ) × tells old.clock moment new.clock × TurnsAt asked moment submits number old.desk old.peer result new.desk new.peer

@@ -179,7 +179,9 @@ pub fn replicate_turn<D: Desk, P: Peer, C: Clock>(
     peer: &mut P,
     clock: &mut C,
 ) -> Result<Turn, Fault>
-    ensures { spec.Turns D.asked P.submits C.tells number desk.old peer.old clock.old result desk.new peer.new clock.new }
+    ensures { spec.Turns D.asked P.submits C.tells number
+        (record { desk = desk.old; peer = peer.old; clock = clock.old }) result
+        (record { desk = desk.new; peer = peer.new; clock = clock.new }) }
 {
     let moment = clock.now();
     let drain = Ask::Do(Command::Drain { peer: number });

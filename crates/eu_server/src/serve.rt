@@ -11,6 +11,7 @@ ghost use Rattle.eu_server.specs.Staff.{AreSessions, AreTimers, IsReadyFor, IsSt
 ghost use Rattle.eu_settle.specs.Settled.{IsMismatch, IsSettled};
 ghost use Rattle.eu_settle.specs.declared.settling.Mismatch.{Mismatch};
 ghost use Rattle.eu_shared.specs.Closing.{account_of};
+ghost use Rattle.eu_shared.specs.Shares.{HasNames, HasParts};
 
 use crate::no_peer::NoPeer;
 use eu_accept::{Acceptor, Admission, Connections, Timeouts};
@@ -20,7 +21,7 @@ use eu_gate::{MOST_WORKERS, Periods};
 use eu_journal_text::{WriteError, write_journal};
 use eu_routes::Routes;
 use eu_settle::{Closed, settle};
-use eu_shared::{Blanks, Label, Pass, Shared, Unclosed, close};
+use eu_shared::{Blanks, Label, PARTS, Pass, Shared, Unclosed, close};
 use eu_stream::Sink;
 use eu_workers::{Job, Site, Work, Worker, run_all};
 use std::alloc::Global;
@@ -330,8 +331,8 @@ pub fn serve_book<
     chooser: H,
     blanks: Blanks,
 ) -> Result<Outcome, Fault>
-    requires names { (blanks.steps.name ≡ K.steps) × (blanks.counted.name ≡ K.counted) × (blanks.added.name ≡ K.added) × (blanks.removed.name ≡ K.removed) }
-    requires parts { (blanks.steps.parts ≡ K.parts) × (blanks.counted.parts ≡ K.parts) × (blanks.added.parts ≡ K.parts) × (blanks.removed.parts ≡ K.parts) × (K.parts ≡ 1025) }
+    requires names { HasNames blanks K.steps K.counted K.added K.removed }
+    requires parts { HasParts blanks K.parts × (K.parts ≡ PARTS) }
     ensures lawful { IfOk result (λ o. IsLawful (account_of o.closed)) }
     ensures plain { IfOk result (λ o. (o.closed.base ≡ state_of (account_of o.closed).base) × (o.closed.end ≡ state_of (account_of o.closed).state)) }
     ensures settled { IfOk result (λ o. IsSettled o.closed.first o.closed.logs.items o.closed.entries.items) }

@@ -6,9 +6,10 @@ ghost use Rattle.eu_book.specs.Snapshot.{view_of};
 ghost use Rattle.eu_model.specs.Answers.{Shows};
 ghost use Rattle.eu_model.specs.View.{view};
 ghost use Rattle.eu_shared.specs.Passes.{after_answer, done_for, new_pass, opening, after_view};
+ghost use Rattle.eu_shared.specs.Shares.{HasNames, HasParts};
 
 use crate::pass::{Pass, is_stale_with, see};
-use crate::shares::{Blanks, Label, Shares, Totals};
+use crate::shares::{Blanks, Label, PARTS, Shares, Totals};
 use crate::sums::sum_up;
 use eu_base::{Config, Fault, MOST_PASSES, MOST_PEERS, Moment};
 use eu_book::{Book, Dropped, Journal, Receipt, ViewSnapshot};
@@ -55,8 +56,8 @@ impl<K: Label> Held<K> {
         blanks: Blanks,
     ) -> Result<Held<K>, AllocError>
         requires peers { peers ≤ MOST_PEERS }
-        requires names { (blanks.steps.name ≡ K.steps) × (blanks.counted.name ≡ K.counted) × (blanks.added.name ≡ K.added) × (blanks.removed.name ≡ K.removed) }
-        requires parts { (blanks.steps.parts ≡ K.parts) × (blanks.counted.parts ≡ K.parts) × (blanks.added.parts ≡ K.parts) × (blanks.removed.parts ≡ K.parts) × (K.parts ≡ 1025) }
+        requires names { HasNames blanks K.steps K.counted K.added K.removed }
+        requires parts { HasParts blanks K.parts × (K.parts ≡ PARTS) }
         ensures { IfOk result (λ held. held ≡ opening config expected peers) }
     {
         let mut book = Book::open(alloc, config, expected, peers)?;

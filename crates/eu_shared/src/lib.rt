@@ -14,4 +14,4 @@ pub use held::Held;
 pub use pass::Pass;
 pub use seat::Seat;
 pub use shared::{Shared, close};
-pub use shares::{Blanks, Label};
+pub use shares::{Blanks, Label, PARTS};

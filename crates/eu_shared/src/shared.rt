@@ -13,11 +13,12 @@ ghost use Rattle.eu_model.specs.Delta.{delta, plus};
 ghost use Rattle.eu_settle.specs.declared.closed.PassLog.{PassLog};
 ghost use Rattle.eu_shared.specs.Closing.{account_of, log_of, logged_by, IsReason};
 ghost use Rattle.eu_shared.specs.Passes.{done_for, new_pass, IsAnsweredBySome, IsBegunBySome, IsRefusedBySome, IsShownBySome};
+ghost use Rattle.eu_shared.specs.Shares.{HasNames, HasParts};
 
 use crate::closing::Unclosed;
 use crate::held::Held;
 use crate::pass::{Pass, see};
-use crate::shares::{Blanks, Label};
+use crate::shares::{Blanks, Label, PARTS};
 use eu_base::{Config, Fault, MOST_PEERS, Moment};
 use eu_book::{Journal, Receipt};
 use eu_clock::Chooser;
@@ -51,8 +52,8 @@ impl<K: Label> Shared<K> {
         blanks: Blanks,
     ) -> Result<Shared<K>, AllocError>
         requires peers { peers ≤ MOST_PEERS }
-        requires names { (blanks.steps.name ≡ K.steps) × (blanks.counted.name ≡ K.counted) × (blanks.added.name ≡ K.added) × (blanks.removed.name ≡ K.removed) }
-        requires parts { (blanks.steps.parts ≡ K.parts) × (blanks.counted.parts ≡ K.parts) × (blanks.added.parts ≡ K.parts) × (blanks.removed.parts ≡ K.parts) × (K.parts ≡ 1025) }
+        requires names { HasNames blanks K.steps K.counted K.added K.removed }
+        requires parts { HasParts blanks K.parts × (K.parts ≡ PARTS) }
     {
         let held = Held::open(alloc, config, expected, peers, blanks)?;
         Ok(Shared {

@@ -4,7 +4,7 @@
 //! shares count together.
 ghost use Rattle.std.specs.Prelude.{◌≡◌, ℕ, ◌+◌, ◌<◌};
 ghost use Rattle.eu_model.specs.Delta.{nothing, plus};
-ghost use Rattle.eu_shared.specs.Shares.{Part, IsAtMost};
+ghost use Rattle.eu_shared.specs.Shares.{HasNames, HasParts, IsAtMost, Part};
 
 use eu_model::Tally;
 use std::marker::{Brand, Model, PhantomData};
@@ -98,7 +98,7 @@ pub struct Blanks {
 impl Blanks {
     /// Four new ledgers with 1,025 parts each.
     pub fn new() -> Blanks
-        ensures { (result.steps.parts ≡ 1025) × (result.counted.parts ≡ 1025) × (result.added.parts ≡ 1025) × (result.removed.parts ≡ 1025) }
+        ensures { HasParts result PARTS }
     {
         Blanks {
             steps: Blank::new(PARTS),
@@ -110,8 +110,8 @@ impl Blanks {
 
     /// Begins the four ledgers: the totals are 0, and one share has all the parts.
     pub(crate) fn open<K: Label>(self) -> (Totals<K>, Shares<K>)
-        requires names { (self.steps.name ≡ K.steps) × (self.counted.name ≡ K.counted) × (self.added.name ≡ K.added) × (self.removed.name ≡ K.removed) }
-        requires parts { (self.steps.parts ≡ K.parts) × (self.counted.parts ≡ K.parts) × (self.added.parts ≡ K.parts) × (self.removed.parts ≡ K.parts) }
+        requires names { HasNames self K.steps K.counted K.added K.removed }
+        requires parts { HasParts self K.parts }
         ensures totals { result.0 ≡ nothing }
         ensures shares { result.1 ≡ record { parts = K.parts; tally = nothing } }
     {

@@ -12,7 +12,7 @@ use Rattle.eu_model.specs.declared.asks.Ask.TheVariants.{Do, See}
 use Rattle.eu_json.specs.declared.batch_write.ItemAnswer.{ItemAnswer}
 use Rattle.eu_model.specs.Delta.{delta, plus}
 use Rattle.eu_peer.specs.declared.turn.Turn.{Turn}
-use Rattle.eu_peer.specs.Turns.{Turns}
+use Rattle.eu_peer.specs.Turns.{Parties, Turns}
 use Rattle.eu_peer.proofs.KeepLemmas.{turns_keep}
 use Rattle.eu_shared.specs.Seat.{PassAsks}
 use Rattle.eu_session.specs.declared.faults.SessionFault.{SessionFault}
@@ -147,11 +147,11 @@ module _ {D C : Type 0} (pass : D → PassAccount) (tells : C → ℕ → C → 
       (λ a ask t r b. asks (pass a) ask t r (pass b))
       tells old new s result is
 
-pub asked_by_turn : {D P C : Type 0} (a b : D) (pass : D → PassAccount) (submits : P → List Task → Option (List ItemAnswer) → P → Type 0) (tells : C → ℕ → C → Type 0) (peer : ℕ) (p p' : P) (c c' : C) (result : Result Turn Fault)
-    → Turns (λ s ask t r s'. PassAsks (pass s) ask t r (pass s')) submits tells peer a p c result b p' c' → IsAsked (pass a) (pass b)
-asked_by_turn a b pass submits tells peer p p' c c' result is =
+pub asked_by_turn : {D P C : Type 0} (pass : D → PassAccount) (submits : P → List Task → Option (List ItemAnswer) → P → Type 0) (tells : C → ℕ → C → Type 0) (number : ℕ) (old new : Parties D P C) (result : Result Turn Fault)
+    → Turns (λ s ask t r s'. PassAsks (pass s) ask t r (pass s')) submits tells number old result new → IsAsked (pass old.desk) (pass new.desk)
+asked_by_turn pass submits tells number old new result is =
     turns_keep (λ s ask t r s'. PassAsks (pass s) ask t r (pass s')) (λ a b. IsAsked (pass a) (pass b))
     (λ a b e. asked_nothing (pass a) (pass b) (ap pass e))
     (λ a b c. asked_more (pass a) (pass b) (pass c))
     (λ a ask t r b. asks (pass a) ask t r (pass b))
-    submits tells peer a p c result b p' c' is
+    submits tells number old new result is

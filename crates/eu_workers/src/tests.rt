@@ -1,5 +1,6 @@
 //! Timers whose first ask is refused, and which wait at the gate.
 ghost use Rattle.std.specs.Prelude.{◌≡◌};
+ghost use Rattle.eu_shared.specs.Shares.{HasNames, HasParts};
 
 use crate::ended::Ended;
 use crate::timers::{Asks, take_turns};
@@ -8,7 +9,7 @@ use eu_book::Receipt;
 use eu_clock::{Chooser, Clock, FirstChooser, ListClock};
 use eu_gate::{Gate, Go, Point, Timer};
 use eu_model::Command;
-use eu_shared::{Blanks, Label, Seat, Shared};
+use eu_shared::{Blanks, Label, PARTS, Seat, Shared};
 use std::alloc::{AllocError, Global};
 use std::marker::Brand;
 use std::sync::Wait;
@@ -94,8 +95,8 @@ fn turns_of<K: Label, R: Wait>(
     timer: Timer,
     limit: u64,
 ) -> Result<Done, Fault>
-    requires names { (blanks.steps.name ≡ K.steps) × (blanks.counted.name ≡ K.counted) × (blanks.added.name ≡ K.added) × (blanks.removed.name ≡ K.removed) }
-    requires parts { (blanks.steps.parts ≡ K.parts) × (blanks.counted.parts ≡ K.parts) × (blanks.added.parts ≡ K.parts) × (blanks.removed.parts ≡ K.parts) × (K.parts ≡ 1025) }
+    requires names { HasNames blanks K.steps K.counted K.added K.removed }
+    requires parts { HasParts blanks K.parts × (K.parts ≡ PARTS) }
 {
     let shared: Shared<K> = Shared::open(alloc, Config::new(true, 85, 30, 60_000)?, 0, 0, blanks)?;
     let done = turns_at(rt, alloc, &shared, timer, limit);
@@ -196,8 +197,8 @@ fn moments_of<K: Label, R: Wait>(
     alloc: Global,
     blanks: Blanks,
 ) -> Result<(Option<u64>, Option<u64>), Fault>
-    requires names { (blanks.steps.name ≡ K.steps) × (blanks.counted.name ≡ K.counted) × (blanks.added.name ≡ K.added) × (blanks.removed.name ≡ K.removed) }
-    requires parts { (blanks.steps.parts ≡ K.parts) × (blanks.counted.parts ≡ K.parts) × (blanks.added.parts ≡ K.parts) × (blanks.removed.parts ≡ K.parts) × (K.parts ≡ 1025) }
+    requires names { HasNames blanks K.steps K.counted K.added K.removed }
+    requires parts { HasParts blanks K.parts × (K.parts ≡ PARTS) }
 {
     let shared: Shared<K> = Shared::open(alloc, Config::new(true, 85, 30, 60_000)?, 0, 0, blanks)?;
     let moments = moments_at(rt, alloc, &shared);

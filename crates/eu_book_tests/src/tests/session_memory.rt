@@ -1,5 +1,6 @@
 //! Want of memory in a session over a pass. In a usual run no allocation is refused; `tools/sweep_memory.sh` refuses one after another.
 ghost use Rattle.std.specs.Prelude.{◌≡◌};
+ghost use Rattle.eu_shared.specs.Shares.{HasNames, HasParts};
 
 use crate::tests::shared::{USUAL, open as open_shared};
 use eu_base::Fault;
@@ -9,7 +10,7 @@ use eu_fixtures::{pause_or_go_on, settings};
 use eu_model::Desk;
 use eu_routes::Routes;
 use eu_session::serve_session;
-use eu_shared::{Blanks, Label, Seat};
+use eu_shared::{Blanks, Label, PARTS, Seat};
 use eu_stream::Writing;
 use std::alloc::Global;
 use std::marker::Brand;
@@ -102,8 +103,8 @@ fn are_answered<K: Label, R: Wait>(
 }
 
 fn serve<K: Label, R: Wait>(rt: &R, alloc: Global, blanks: Blanks) -> Result<bool, Fault>
-    requires names { (blanks.steps.name ≡ K.steps) × (blanks.counted.name ≡ K.counted) × (blanks.added.name ≡ K.added) × (blanks.removed.name ≡ K.removed) }
-    requires parts { (blanks.steps.parts ≡ K.parts) × (blanks.counted.parts ≡ K.parts) × (blanks.added.parts ≡ K.parts) × (blanks.removed.parts ≡ K.parts) × (K.parts ≡ 1025) }
+    requires names { HasNames blanks K.steps K.counted K.added K.removed }
+    requires parts { HasParts blanks K.parts × (K.parts ≡ PARTS) }
 {
     pause_or_go_on(alloc);
     let shared = open_shared::<K>(alloc, USUAL, blanks)?;

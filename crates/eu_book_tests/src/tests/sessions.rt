@@ -1,5 +1,6 @@
 //! Sessions over a pass.
 ghost use Rattle.std.specs.Prelude.{◌≡◌};
+ghost use Rattle.eu_shared.specs.Shares.{HasNames, HasParts};
 
 use crate::tests::closed::first_wrong_end;
 use crate::tests::shared::{USUAL, open};
@@ -7,7 +8,7 @@ use eu_base::Fault;
 use eu_clock::ListClock;
 use eu_routes::Routes;
 use eu_session::serve_session;
-use eu_shared::{Blanks, Label, Seat};
+use eu_shared::{Blanks, Label, PARTS, Seat};
 use eu_stream::Writing;
 use std::alloc::Global;
 use std::marker::Brand;
@@ -39,8 +40,8 @@ fn serve_alone<K: Label, R: Wait>(
     alloc: Global,
     blanks: Blanks,
 ) -> Result<(bool, Option<usize>), Fault>
-    requires names { (blanks.steps.name ≡ K.steps) × (blanks.counted.name ≡ K.counted) × (blanks.added.name ≡ K.added) × (blanks.removed.name ≡ K.removed) }
-    requires parts { (blanks.steps.parts ≡ K.parts) × (blanks.counted.parts ≡ K.parts) × (blanks.added.parts ≡ K.parts) × (blanks.removed.parts ≡ K.parts) × (K.parts ≡ 1025) }
+    requires names { HasNames blanks K.steps K.counted K.added K.removed }
+    requires parts { HasParts blanks K.parts × (K.parts ≡ PARTS) }
 {
     let shared = open::<K>(alloc, USUAL, blanks)?;
     let pass = shared.pass(rt, alloc)?;

@@ -1,5 +1,6 @@
 //! A book behind its lock and its passes: what their lines say, and what comes of each, worked out by hand.
 ghost use Rattle.std.specs.Prelude.{◌≡◌};
+ghost use Rattle.eu_shared.specs.Shares.{HasNames, HasParts};
 
 use crate::tests::closed::first_wrong_end;
 use crate::tests::texts::tell_answer;
@@ -7,7 +8,7 @@ use eu_base::{Config, Fault};
 use eu_clock::FirstChooser;
 use eu_fixtures::{Told, at, first_wrong, number_of, numbered, read_ask, tell_fault, tell_read};
 use eu_model::{Ask, Command};
-use eu_shared::{Blanks, Label, Pass, Shared};
+use eu_shared::{Blanks, Label, PARTS, Pass, Shared};
 use std::alloc::Global;
 use std::marker::Brand;
 use std::sync::Wait;
@@ -30,8 +31,8 @@ pub const USUAL: Opening = Opening {
 
 /// A shared book that is opened so.
 pub fn open<K: Label>(alloc: Global, opening: Opening, blanks: Blanks) -> Result<Shared<K>, Fault>
-    requires names { (blanks.steps.name ≡ K.steps) × (blanks.counted.name ≡ K.counted) × (blanks.added.name ≡ K.added) × (blanks.removed.name ≡ K.removed) }
-    requires parts { (blanks.steps.parts ≡ K.parts) × (blanks.counted.parts ≡ K.parts) × (blanks.added.parts ≡ K.parts) × (blanks.removed.parts ≡ K.parts) × (K.parts ≡ 1025) }
+    requires names { HasNames blanks K.steps K.counted K.added K.removed }
+    requires parts { HasParts blanks K.parts × (K.parts ≡ PARTS) }
 {
     let (preservation, percent, interval, evict_ms) = opening.settings;
     let config = Config::new(preservation, percent, interval, evict_ms)?;
@@ -185,8 +186,8 @@ fn play<K: Label, R: Wait>(
     texts: [&str; 3],
     blanks: Blanks,
 ) -> Result<[Option<usize>; 3], Fault>
-    requires names { (blanks.steps.name ≡ K.steps) × (blanks.counted.name ≡ K.counted) × (blanks.added.name ≡ K.added) × (blanks.removed.name ≡ K.removed) }
-    requires parts { (blanks.steps.parts ≡ K.parts) × (blanks.counted.parts ≡ K.parts) × (blanks.added.parts ≡ K.parts) × (blanks.removed.parts ≡ K.parts) × (K.parts ≡ 1025) }
+    requires names { HasNames blanks K.steps K.counted K.added K.removed }
+    requires parts { HasParts blanks K.parts × (K.parts ≡ PARTS) }
 {
     let [begun, more, ended] = texts;
     let shared = open::<K>(alloc, opening, blanks)?;

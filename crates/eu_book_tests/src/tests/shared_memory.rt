@@ -1,5 +1,6 @@
 //! Want of memory. In a usual run no allocation is refused; `tools/sweep_memory.sh` refuses one after another, of the calls of the book alone.
 ghost use Rattle.std.specs.Prelude.{◌≡◌};
+ghost use Rattle.eu_shared.specs.Shares.{HasNames, HasParts};
 
 use crate::tests::closed::first_wrong_closed;
 use crate::tests::shared::{USUAL, open as open_shared};
@@ -9,7 +10,7 @@ use eu_clock::FirstChooser;
 use eu_fixtures::{moment, pause_or_go_on, read_ask, settings};
 use eu_model::{Ask, Command, Listed, Query, Reply, View};
 use eu_settle::Closed;
-use eu_shared::{Blanks, Held, Label, Pass, Shared, Unclosed, close};
+use eu_shared::{Blanks, Held, Label, PARTS, Pass, Shared, Unclosed, close};
 use std::alloc::{AllocError, Global};
 use std::marker::Brand;
 use std::sync::Wait;
@@ -325,8 +326,8 @@ fn is_closed<K: Label>(alloc: Global, first: Result<Closed, Unclosed<K>>) -> boo
 
 /// Whether a book that is held is told so, and closed. That it is opened is refused memory, too; it is to be opened anew then.
 fn play_held<K: Label>(alloc: Global, blanks: Blanks) -> Result<bool, Fault>
-    requires names { (blanks.steps.name ≡ K.steps) × (blanks.counted.name ≡ K.counted) × (blanks.added.name ≡ K.added) × (blanks.removed.name ≡ K.removed) }
-    requires parts { (blanks.steps.parts ≡ K.parts) × (blanks.counted.parts ≡ K.parts) × (blanks.added.parts ≡ K.parts) × (blanks.removed.parts ≡ K.parts) × (K.parts ≡ 1025) }
+    requires names { HasNames blanks K.steps K.counted K.added K.removed }
+    requires parts { HasParts blanks K.parts × (K.parts ≡ PARTS) }
 {
     let opened = Held::<K>::open(alloc, settings()?, 0, 0, blanks);
     pause_or_go_on(alloc);
@@ -349,8 +350,8 @@ fn memory_shared(rt: HostRuntime) {
 
 /// The same of a book behind its lock.
 fn play_locked<K: Label, R: Wait>(rt: &R, alloc: Global, blanks: Blanks) -> Result<bool, Fault>
-    requires names { (blanks.steps.name ≡ K.steps) × (blanks.counted.name ≡ K.counted) × (blanks.added.name ≡ K.added) × (blanks.removed.name ≡ K.removed) }
-    requires parts { (blanks.steps.parts ≡ K.parts) × (blanks.counted.parts ≡ K.parts) × (blanks.added.parts ≡ K.parts) × (blanks.removed.parts ≡ K.parts) × (K.parts ≡ 1025) }
+    requires names { HasNames blanks K.steps K.counted K.added K.removed }
+    requires parts { HasParts blanks K.parts × (K.parts ≡ PARTS) }
 {
     let opened = open_shared::<K>(alloc, USUAL, blanks);
     pause_or_go_on(alloc);

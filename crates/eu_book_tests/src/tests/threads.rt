@@ -1,5 +1,6 @@
 //! Two real threads with a pass each.
 ghost use Rattle.std.specs.Prelude.{◌≡◌};
+ghost use Rattle.eu_shared.specs.Shares.{HasNames, HasParts};
 
 use crate::tests::closed::first_wrong_end;
 use crate::tests::shared::{USUAL, open};
@@ -7,7 +8,7 @@ use eu_base::Fault;
 use eu_clock::FirstChooser;
 use eu_fixtures::{moment, registration, renewal};
 use eu_model::{Command, Reply};
-use eu_shared::{Blanks, Label, Pass, Shared};
+use eu_shared::{Blanks, Label, PARTS, Pass, Shared};
 use std::alloc::Global;
 use std::marker::Brand;
 use std::sync::Wait;
@@ -84,8 +85,8 @@ fn find<K: Label + Send + Sync, R: Threads + Wait + Sync>(
     alloc: Global,
     blanks: Blanks,
 ) -> Result<(bool, Option<usize>), Fault>
-    requires names { (blanks.steps.name ≡ K.steps) × (blanks.counted.name ≡ K.counted) × (blanks.added.name ≡ K.added) × (blanks.removed.name ≡ K.removed) }
-    requires parts { (blanks.steps.parts ≡ K.parts) × (blanks.counted.parts ≡ K.parts) × (blanks.added.parts ≡ K.parts) × (blanks.removed.parts ≡ K.parts) × (K.parts ≡ 1025) }
+    requires names { HasNames blanks K.steps K.counted K.added K.removed }
+    requires parts { HasParts blanks K.parts × (K.parts ≡ PARTS) }
 {
     let shared = open::<K>(alloc, USUAL, blanks)?;
     let zero = shared.pass(rt, alloc)?;

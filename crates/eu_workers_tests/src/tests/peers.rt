@@ -1,5 +1,6 @@
 //! Two servers of one process, of which each is the other's peer, and whose replicators work at once.
 ghost use Rattle.std.specs.Prelude.{◌≡◌};
+ghost use Rattle.eu_shared.specs.Shares.{HasNames, HasParts};
 
 use crate::tests::replicas::Open;
 use crate::tests::servers::{clock, leases, open};
@@ -9,7 +10,7 @@ use eu_clock::ListClock;
 use eu_in_process::InProcess;
 use eu_model::Query;
 use eu_routes::Routes;
-use eu_shared::{Blanks, Label, Seat, Shared};
+use eu_shared::{Blanks, Label, PARTS, Seat, Shared};
 use eu_workers::{Ended, Site, run_replicator};
 use std::alloc::Global;
 use std::marker::Brand;
@@ -159,8 +160,8 @@ fn open_other<K: Label + Send + Sync, L: Label + Send + Sync, R: Threads + Wait 
     here: &Shared<K>,
     others: Blanks,
 ) -> Result<Meeting, Fault>
-    requires other_names { (others.steps.name ≡ L.steps) × (others.counted.name ≡ L.counted) × (others.added.name ≡ L.added) × (others.removed.name ≡ L.removed) }
-    requires other_parts { (others.steps.parts ≡ L.parts) × (others.counted.parts ≡ L.parts) × (others.added.parts ≡ L.parts) × (others.removed.parts ≡ L.parts) × (L.parts ≡ 1025) }
+    requires other_names { HasNames others L.steps L.counted L.added L.removed }
+    requires other_parts { HasParts others L.parts × (L.parts ≡ PARTS) }
 {
     let there = open::<L>(alloc, others)?;
     let meeting = meet(rt, alloc, here, &there);
@@ -175,10 +176,10 @@ fn open_both<K: Label + Send + Sync, L: Label + Send + Sync, R: Threads + Wait +
     blanks: Blanks,
     others: Blanks,
 ) -> Result<Meeting, Fault>
-    requires names { (blanks.steps.name ≡ K.steps) × (blanks.counted.name ≡ K.counted) × (blanks.added.name ≡ K.added) × (blanks.removed.name ≡ K.removed) }
-    requires parts { (blanks.steps.parts ≡ K.parts) × (blanks.counted.parts ≡ K.parts) × (blanks.added.parts ≡ K.parts) × (blanks.removed.parts ≡ K.parts) × (K.parts ≡ 1025) }
-    requires other_names { (others.steps.name ≡ L.steps) × (others.counted.name ≡ L.counted) × (others.added.name ≡ L.added) × (others.removed.name ≡ L.removed) }
-    requires other_parts { (others.steps.parts ≡ L.parts) × (others.counted.parts ≡ L.parts) × (others.added.parts ≡ L.parts) × (others.removed.parts ≡ L.parts) × (L.parts ≡ 1025) }
+    requires names { HasNames blanks K.steps K.counted K.added K.removed }
+    requires parts { HasParts blanks K.parts × (K.parts ≡ PARTS) }
+    requires other_names { HasNames others L.steps L.counted L.added L.removed }
+    requires other_parts { HasParts others L.parts × (L.parts ≡ PARTS) }
 {
     let here = open::<K>(alloc, blanks)?;
     let meeting = open_other::<K, L, R>(rt, alloc, &here, others);

@@ -1,5 +1,6 @@
 //! The points of the gate that workers pass, with their numbers, and what it does to say `Stop` there.
 ghost use Rattle.std.specs.Prelude.{◌≡◌};
+ghost use Rattle.eu_shared.specs.Shares.{HasNames, HasParts};
 
 use crate::tests::hands::{push, push_timers, work_through};
 use crate::tests::replicas::registers;
@@ -8,7 +9,7 @@ use eu_clock::{FirstChooser, ListClock};
 use eu_fixtures::settings;
 use eu_model::Command;
 use eu_peer::{ItemAnswer, Lost, Peer};
-use eu_shared::{Blanks, Label, Pass, Shared};
+use eu_shared::{Blanks, Label, PARTS, Pass, Shared};
 use eu_workers::{Ended, Gate, Go, Incoming, Point, Work, Worker};
 use std::alloc::Global;
 use std::io::{self, ErrorKind, Write};
@@ -366,8 +367,8 @@ fn run<K: Label + Send + Sync, R: Threads + Wait + Sync>(
     blanks: Blanks,
     trouble: Trouble,
 ) -> Result<Told, Fault>
-    requires names { (blanks.steps.name ≡ K.steps) × (blanks.counted.name ≡ K.counted) × (blanks.added.name ≡ K.added) × (blanks.removed.name ≡ K.removed) }
-    requires parts { (blanks.steps.parts ≡ K.parts) × (blanks.counted.parts ≡ K.parts) × (blanks.added.parts ≡ K.parts) × (blanks.removed.parts ≡ K.parts) × (K.parts ≡ 1025) }
+    requires names { HasNames blanks K.steps K.counted K.added K.removed }
+    requires parts { HasParts blanks K.parts × (K.parts ≡ PARTS) }
 {
     let shared: Shared<K> = Shared::open(alloc, settings()?, 0, 8, blanks)?;
     let told = work_after(rt, alloc, &shared, trouble);
@@ -542,8 +543,8 @@ fn come_to<K: Label + Send + Sync, R: Threads + Wait + Sync>(
     alloc: Global,
     blanks: Blanks,
 ) -> Result<u64, Fault>
-    requires names { (blanks.steps.name ≡ K.steps) × (blanks.counted.name ≡ K.counted) × (blanks.added.name ≡ K.added) × (blanks.removed.name ≡ K.removed) }
-    requires parts { (blanks.steps.parts ≡ K.parts) × (blanks.counted.parts ≡ K.parts) × (blanks.added.parts ≡ K.parts) × (blanks.removed.parts ≡ K.parts) × (K.parts ≡ 1025) }
+    requires names { HasNames blanks K.steps K.counted K.added K.removed }
+    requires parts { HasParts blanks K.parts × (K.parts ≡ PARTS) }
 {
     let shared: Shared<K> = Shared::open(alloc, settings()?, 0, 0, blanks)?;
     let came = come(rt, alloc, &shared);

@@ -1,5 +1,6 @@
 //! A replicator, over a book of another server.
 ghost use Rattle.std.specs.Prelude.{◌≡◌};
+ghost use Rattle.eu_shared.specs.Shares.{HasNames, HasParts};
 
 use crate::tests::turns::{done, held, is_accepted};
 use eu_base::{Config, Fault, Moment, Task};
@@ -10,7 +11,7 @@ use eu_in_process::InProcess;
 use eu_model::Command;
 use eu_peer::{ItemAnswer, Lost, Peer};
 use eu_routes::Routes;
-use eu_shared::{Blanks, Label, Pass, Shared};
+use eu_shared::{Blanks, Label, PARTS, Pass, Shared};
 use eu_workers::{Ended, Gate, Go, Point, Site, run_replicator};
 use std::alloc::Global;
 use std::marker::Brand;
@@ -135,8 +136,8 @@ fn send<K: Label, R: Wait>(
     number: u32,
     config: Config,
 ) -> Result<(Ended, u64), Fault>
-    requires names { (blanks.steps.name ≡ K.steps) × (blanks.counted.name ≡ K.counted) × (blanks.added.name ≡ K.added) × (blanks.removed.name ≡ K.removed) }
-    requires parts { (blanks.steps.parts ≡ K.parts) × (blanks.counted.parts ≡ K.parts) × (blanks.added.parts ≡ K.parts) × (blanks.removed.parts ≡ K.parts) × (K.parts ≡ 1025) }
+    requires names { HasNames blanks K.steps K.counted K.added K.removed }
+    requires parts { HasParts blanks K.parts × (K.parts ≡ PARTS) }
 {
     let shared: Shared<K> = Shared::open(alloc, config, 0, 1, blanks)?;
     let sent = send_from(rt, alloc, &shared, number, &config);
@@ -256,8 +257,8 @@ fn turns_from<K: Label, R: Wait>(
     alloc: Global,
     blanks: Blanks,
 ) -> Result<(Ended, u64), Fault>
-    requires names { (blanks.steps.name ≡ K.steps) × (blanks.counted.name ≡ K.counted) × (blanks.added.name ≡ K.added) × (blanks.removed.name ≡ K.removed) }
-    requires parts { (blanks.steps.parts ≡ K.parts) × (blanks.counted.parts ≡ K.parts) × (blanks.added.parts ≡ K.parts) × (blanks.removed.parts ≡ K.parts) × (K.parts ≡ 1025) }
+    requires names { HasNames blanks K.steps K.counted K.added K.removed }
+    requires parts { HasParts blanks K.parts × (K.parts ≡ PARTS) }
 {
     let shared: Shared<K> = Shared::open(alloc, settings()?, 0, 1, blanks)?;
     let done = turns_by(rt, alloc, &shared);

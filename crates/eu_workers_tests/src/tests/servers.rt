@@ -1,5 +1,6 @@
 //! Two servers, each with its book behind a lock, of which each is the other's peer.
 ghost use Rattle.std.specs.Prelude.{◌≡◌};
+ghost use Rattle.eu_shared.specs.Shares.{HasNames, HasParts};
 
 use crate::tests::turns::is_accepted;
 use eu_base::{Fault, Moment};
@@ -8,7 +9,7 @@ use eu_fixtures::{registration, settings};
 use eu_in_process::InProcess;
 use eu_model::{Query, View};
 use eu_peer::{Turn, replicate_turn};
-use eu_shared::{Blanks, Label, Pass, Seat, Shared};
+use eu_shared::{Blanks, Label, PARTS, Pass, Seat, Shared};
 use std::alloc::Global;
 use std::marker::Brand;
 use std::sync::Wait;
@@ -169,8 +170,8 @@ fn meet<K: Label, L: Label, R: Wait>(
 
 /// A server with one peer.
 pub fn open<K: Label>(alloc: Global, blanks: Blanks) -> Result<Shared<K>, Fault>
-    requires names { (blanks.steps.name ≡ K.steps) × (blanks.counted.name ≡ K.counted) × (blanks.added.name ≡ K.added) × (blanks.removed.name ≡ K.removed) }
-    requires parts { (blanks.steps.parts ≡ K.parts) × (blanks.counted.parts ≡ K.parts) × (blanks.added.parts ≡ K.parts) × (blanks.removed.parts ≡ K.parts) × (K.parts ≡ 1025) }
+    requires names { HasNames blanks K.steps K.counted K.added K.removed }
+    requires parts { HasParts blanks K.parts × (K.parts ≡ PARTS) }
 {
     let config = settings()?;
     Ok(Shared::open(alloc, config, 0, 1, blanks)?)
@@ -183,8 +184,8 @@ fn open_other<K: Label, L: Label, R: Wait>(
     here: &Shared<K>,
     others: Blanks,
 ) -> Result<Findings, Fault>
-    requires other_names { (others.steps.name ≡ L.steps) × (others.counted.name ≡ L.counted) × (others.added.name ≡ L.added) × (others.removed.name ≡ L.removed) }
-    requires other_parts { (others.steps.parts ≡ L.parts) × (others.counted.parts ≡ L.parts) × (others.added.parts ≡ L.parts) × (others.removed.parts ≡ L.parts) × (L.parts ≡ 1025) }
+    requires other_names { HasNames others L.steps L.counted L.added L.removed }
+    requires other_parts { HasParts others L.parts × (L.parts ≡ PARTS) }
 {
     let there = open::<L>(alloc, others)?;
     let findings = meet(rt, alloc, here, &there);
@@ -199,10 +200,10 @@ fn open_both<K: Label, L: Label, R: Wait>(
     blanks: Blanks,
     others: Blanks,
 ) -> Result<Findings, Fault>
-    requires names { (blanks.steps.name ≡ K.steps) × (blanks.counted.name ≡ K.counted) × (blanks.added.name ≡ K.added) × (blanks.removed.name ≡ K.removed) }
-    requires parts { (blanks.steps.parts ≡ K.parts) × (blanks.counted.parts ≡ K.parts) × (blanks.added.parts ≡ K.parts) × (blanks.removed.parts ≡ K.parts) × (K.parts ≡ 1025) }
-    requires other_names { (others.steps.name ≡ L.steps) × (others.counted.name ≡ L.counted) × (others.added.name ≡ L.added) × (others.removed.name ≡ L.removed) }
-    requires other_parts { (others.steps.parts ≡ L.parts) × (others.counted.parts ≡ L.parts) × (others.added.parts ≡ L.parts) × (others.removed.parts ≡ L.parts) × (L.parts ≡ 1025) }
+    requires names { HasNames blanks K.steps K.counted K.added K.removed }
+    requires parts { HasParts blanks K.parts × (K.parts ≡ PARTS) }
+    requires other_names { HasNames others L.steps L.counted L.added L.removed }
+    requires other_parts { HasParts others L.parts × (L.parts ≡ PARTS) }
 {
     let here = open::<K>(alloc, blanks)?;
     let findings = open_other::<K, L, R>(rt, alloc, &here, others);

@@ -1,5 +1,6 @@
 //! Two session workers at once, beside the timers.
 ghost use Rattle.std.specs.Prelude.{◌≡◌};
+ghost use Rattle.eu_shared.specs.Shares.{HasNames, HasParts};
 
 use crate::tests::hands::{push, push_timers, work_through};
 use eu_base::{Fault, Task};
@@ -7,7 +8,7 @@ use eu_clock::{FirstChooser, ListClock};
 use eu_fixtures::{REGISTERED, settings};
 use eu_peer::{ItemAnswer, Lost, Peer};
 use eu_settle::{Closed, settle};
-use eu_shared::{Blanks, Label, Pass, Shared, close};
+use eu_shared::{Blanks, Label, PARTS, Pass, Shared, close};
 use eu_workers::{Ended, Gate, Go, Incoming, Point, Work, Worker};
 use std::alloc::Global;
 use std::io::{self, Read};
@@ -325,8 +326,8 @@ fn run<K: Label + Send + Sync, R: Threads + Wait + Clock + Sync>(
     alloc: Global,
     blanks: Blanks,
 ) -> Result<(Ended, u64, bool), Fault>
-    requires names { (blanks.steps.name ≡ K.steps) × (blanks.counted.name ≡ K.counted) × (blanks.added.name ≡ K.added) × (blanks.removed.name ≡ K.removed) }
-    requires parts { (blanks.steps.parts ≡ K.parts) × (blanks.counted.parts ≡ K.parts) × (blanks.added.parts ≡ K.parts) × (blanks.removed.parts ≡ K.parts) × (K.parts ≡ 1025) }
+    requires names { HasNames blanks K.steps K.counted K.added K.removed }
+    requires parts { HasParts blanks K.parts × (K.parts ≡ PARTS) }
 {
     let shared: Shared<K> = Shared::open(alloc, settings()?, 0, 0, blanks)?;
     run_on(rt, alloc, shared)

@@ -1,5 +1,6 @@
 //! Turns of the timers.
 ghost use Rattle.std.specs.Prelude.{◌≡◌};
+ghost use Rattle.eu_shared.specs.Shares.{HasNames, HasParts};
 
 use crate::tests::trims::first_number;
 use eu_base::{Fault, Moment};
@@ -7,7 +8,7 @@ use eu_clock::{FirstChooser, ListClock};
 use eu_fixtures::settings;
 use eu_model::Command;
 use eu_routes::Routes;
-use eu_shared::{Blanks, Label, Pass, Shared, close};
+use eu_shared::{Blanks, Label, PARTS, Pass, Shared, close};
 use eu_workers::{Ended, Gate, Go, Point, Site, run_bucket, run_evictor, run_threshold};
 use std::alloc::Global;
 use std::marker::Brand;
@@ -174,8 +175,8 @@ fn work<K: Label, R: Wait>(
     go: Go,
     limits: Limits,
 ) -> Result<Timers, Fault>
-    requires names { (blanks.steps.name ≡ K.steps) × (blanks.counted.name ≡ K.counted) × (blanks.added.name ≡ K.added) × (blanks.removed.name ≡ K.removed) }
-    requires parts { (blanks.steps.parts ≡ K.parts) × (blanks.counted.parts ≡ K.parts) × (blanks.added.parts ≡ K.parts) × (blanks.removed.parts ≡ K.parts) × (K.parts ≡ 1025) }
+    requires names { HasNames blanks K.steps K.counted K.added K.removed }
+    requires parts { HasParts blanks K.parts × (K.parts ≡ PARTS) }
 {
     let shared: Shared<K> = Shared::open(alloc, settings()?, 0, 0, blanks)?;
     let timers = work_on(rt, alloc, &shared, go, limits);
@@ -362,8 +363,8 @@ fn leave<K: Label, R: Wait>(
     turns: u64,
     blanks: Blanks,
 ) -> Result<Left, Fault>
-    requires names { (blanks.steps.name ≡ K.steps) × (blanks.counted.name ≡ K.counted) × (blanks.added.name ≡ K.added) × (blanks.removed.name ≡ K.removed) }
-    requires parts { (blanks.steps.parts ≡ K.parts) × (blanks.counted.parts ≡ K.parts) × (blanks.added.parts ≡ K.parts) × (blanks.removed.parts ≡ K.parts) × (K.parts ≡ 1025) }
+    requires names { HasNames blanks K.steps K.counted K.added K.removed }
+    requires parts { HasParts blanks K.parts × (K.parts ≡ PARTS) }
 {
     let shared: Shared<K> = Shared::open(alloc, settings()?, 0, 0, blanks)?;
     leave_of(rt, alloc, turns, shared)

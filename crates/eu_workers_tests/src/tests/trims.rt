@@ -1,5 +1,6 @@
 //! Before each turn a worker passes the gate, and after it the log of its pass is trimmed.
 ghost use Rattle.std.specs.Prelude.{◌≡◌};
+ghost use Rattle.eu_shared.specs.Shares.{HasNames, HasParts};
 
 use crate::tests::replicas::{registers, server};
 use crate::tests::servers::clock;
@@ -9,7 +10,7 @@ use eu_clock::{FirstChooser, ListClock};
 use eu_fixtures::{RENEWAL, settings};
 use eu_in_process::InProcess;
 use eu_routes::Routes;
-use eu_shared::{Blanks, Label, Pass, Shared};
+use eu_shared::{Blanks, Label, PARTS, Pass, Shared};
 use eu_workers::{
     Ended, Gate, Go, Incoming, Point, Site, run_bucket, run_evictor, run_replicator, run_sessions,
     run_threshold,
@@ -254,8 +255,8 @@ fn work<K: Label, R: Wait>(
     blanks: Blanks,
     config: Config,
 ) -> Result<Leaving, Fault>
-    requires names { (blanks.steps.name ≡ K.steps) × (blanks.counted.name ≡ K.counted) × (blanks.added.name ≡ K.added) × (blanks.removed.name ≡ K.removed) }
-    requires parts { (blanks.steps.parts ≡ K.parts) × (blanks.counted.parts ≡ K.parts) × (blanks.added.parts ≡ K.parts) × (blanks.removed.parts ≡ K.parts) × (K.parts ≡ 1025) }
+    requires names { HasNames blanks K.steps K.counted K.added K.removed }
+    requires parts { HasParts blanks K.parts × (K.parts ≡ PARTS) }
 {
     let shared: Shared<K> = Shared::open(alloc, config, 0, 1, blanks)?;
     let leaving = work_on(rt, alloc, &shared, &config);

@@ -1,5 +1,6 @@
 //! Whom the evictor evicts: at the moment of its clock, by the words of its chooser.
 ghost use Rattle.std.specs.Prelude.{◌≡◌};
+ghost use Rattle.eu_shared.specs.Shares.{HasNames, HasParts};
 
 use crate::tests::replicas::Open;
 use eu_base::{Config, Fault, Moment};
@@ -7,7 +8,7 @@ use eu_clock::{FirstChooser, ListChooser, ListClock};
 use eu_fixtures::{clock, ids, registration};
 use eu_model::Reply;
 use eu_routes::Routes;
-use eu_shared::{Blanks, Label, Pass, Shared};
+use eu_shared::{Blanks, Label, PARTS, Pass, Shared};
 use eu_workers::{Site, run_evictor};
 use std::alloc::{AllocError, Global};
 use std::marker::Brand;
@@ -130,8 +131,8 @@ fn evicts_half<K: Label, R: Wait>(
     alloc: Global,
     blanks: Blanks,
 ) -> Result<(u64, String), Fault>
-    requires names { (blanks.steps.name ≡ K.steps) × (blanks.counted.name ≡ K.counted) × (blanks.added.name ≡ K.added) × (blanks.removed.name ≡ K.removed) }
-    requires parts { (blanks.steps.parts ≡ K.parts) × (blanks.counted.parts ≡ K.parts) × (blanks.added.parts ≡ K.parts) × (blanks.removed.parts ≡ K.parts) × (K.parts ≡ 1025) }
+    requires names { HasNames blanks K.steps K.counted K.added K.removed }
+    requires parts { HasParts blanks K.parts × (K.parts ≡ PARTS) }
 {
     let config = Config::new(false, 50, 30, 60_000)?;
     let shared: Shared<K> = Shared::open(alloc, config, 0, 0, blanks)?;

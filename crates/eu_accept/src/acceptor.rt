@@ -43,7 +43,7 @@ pub struct Timeouts {
 impl Timeouts {
     /// Those of a server.
     pub fn of_server() -> Timeouts
-        ensures { result ≡ record { read = 10000; write = 10000; linger = 1000; linger_bytes = 65536 } }
+        ensures { result ≡ record { read = READ_TIMEOUT_MS; write = WRITE_TIMEOUT_MS; linger = LINGER_MS; linger_bytes = LINGER_BYTES } }
     {
         Timeouts {
             read: READ_TIMEOUT_MS,

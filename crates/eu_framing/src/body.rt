@@ -4,6 +4,7 @@ ghost use Rattle.eu_framing.specs.Fields.{IsWithin};
 ghost use Rattle.eu_framing.specs.Message.{ReadsSized, BreaksSized, ReadsBody, BreaksBody, max_head};
 ghost use Rattle.eu_framing.specs.Reading.{Grows, Blames};
 
+use crate::MAX_BODY;
 use crate::buffer::{Piece, fill_to};
 use crate::chunks::read_chunked;
 use crate::fields::Framing;
@@ -24,7 +25,7 @@ fn read_sized<R: Source>(
 ) -> Result<(Vec<u8>, usize), Fault>
     requires within { start ≤ vec_len buffer.old }
     requires near { start ≤ max_head }
-    requires short { len ≤ 1048576 }
+    requires short { len ≤ MAX_BODY }
     ensures grows { OnOk result (Grows (R.remaining reader.old) (R.failed reader.old) buffer.old.items (R.remaining reader.new) (R.failed reader.new) buffer.new.items) }
     ensures body { IfOk result (λ r. (more : List ℕ) → ReadsSized len (drop start (buffer.new.items ++ more)) r.0.items (drop r.1 buffer.new.items ++ more)) }
     ensures inside { IfOk result (λ r. r.1 ≤ vec_len buffer.new) }

@@ -12,7 +12,7 @@ ghost use Rattle.eu_framing.specs.ChunkSteps.{TakesStep, TakesChunks};
 
 use crate::buffer::{Piece, fill, fill_to, window};
 use crate::trailer::find_trailer;
-use crate::{MAX_BODY, MAX_RAW};
+use crate::{MAX_BODY, MAX_RAW, MAX_TRAILER};
 use eu_base::Fault;
 use eu_stream::Source;
 use httparse::{Status, parse_chunk_size};
@@ -100,7 +100,7 @@ fn find_line<R: Source>(
     room: usize,
 ) -> Result<(usize, u64), Fault>
     requires within { start ≤ vec_len buffer.old }
-    requires near { start + room ≤ 4202496 }
+    requires near { start + room ≤ MAX_RAW + MAX_TRAILER }
     ensures grows { OnOk result (Grows (R.remaining reader.old) (R.failed reader.old) buffer.old.items (R.remaining reader.new) (R.failed reader.new) buffer.new.items) }
     ensures line { IfOk result (FindsLine room (drop start buffer.new.items)) }
     ensures inside { IfOk result (λ found. start + found.0 ≤ vec_len buffer.new) }
@@ -144,8 +144,8 @@ fn await_end<R: Source>(
     size: usize,
 ) -> Result<(), Fault>
     requires within { start ≤ vec_len buffer.old }
-    requires near { start + room ≤ 4202496 }
-    requires short { size ≤ 1048576 }
+    requires near { start + room ≤ MAX_RAW + MAX_TRAILER }
+    requires short { size ≤ MAX_BODY }
     ensures grows { OnOk result (Grows (R.remaining reader.old) (R.failed reader.old) buffer.old.items (R.remaining reader.new) (R.failed reader.new) buffer.new.items) }
     ensures fault { IfErr result (λ fault. Blames (R.failed reader.new) (R.remaining reader.old) buffer.old.items (R.remaining reader.new) buffer.new.items fault (λ bytes f. IsDataFault room size (drop start bytes) f)) }
     ensures told { IfErr result (λ fault. fault ≢ Fault.Read → R.failed reader.new ≡ R.failed reader.old) }
@@ -173,8 +173,8 @@ fn take_data<R: Source>(
     size: usize,
 ) -> Result<(), Fault>
     requires within { start ≤ vec_len buffer.old }
-    requires near { start + room ≤ 4202496 }
-    requires short { size ≤ 1048576 }
+    requires near { start + room ≤ MAX_RAW + MAX_TRAILER }
+    requires short { size ≤ MAX_BODY }
     ensures grows { OnOk result (Grows (R.remaining reader.old) (R.failed reader.old) buffer.old.items (R.remaining reader.new) (R.failed reader.new) buffer.new.items) }
     ensures data_ { OnOk result ((chunk : List ℕ) × (length chunk ≡ size) × (body.new.items ≡ body.old.items ++ chunk) × (drop start buffer.new.items ≡ chunk ++ (crlf_bytes ++ drop (start + size + 2) buffer.new.items))) }
     ensures inside { OnOk result (start + size + 2 ≤ vec_len buffer.new) }
@@ -210,8 +210,8 @@ fn take_chunk<R: Source>(
     room: usize,
 ) -> Result<Step, Fault>
     requires within { start ≤ vec_len buffer.old }
-    requires near { start + room ≤ 4202496 }
-    requires held { vec_len body.old ≤ 1048576 }
+    requires near { start + room ≤ MAX_RAW + MAX_TRAILER }
+    requires held { vec_len body.old ≤ MAX_BODY }
     ensures grows { OnOk result (Grows (R.remaining reader.old) (R.failed reader.old) buffer.old.items (R.remaining reader.new) (R.failed reader.new) buffer.new.items) }
     ensures step { IfOk result (TakesStep start room buffer.new.items body.old.items body.new.items) }
     ensures fault { IfErr result (λ fault. Blames (R.failed reader.new) (R.remaining reader.old) buffer.old.items (R.remaining reader.new) buffer.new.items fault (λ bytes f. BreaksChunks room (length body.old.items) (drop start bytes) f)) }

@@ -10,7 +10,7 @@ ghost use Rattle.eu_framing.specs.ChunkSteps.{FindsTrailer, lines_in, long_trail
 
 use crate::buffer::{Piece, fill, window};
 use crate::scan::Scan;
-use crate::{MAX_FIELDS, MAX_TRAILER};
+use crate::{MAX_FIELDS, MAX_RAW, MAX_TRAILER};
 use eu_base::Fault;
 use eu_stream::Source;
 use httparse::Status;
@@ -128,7 +128,7 @@ pub fn find_trailer<R: Source>(
     room: usize,
 ) -> Result<usize, Fault>
     requires within { start ≤ vec_len buffer.old }
-    requires near { start + room ≤ 4202496 }
+    requires near { start + room ≤ MAX_RAW + MAX_TRAILER }
     ensures grows { OnOk result (Grows (R.remaining reader.old) (R.failed reader.old) buffer.old.items (R.remaining reader.new) (R.failed reader.new) buffer.new.items) }
     ensures trailer { IfOk result (FindsTrailer room (drop start buffer.new.items)) }
     ensures inside { IfOk result (λ len. start + len ≤ vec_len buffer.new) }

@@ -17,6 +17,7 @@ use Rattle.eu_base.specs.declared.tasks.Action.{Action}
 use Rattle.eu_base.specs.declared.tasks.Action.TheVariants.{Register, Heartbeat, Cancel, StatusUpdate, DeleteStatusOverride}
 use Rattle.eu_base.specs.declared.tasks.Task.{Task}
 use Rattle.eu_base.specs.Gives.{◌>>=◌}
+use Rattle.eu_base.specs.Limits.{longest_name}
 use Rattle.eu_journal_values.specs.Commands.{IsCode, codes_of}
 use Rattle.eu_journal_values.specs.Limits.{IsConfig, IsInstance, IsKey, IsName, IsStamp, IsTask}
 use Rattle.eu_journal_values.specs.Trees.{config_tree, instance_tree, key_tree, optional, rest_tree, status_tree, task_rest, task_tree, whole_number}
@@ -45,7 +46,7 @@ action_back DeleteStatusOverride = refl
 
 pub name_back : (name : List ℕ) → IsName name → name_of name ≡ Ok name
 name_back [] is = absurd (omega (arith, is.0))
-name_back (b ∷ bs) is = rw (lt-ltb (length (b ∷ bs)) 256 (omega (arith, is.1))) refl
+name_back (b ∷ bs) is = rw (lt-ltb (length (b ∷ bs)) (longest_name + 1) (omega (arith, is.1))) refl
 
 pub small_back : (n : ℕ) → n < 2 ^ 32 → below_32 n ≡ Ok n
 small_back n few = rw (lt-ltb n (2 ^ 32) few) refl

@@ -1,5 +1,5 @@
 -- What the JSON of a line says: it is read as it is written, whatever else stands there
-use Rattle.std.specs.Prelude.{ℕ, ◌&&◌, not, List, [], ◌∷◌, length, Option, Result, Ok, Err, nat_lt, if◌then◌else◌, codes, is_some}
+use Rattle.std.specs.Prelude.{ℕ, ◌+◌, ◌&&◌, not, List, [], ◌∷◌, length, Option, Result, Ok, Err, nat_lt, if◌then◌else◌, codes, is_some}
 use Rattle.std.specs.Str.{str_to_ascii_uppercase}
 use Rattle.serde_json.specs.Data.{Data}
 use Rattle.serde_json.specs.Find.{as_object}
@@ -12,6 +12,7 @@ use Rattle.eu_base.specs.declared.settings.Config.{Config}
 use Rattle.eu_base.specs.declared.tasks.Task.{Task}
 use Rattle.eu_model.specs.declared.views.Times.{Times}
 use Rattle.eu_base.specs.Gives.{◌>>=◌}
+use Rattle.eu_base.specs.Limits.{longest_name}
 use Rattle.eu_journal_values.specs.Members.{action_in, lease_secs_in, member_in, moment_in, needed, number_in, optional_in, renewal_secs_in, small_in, stamp_in, status_in, text_in, truth_in, unless_null}
 use Rattle.eu_journal_values.specs.declared.faults.LineFault.{LineFault}
 use Rattle.eu_journal_values.specs.declared.faults.LineFault.TheVariants.{NotALine}
@@ -21,7 +22,7 @@ use Rattle.eu_journal_values.specs.declared.faults.LineFault.TheVariants.{NotALi
 -- a name has 1 to 255 bytes
 abbrev pub name_of : List ℕ → Result (List ℕ) LineFault
 name_of [] = Err NotALine
-name_of (b ∷ bs) = if nat_lt (length (b ∷ bs)) 256 then Ok (b ∷ bs) else Err NotALine
+name_of (b ∷ bs) = if nat_lt (length (b ∷ bs)) (longest_name + 1) then Ok (b ∷ bs) else Err NotALine
 
 -- an application's ASCII letters are capitals
 unfoldable pub app_of : List ℕ → Result (List ℕ) LineFault

@@ -19,7 +19,7 @@ use Rattle.eu_base.specs.declared.tasks.Task.{Task}
 use Rattle.eu_model.specs.declared.commands.Command.{Command}
 use Rattle.eu_model.specs.declared.commands.Command.TheVariants as command
 use Rattle.eu_json.specs.Batch.{action_in, app_within, command_of, instance_in, items_in, key_in, name_within, of_item, of_text, or_bad, status_given, status_needed, batch_tree, instance_members, task_tree}
-use Rattle.eu_base.specs.Limits.{most_sent}
+use Rattle.eu_base.specs.Limits.{longest_name, most_sent}
 use Rattle.eu_json.specs.Batch as batch
 use Rattle.eu_json.specs.BatchLaw.{BatchesComeBack, HasParts, IsKey, IsRead, IsSound, asked_by, command_by}
 use Rattle.eu_base.specs.Gives.{result_map}
@@ -44,8 +44,8 @@ needed_back Starting = refl
 needed_back OutOfService = refl
 needed_back Unknown = refl
 
-name_back : (name : List ℕ) → 0 < length name → length name ≤ 255 → name_within name ≡ Ok name
-name_back name filled few = rw (lt-ltb 0 (length name) filled, lt-ltb (length name) 256 (omega arith)) refl
+name_back : (name : List ℕ) → 0 < length name → length name ≤ longest_name → name_within name ≡ Ok name
+name_back name filled few = rw (lt-ltb 0 (length name) filled, lt-ltb (length name) (longest_name + 1) (omega arith)) refl
 
 app_back : (k : Key) → IsKey k → app_within k.app ≡ Ok k.app
 unfolding app_within

@@ -9,6 +9,7 @@ use Rattle.eu_base.specs.declared.faults.Fault.{Fault}
 use Rattle.eu_base.specs.declared.faults.Fault.TheVariants.{MissingId, MissingHost, MissingIp, MissingCenter, MissingCenterName, NotJson, NotWhole, TooLong}
 use Rattle.eu_base.specs.declared.instances.Instance.{Instance}
 use Rattle.eu_base.specs.Gives.{◌>>=◌}
+use Rattle.eu_base.specs.Limits.{longest_name}
 use Rattle.eu_json.specs.Tree.{text_at, is_blank}
 use Rattle.eu_json.specs.Reading.{address_stands, app_stands, center_stands, digits_within, instance_of, interval_in, interval_within, lease_member, name_of, of_body, of_member, of_object, secs_digits, secs_in, secs_within, short, stamp_in}
 use Rattle.eu_json.proofs.KeptLemmas.{Lacks, buts, buts_other, buts_self, in_order_buts}
@@ -113,7 +114,7 @@ said_of_object i app moment ms order whole is =
     let last_dirty = ok_step (stamp_in moment (get (codes "lastDirtyTimestamp") (object ms))) _ i id.2 in
     let secs = ok_step (secs_in (lease_member (codes "durationInSecs") (object ms))) _ i last_dirty.2 in
     let same = ok_same _ i secs.2 in
-    let named : name.0 ≡ i.key.id = short_by (nat_lt 255 (length name.0)) name.0 id.0 id.1 ∙ ap (λ j. j.key.id) same in
+    let named : name.0 ≡ i.key.id = short_by (nat_lt longest_name (length name.0)) name.0 id.0 id.1 ∙ ap (λ j. j.key.id) same in
     let filled = named_by (text_at (codes "hostName") (object ms)) (text_at (codes "instanceId") (object ms)) name.0 name.1 in
     record {
       rest = sym (ap (λ j. j.rest) same);
@@ -124,7 +125,7 @@ said_of_object i app moment ms order whole is =
       address = ap address_by (buts_other (codes "ipAddr") own_names ms refl) ∙ address.1;
       center = ap center_by (buts_other (codes "dataCenterInfo") own_names ms refl) ∙ center.1;
       id_filled = ap is_blank (sym named) ∙ filled.1;
-      id_short = ap short (sym named) ∙ id.1 ∙ ap Ok (sym (short_by (nat_lt 255 (length name.0)) name.0 id.0 id.1) ∙ named);
+      id_short = ap short (sym named) ∙ id.1 ∙ ap Ok (sym (short_by (nat_lt longest_name (length name.0)) name.0 id.0 id.1) ∙ named);
       secs = subst (λ (n : ℕ). secs_within n ≡ Ok n) (ap (λ j. j.secs) same) (secs_kept (lease_member (codes "durationInSecs") (object ms)) secs.0 secs.1);
       interval = subst (λ (n : ℕ). interval_within n ≡ n) (ap (λ j. j.interval) same) (interval_kept (lease_member (codes "renewalIntervalInSecs") (object ms)));
     }

@@ -1,5 +1,5 @@
 -- Batches: their trees, what is read of them, and what they are answered
-use Rattle.std.specs.Prelude.{ℕ, List, map, Option, Some, None, unwrap_or, decimal, codes, true, false, ◌&&◌, [], ◌∷◌, length, Result, Ok, Err, if◌then◌else◌, nat_lt, ok_or, option_and_then, option_map}
+use Rattle.std.specs.Prelude.{ℕ, ◌+◌, List, map, Option, Some, None, unwrap_or, decimal, codes, true, false, ◌&&◌, [], ◌∷◌, length, Result, Ok, Err, if◌then◌else◌, nat_lt, ok_or, option_and_then, option_map}
 use Rattle.serde_json.specs.Data.{Data, string, object, Members, no_members, member, null, boolean, number, array, Items, no_items, item}
 use Rattle.eu_base.specs.Values.{action_name, status_name, action_of, status_of}
 use Rattle.eu_base.specs.declared.instances.Instance.{Instance}
@@ -18,7 +18,7 @@ use Rattle.eu_base.specs.declared.faults.Fault.{Fault}
 use Rattle.eu_base.specs.declared.faults.Fault.TheVariants.{BadBatch}
 use Rattle.eu_base.specs.declared.names.Key.{Key}
 use Rattle.eu_base.specs.declared.statuses.Status.TheVariants.{Unknown}
-use Rattle.eu_base.specs.Limits.{most_sent}
+use Rattle.eu_base.specs.Limits.{longest_name, most_sent}
 use Rattle.eu_model.specs.declared.commands.Command.{Command}
 use Rattle.eu_model.specs.declared.commands.Command.TheVariants.{Register, Renew, Cancel, SetStatus, UnsetStatus}
 use Rattle.eu_base.specs.Gives.{◌>>=◌, result_map}
@@ -108,7 +108,7 @@ action_in i = ok_or (action_of (text_at (codes "action") i)) BadBatch
 
 -- 1 to 255 bytes
 abbrev pub name_within : List ℕ → Result (List ℕ) Fault
-name_within text = if nat_lt 0 (length text) && nat_lt (length text) 256 then Ok text else Err BadBatch
+name_within text = if nat_lt 0 (length text) && nat_lt (length text) (longest_name + 1) then Ok text else Err BadBatch
 
 -- an application's ASCII letters are capitals
 unfoldable pub app_within : List ℕ → Result (List ℕ) Fault

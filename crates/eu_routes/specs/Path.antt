@@ -1,5 +1,5 @@
 -- The path of a request's target, and its segments
-use Rattle.std.specs.Prelude.{◌≡◌, ◌≢◌, ℕ, ◌-◌, All, Bool, ◌&&◌, not, List, [], ◌∷◌, length, map, take, drop, Result, Ok, Err, nat_lt, nat_eq, ◌==◌, if◌then◌else◌, codes}
+use Rattle.std.specs.Prelude.{◌≡◌, ◌≢◌, ℕ, ◌+◌, ◌-◌, All, Bool, ◌&&◌, not, List, [], ◌∷◌, length, map, take, drop, Result, Ok, Err, nat_lt, nat_eq, ◌==◌, if◌then◌else◌, codes}
 use Rattle.std.specs.Char.{to_ascii_lowercase}
 use Rattle.std.specs.List.{ends_with, position_or_len, suffix_len}
 use Rattle.std.specs.Str.{bytes_eq, is_utf8, str_to_ascii_uppercase}
@@ -8,6 +8,7 @@ use Rattle.eu_base.specs.declared.faults.Fault.{Fault}
 use Rattle.eu_base.specs.declared.faults.Fault.TheVariants.{BadPath}
 use Rattle.eu_base.specs.declared.names.Key.{Key}
 use Rattle.eu_base.specs.Gives.{◌>>=◌}
+use Rattle.eu_base.specs.Limits.{longest_name}
 
 abbrev pub slash : ℕ
 slash = 47
@@ -67,7 +68,7 @@ text_at segment = if is_utf8 (percent_decode segment) then Ok (percent_decode se
 
 -- a name has 1 to 255 bytes
 abbrev pub is_name : List ℕ → Bool
-is_name text = nat_lt 0 (length text) && nat_lt (length text) 256
+is_name text = nat_lt 0 (length text) && nat_lt (length text) (longest_name + 1)
 
 unfoldable pub as_name : List ℕ → Result (List ℕ) Fault
 as_name text = if is_name text then Ok text else Err BadPath

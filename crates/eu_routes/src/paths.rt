@@ -4,7 +4,7 @@ ghost use Rattle.std.specs.Cow.{cow_str_bytes};
 ghost use Rattle.eu_base.specs.Gives.{Gives, result_map};
 ghost use Rattle.eu_routes.specs.Path as spec;
 
-use eu_base::{App, Fault, Id, Key};
+use eu_base::{App, Fault, Id, Key, LONGEST_NAME};
 use percent_encoding::{DecodeError, percent_decode_str};
 use std::alloc::Global;
 use std::borrow::CowStr;
@@ -87,7 +87,7 @@ fn judge(text: &str) -> Result<(), Fault>
     ensures name { OnOk result (spec.is_name text.now ≡ true) }
     ensures other { IfErr result (λ f. (f ≡ Fault.BadPath) × (spec.is_name text.now ≡ false)) }
 {
-    if text.is_empty() || text.len() > 255 {
+    if text.is_empty() || text.len() > LONGEST_NAME {
         return Err(Fault::BadPath);
     }
     Ok(())

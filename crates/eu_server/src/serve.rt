@@ -14,10 +14,13 @@ ghost use Rattle.eu_shared.specs.Closing.{account_of};
 ghost use Rattle.eu_shared.specs.Shares.{HasNames, HasParts};
 
 use crate::no_peer::NoPeer;
-use eu_accept::{Acceptor, Admission, Connections, Timeouts};
+use eu_accept::{
+    Acceptor, Admission, Connections, LINGER_BYTES, LINGER_MS, READ_TIMEOUT_MS, Timeouts,
+    WRITE_TIMEOUT_MS,
+};
 use eu_base::{Config, Fault};
 use eu_clock::{Chooser, SystemClock};
-use eu_gate::{MOST_WORKERS, Periods};
+use eu_gate::{BUCKET_MS, MOST_WORKERS, Periods, THRESHOLD_MS};
 use eu_journal_text::{WriteError, write_journal};
 use eu_routes::Routes;
 use eu_settle::{Closed, settle};
@@ -58,8 +61,8 @@ impl Plan {
     /// `THRESHOLD_MS`, and its timeouts are `READ_TIMEOUT_MS`, `WRITE_TIMEOUT_MS`, `LINGER_MS` and `LINGER_BYTES`.
     pub fn of_server(config: Config, expected: u32, workers: u32, sessions: u32) -> Plan
         ensures settings { (result.config ≡ config) × (result.expected ≡ expected) × (result.workers ≡ workers) × (result.sessions ≡ sessions) }
-        ensures periods { result.periods ≡ record { evictor = config.evict_ms; bucket = 60000; threshold = 900000 } }
-        ensures timeouts { result.timeouts ≡ record { read = 10000; write = 10000; linger = 1000; linger_bytes = 65536 } }
+        ensures periods { result.periods ≡ record { evictor = config.evict_ms; bucket = BUCKET_MS; threshold = THRESHOLD_MS } }
+        ensures timeouts { result.timeouts ≡ record { read = READ_TIMEOUT_MS; write = WRITE_TIMEOUT_MS; linger = LINGER_MS; linger_bytes = LINGER_BYTES } }
     {
         Plan {
             config,

@@ -31,6 +31,7 @@ pub struct Held<K: Label> {
 
 impl<K: Label> Model for Held<K> {
     ghost use Rattle.std.specs.Prelude.{◌≡◌, ◌+◌, ◌≤◌};
+    ghost use Rattle.eu_base.specs.Limits.{most_passes};
     ghost use Rattle.eu_model.specs.Delta.{nothing};
     ghost use Rattle.eu_shared.specs.Passes.{Holding};
     ghost use Rattle.eu_shared.specs.PassCode.{coded_holding};
@@ -41,7 +42,7 @@ impl<K: Label> Model for Held<K> {
 
     ghost view = { λ h. record { book = h.book; pass_count = h.pass_count } };
 
-    ghost invariant = { λ h. (h.totals ≡ h.book.totals) × (h.rest.tally ≡ nothing) × (h.rest.parts + h.pass_count ≡ 1025) × (h.pass_count ≤ 1024) × (K.parts ≡ 1025) };
+    ghost invariant = { λ h. (h.totals ≡ h.book.totals) × (h.rest.tally ≡ nothing) × (h.rest.parts + h.pass_count ≡ most_passes + 1) × (h.pass_count ≤ most_passes) × (K.parts ≡ most_passes + 1) };
 }
 
 impl<K: Label> Held<K> {
@@ -109,7 +110,7 @@ impl<K: Label> Held<K> {
     pub fn pass(&mut self, alloc: Global) -> Result<Pass<K>, Fault>
         ensures pass { IfOk result (λ pass. pass ≡ new_pass self.old.pass_count) }
         ensures pass_count { OnOk result (self.new ≡ record { book = self.old.book; pass_count = self.old.pass_count + 1 }) }
-        ensures many { (result ≡ Err Fault.TooManyPasses) ↔ (self.old.pass_count ≡ 1024) }
+        ensures many { (result ≡ Err Fault.TooManyPasses) ↔ (self.old.pass_count ≡ MOST_PASSES) }
         ensures no_other { IfErr result (λ f. f ≡ Fault.TooManyPasses) }
         ensures err { OnErr result (self.new ≡ self.old) }
     {

@@ -6,12 +6,13 @@ ghost use Rattle.std.specs.Prelude.{◌≡◌, ℕ, ◌+◌, ◌<◌};
 ghost use Rattle.eu_model.specs.Delta.{nothing, plus};
 ghost use Rattle.eu_shared.specs.Shares.{HasNames, HasParts, IsAtMost, Part};
 
+use eu_base::MOST_PASSES;
 use eu_model::Tally;
 use std::marker::{Brand, Model, PhantomData};
 use std::sync::ledger::{Blank, Book, Ledger, Share};
 
 /// The parts of each ledger: one for each pass, and one for the book.
-pub const PARTS: u64 = 1_025;
+pub const PARTS: u64 = MOST_PASSES + 1;
 
 /// Which four ledgers they are: their names, and the parts of each. A call names them by `Brand`.
 pub trait Label {

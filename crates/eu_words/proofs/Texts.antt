@@ -13,6 +13,7 @@ use Rattle.eu_base.specs.declared.faults.Fault.{Fault}
 use Rattle.eu_base.specs.declared.faults.Fault.TheVariants as faults
 use Rattle.eu_base.specs.Fault.{fault_number}
 use Rattle.eu_base.specs.Digits.{digits}
+use Rattle.eu_base.specs.Limits.{longest_name}
 use Rattle.eu_words.specs.Words.{◌>>=◌, words_of, end_at, is_name, number}
 
 -- the first word ends before the first space
@@ -75,11 +76,11 @@ and_false false b e = refl
 pub no_name : (w : List ℕ) → (IsUtf8 w → ⊥) → is_name w ≡ false
 no_name w h = and_false _ (is_utf8 w) (false_from_ne_true _ (λ e. h (IsUtf8-from_is_utf8 w e)))
 
-some_length : (w : List ℕ) → 0 < length w → length w ≤ 255 → IsUtf8 w → is_name w ≡ true
+some_length : (w : List ℕ) → 0 < length w → length w ≤ longest_name → IsUtf8 w → is_name w ≡ true
 some_length w low high u = rw (is_utf8-from_IsUtf8 w u) (grind arith)
 
 -- a word of UTF-8 that is neither empty nor too long is a name
-pub some_name : (w : List ℕ) → (w ≡ [] → ⊥) → (255 < length w → ⊥) → IsUtf8 w → is_name w ≡ true
+pub some_name : (w : List ℕ) → (w ≡ [] → ⊥) → (longest_name < length w → ⊥) → IsUtf8 w → is_name w ≡ true
 some_name [] filled short u = absurd (filled refl)
 some_name (x ∷ xs) filled short u = some_length (x ∷ xs) (omega arith) (omega (arith, short)) u
 

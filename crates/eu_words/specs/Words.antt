@@ -1,5 +1,5 @@
 -- The words of a line, and what a word says at its place
-use Rattle.std.specs.Prelude.{◌≡◌, ℕ, ◌^◌, ◌-◌, Bool, true, false, ◌&&◌, List, [], ◌∷◌, length, Option, Some, None, Result, Ok, Err, nat_lt, nat_le, ◌==◌, if◌then◌else◌, codes}
+use Rattle.std.specs.Prelude.{◌≡◌, ℕ, ◌+◌, ◌^◌, ◌-◌, Bool, true, false, ◌&&◌, List, [], ◌∷◌, length, Option, Some, None, Result, Ok, Err, nat_lt, nat_le, ◌==◌, if◌then◌else◌, codes}
 use Rattle.std.specs.Borrow.{Bor}
 use Rattle.std.specs.List.{slice_split}
 use Rattle.std.specs.Option.{unwrap_or}
@@ -9,7 +9,7 @@ use Rattle.eu_base.specs.declared.statuses.Status.{Status}
 use Rattle.eu_base.specs.declared.names.Key.{Key}
 use Rattle.eu_base.specs.declared.settings.Config.{Config}
 use Rattle.eu_base.specs.Values.{settings_from, status_of}
-use Rattle.eu_base.specs.Limits.{last_moment, longest_lease, most_peers}
+use Rattle.eu_base.specs.Limits.{last_moment, longest_lease, longest_name, most_peers}
 use Rattle.eu_lines.specs.declared.faults.LineError.{LineError}
 use Rattle.eu_lines.specs.declared.faults.LineError.TheVariants.{Bad, OutOfMemory}
 
@@ -52,7 +52,7 @@ number w = if nat_lt 0 (length w) && nat_lt (length w) 21 && all_ascii_digits w 
 
 -- 1 to 255 bytes of UTF-8
 abbrev pub is_name : List ℕ → Bool
-is_name w = nat_lt 0 (length w) && nat_lt (length w) 256 && is_utf8 w
+is_name w = nat_lt 0 (length w) && nat_lt (length w) (longest_name + 1) && is_utf8 w
 
 abbrev pub word_at : Field (List ℕ)
 word_at [] = None

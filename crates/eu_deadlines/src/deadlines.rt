@@ -5,7 +5,7 @@ ghost use Rattle.eu_deadlines.specs.Indexed.{AreBefore};
 
 use crate::reading::Counted;
 use crate::remove::unlink;
-use crate::sift::{rise, sink};
+use crate::sift::{reorder, rise};
 use crate::walk::earlier_places;
 use std::alloc::{AllocError, Global};
 use std::marker::Model;
@@ -89,21 +89,13 @@ impl Deadlines {
         let place = self.places[position];
         let before = self.deadlines[place];
         self.deadlines[place] = deadline;
-        if deadline < before {
-            rise(
-                &mut self.deadlines,
-                &mut self.positions,
-                &mut self.places,
-                place,
-            );
-        } else {
-            sink(
-                &mut self.deadlines,
-                &mut self.positions,
-                &mut self.places,
-                place,
-            );
-        }
+        reorder(
+            &mut self.deadlines,
+            &mut self.positions,
+            &mut self.places,
+            place,
+            before,
+        );
     }
 
     /// Takes out a position that is there; the last position takes its number. Takes no memory.
@@ -119,21 +111,13 @@ impl Deadlines {
             position,
         );
         if place < self.deadlines.len() {
-            if self.deadlines[place] < before {
-                rise(
-                    &mut self.deadlines,
-                    &mut self.positions,
-                    &mut self.places,
-                    place,
-                );
-            } else {
-                sink(
-                    &mut self.deadlines,
-                    &mut self.positions,
-                    &mut self.places,
-                    place,
-                );
-            }
+            reorder(
+                &mut self.deadlines,
+                &mut self.positions,
+                &mut self.places,
+                place,
+                before,
+            );
         }
     }
 

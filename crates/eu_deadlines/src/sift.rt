@@ -71,6 +71,30 @@ pub fn sink(deadlines: &mut [u64], positions: &mut [usize], places: &mut [usize]
     }
 }
 
+/// Lets the entry at `start` rise or sink to its place, by whether its deadline is earlier than the one that stood there before.
+pub fn reorder(
+    deadlines: &mut [u64],
+    positions: &mut [usize],
+    places: &mut [usize],
+    start: usize,
+    before: u64,
+)
+    requires linked { AreLinked positions.old places.old }
+    requires long { length deadlines.old ≡ length positions.old }
+    requires start { start < length positions.old }
+    requires earlier { slice_index deadlines.old start < before → RisesFrom deadlines.old start }
+    requires later { before ≤ slice_index deadlines.old start → SinksFrom deadlines.old start }
+    ensures order { IsOrdered deadlines.new }
+    ensures linked { AreLinked positions.new places.new }
+    ensures same { by_position deadlines.new places.new ≡ by_position deadlines.old places.old }
+{
+    if deadlines[start] < before {
+        rise(deadlines, positions, places, start);
+    } else {
+        sink(deadlines, positions, places, start);
+    }
+}
+
 /// The earlier of the entries below `at`.
 fn earliest_below(deadlines: &[u64], at: usize) -> usize
     requires { at < length deadlines.now / 2 }

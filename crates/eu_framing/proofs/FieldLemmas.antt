@@ -1,9 +1,8 @@
 -- Laws of the fields of a head.
-use Rattle.std.proofs.Common.{subst, ◌≡◌, ℕ, ◌+◌, ◌*◌, ◌^◌, ◌<◌, ◌≤◌, Bool, true, false, List, [], ◌∷◌, ◌++◌, refl, sym, ap, ◌∙◌, append-nil, add-one, arith}
+use Rattle.std.proofs.Common.{subst, ◌≡◌, ℕ, Bool, true, false, List, [], ◌∷◌, ◌++◌, refl, sym, ap, ◌∙◌, append-nil}
 use Rattle.std.specs.List.{list_all, list_any}
 use Rattle.std.proofs.lemmas.List.Folds.{list_all-append, list_any-append}
 use Rattle.std.proofs.Common.{◌||◌, ◌&&◌}
-use Rattle.std.proofs.Math.Nat.{pow-le-pow_right, pow-suc}
 use Rattle.std.proofs.lemmas.List.{map-append}
 use Rattle.std.proofs.lemmas.List.Elements.{filter-append}
 use Rattle.eu_framing.specs.declared.fields.Said.{Said}
@@ -14,12 +13,6 @@ use Rattle.eu_base.specs.declared.faults.Fault.TheVariants as faults
 use Rattle.eu_framing.specs.declared.fields.Framing.{Framing}
 use Rattle.eu_framing.specs.Fields.{Header, values_of, is_same_text, framing_of, has_host, stated_by, is_plain, within_limit}
 use Rattle.eu_framing.specs.Said.{IsSaid}
-
-pub digit_room : (n d i : ℕ) → i < 19 → n < 10 ^ i → d < 10 → (n * 10 + d < 10 ^ (i + 1)) × (10 ^ (i + 1) ≤ 10 ^ 19)
-digit_room n d i few small digit =
-    let inside : i + 1 ≤ 19 = omega arith in
-    let step : 10 ^ (i + 1) ≡ 10 ^ i * 10 = rw add-one (pow-suc 10 i) in
-    (omega (arith, step), pow-le-pow_right (omega arith) inside)
 
 pub values_none : (name : List ℕ) → values_of name [] ≡ []
 unfolding values_of

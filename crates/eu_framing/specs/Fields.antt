@@ -1,12 +1,13 @@
 -- What the fields of a head say, from the list of their names and values.
-use Rattle.std.specs.Prelude.{ℕ, ◌≤◌, Bool, not, ◌&&◌, ◌||◌, List, [], ◌∷◌, map, filter, length, Result, Ok, Err, if◌then◌else◌, nat_lt, nat_le, ◌==◌, codes, bytes_eq, ⊤}
+use Rattle.std.specs.Prelude.{ℕ, ◌≤◌, Bool, not, ◌&&◌, ◌||◌, List, [], ◌∷◌, map, filter, length, Result, Ok, Err, if◌then◌else◌, is_some, nat_lt, ◌==◌, codes, bytes_eq, ⊤}
 use Rattle.std.specs.List.{list_all, list_any, slice_split}
-use Rattle.std.specs.Char.{is_ascii_digit, to_ascii_lowercase}
+use Rattle.std.specs.Char.{to_ascii_lowercase}
 use Rattle.std.specs.Str.Parse.{digits_value}
 use Rattle.httparse.specs.Ascii.{comma}
 use Rattle.httparse.specs.Grammar.{trim_ows}
 use Rattle.eu_base.specs.declared.faults.Fault.{Fault}
 use Rattle.eu_base.specs.declared.faults.Fault.TheVariants as faults
+use Rattle.eu_base.specs.Digits.{digits}
 use Rattle.eu_framing.specs.declared.fields.Framing.{Framing}
 use Rattle.eu_framing.specs.declared.fields.Framing.TheVariants.{NoBody, Sized, Chunked}
 
@@ -28,7 +29,7 @@ has_host minor hosts = (length hosts == 1) || not (minor == 1)
 
 -- 1 to 19 digits
 abbrev pub is_length : List ℕ → Bool
-is_length v = nat_lt 0 (length v) && (nat_le (length v) 19 && list_all is_ascii_digit v)
+is_length v = nat_lt 0 (length v) && is_some (digits v)
 
 -- the framing that a Content-Length states (RFC 9112, section 6.2)
 abbrev pub one_length : List ℕ → Result Framing Fault

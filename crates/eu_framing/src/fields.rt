@@ -8,7 +8,7 @@ ghost use Rattle.eu_framing.specs.Said.{IsSaid};
 
 use crate::MAX_BODY;
 use crate::lists::has_member;
-use eu_base::Fault;
+use eu_base::{Fault, read_digits};
 use httparse::spans::HeaderSpan;
 
 /// How a body is framed.
@@ -110,17 +110,10 @@ fn all_have_value(text: &[u8], headers: &[HeaderSpan], name: &[u8], value: &[u8]
 fn parse_length(value: &[u8]) -> Option<u64>
     ensures { result ≡ (if is_length value.now then Some (digits_value 10 value.now) else None) }
 {
-    if value.is_empty() || value.len() > 19 {
+    if value.is_empty() {
         return None;
     }
-    let mut number: u64 = 0;
-    for byte in value {
-        if !byte.is_ascii_digit() {
-            return None;
-        }
-        number = number * 10 + u64::from(*byte - b'0');
-    }
-    Some(number)
+    read_digits(value)
 }
 
 /// The framing that a `Content-Length` states. `BadLength` comes where it isn't 1 to 19 digits.

@@ -5,28 +5,15 @@ use Rattle.eu_deadlines.proofs.LinkLemmas.{kept, set_seen, length_map}
 use Rattle.eu_deadlines.proofs.WalkLemmas.{same_default}
 use Rattle.eu_deadlines.proofs.deadlines.Deadlines.set.Goals as goal
 
-pub returns-then-deadline-before-clause-list : goal.returns-then-deadline-before-clause-list
-returns-then-deadline-before-clause-list c =
+pub returns-clause-list : goal.returns-clause-list
+returns-clause-list c =
     let v = c.self.invariant in
     let deadlines = c.self.inside.deadlines.items in
     let places = c.self.inside.places.items in
     let here : c.args.position < length places = omega (arith, ap (λ s. length s.list) c.self.view_is, length_map (λ h. get_or deadlines h 0) places) in
     let at = c.index-place.ensures ∙ same_default places c.args.position c.index-place.result.now 0 here in
-    (λ i. by_position (kept c.rise.new.deadlines (drop (length c.rise.new.deadlines) (set deadlines c.index-place.result.now c.args.deadline)) c.self.inside.deadlines.len (omega (arith, c.deref_mut.ensures.value, length-set deadlines c.index-place.result.now c.args.deadline)) i) (kept c.rise.new.places (drop (length c.rise.new.places) places) c.self.inside.places.len (omega arith) i))
-    ∙ c.rise.ensures.same
-    ∙ (λ i. by_position (c.deref_mut.ensures.value i) (c.deref_mut-then-deadline-before-2.ensures.value i))
-    ∙ set_seen deadlines c.self.inside.positions.items places c.args.position c.args.deadline c.index-place.result.now v.linked v.long here at
-    ∙ ap (λ s. set s.list c.args.position c.args.deadline) c.self.view_is
-
-pub returns-else-deadline-before-clause-list : goal.returns-else-deadline-before-clause-list
-returns-else-deadline-before-clause-list c =
-    let v = c.self.invariant in
-    let deadlines = c.self.inside.deadlines.items in
-    let places = c.self.inside.places.items in
-    let here : c.args.position < length places = omega (arith, ap (λ s. length s.list) c.self.view_is, length_map (λ h. get_or deadlines h 0) places) in
-    let at = c.index-place.ensures ∙ same_default places c.args.position c.index-place.result.now 0 here in
-    (λ i. by_position (kept c.sink.new.deadlines (drop (length c.sink.new.deadlines) (set deadlines c.index-place.result.now c.args.deadline)) c.self.inside.deadlines.len (omega (arith, c.deref_mut-else-deadline-before.ensures.value, length-set deadlines c.index-place.result.now c.args.deadline)) i) (kept c.sink.new.places (drop (length c.sink.new.places) places) c.self.inside.places.len (omega arith) i))
-    ∙ c.sink.ensures.same
-    ∙ (λ i. by_position (c.deref_mut-else-deadline-before.ensures.value i) (c.deref_mut-else-deadline-before-3.ensures.value i))
+    (λ i. by_position (kept c.reorder.new.deadlines (drop (length c.reorder.new.deadlines) (set deadlines c.index-place.result.now c.args.deadline)) c.self.inside.deadlines.len (omega (arith, length-set deadlines c.index-place.result.now c.args.deadline)) i) (kept c.reorder.new.places (drop (length c.reorder.new.places) places) c.self.inside.places.len (omega arith) i))
+    ∙ c.reorder.ensures.same
+    ∙ (λ i. by_position (c.deref_mut.ensures.value i) (c.deref_mut-3.ensures.value i))
     ∙ set_seen deadlines c.self.inside.positions.items places c.args.position c.args.deadline c.index-place.result.now v.linked v.long here at
     ∙ ap (λ s. set s.list c.args.position c.args.deadline) c.self.view_is

@@ -5,19 +5,19 @@ use eu_gate::Schedules;
 use std::sync::{Condvar, MutexGuard, Wait};
 use std::time::{Clock, Duration};
 
-/// That it was noted that the sessions have ended: `Ended::note` alone makes one.
+/// That it was noted that the sessions have ended: `EndNoted::note` alone makes one.
 #[derive(Drop)]
-pub struct Ended {
+pub struct EndNoted {
     noted: (),
 }
 
-impl Ended {
+impl EndNoted {
     /// Notes that the sessions have ended: no timer takes a further turn.
-    pub fn note(schedules: &mut Schedules) -> Ended
+    pub fn note(schedules: &mut Schedules) -> EndNoted
         ensures { schedules.new ≡ record schedules.old { have_ended = true } }
     {
         schedules.end();
-        Ended { noted: () }
+        EndNoted { noted: () }
     }
 }
 
@@ -37,7 +37,7 @@ impl Bell {
     }
 
     /// Wakes all timers that wait.
-    pub fn ring(&self, _ended: Ended) {
+    pub fn ring(&self, _ended: EndNoted) {
         self.condvar.notify_all();
     }
 

@@ -1,6 +1,6 @@
 //! The gate of a server, which paces its timers.
 
-use crate::bell::{Bell, Ended};
+use crate::bell::{Bell, EndNoted};
 use eu_gate::{Gate, Go, Periods, Point, Schedules, Timer};
 use std::io;
 use std::sync::{Mutex, Wait};
@@ -31,7 +31,7 @@ impl<'a, R: Wait + Clock> Pace<'a, R> {
 
     /// Tells the timers that the sessions have ended.
     pub fn end(&self) {
-        let ended = Ended::note(&mut *self.schedules.lock(self.rt));
+        let ended = EndNoted::note(&mut *self.schedules.lock(self.rt));
         self.bell.ring(ended);
     }
 

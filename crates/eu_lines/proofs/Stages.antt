@@ -6,7 +6,7 @@ use Rattle.std.specs.Io.KnownBytes.{Consumes, Keeps, IsAtEnd}
 use Rattle.eu_lines.specs.declared.faults.ScriptFault.{ScriptFault}
 use Rattle.eu_lines.specs.declared.faults.ScriptFault.TheVariants.{BadLine, Read, Write, OutOfMemory}
 use Rattle.eu_lines.specs.declared.limits.Limits.{Limits}
-use Rattle.eu_lines.specs.declared.run.Run.{Run}
+use Rattle.eu_lines.specs.declared.run.Cutter.{Cutter}
 use Rattle.eu_lines.specs.Lines.{lines_of, IsWhole, IsWithinBound, IsJudged}
 use Rattle.eu_lines.specs.Script.{Place, Streams, Wrote, Printed, StopsIn, Outcome}
 use Rattle.eu_lines.specs.Steps.{Start, Standing, Stop, Stands, StoppedWithin, Adds, Takes, StopsAdding, StopsTaking}
@@ -51,7 +51,7 @@ within_more most read text buffer count fresh w le fits e =
 
 module _ {S X : Type 0} (limits : Limits) (answers : Place S X → List ℕ → List ℕ → Place S X → Type 0) (refuses : Place S X → List ℕ → Type 0) where
   -- before the first read
-  pub stage_start : (start : Start S X) (before : Option (List ℕ)) (run : Run) → run.partial.items ≡ [] → run.number ≡ 0 → run.waiting.items ≡ []
+  pub stage_start : (start : Start S X) (before : Option (List ℕ)) (run : Cutter) → run.partial.items ≡ [] → run.number ≡ 0 → run.waiting.items ≡ []
       → Stage limits answers start before before 0 (record { run = run; place = start.place; holds = start.holds })
   stage_start start before run k n w = record {
     read = [];

@@ -8,7 +8,7 @@ use Rattle.eu_lines.specs.declared.faults.LineError.TheVariants as line_errors
 use Rattle.eu_lines.specs.declared.faults.ScriptFault.{ScriptFault}
 use Rattle.eu_lines.specs.declared.faults.ScriptFault.TheVariants.{BadLine, Read, Write, OutOfMemory}
 use Rattle.eu_lines.specs.declared.limits.Limits.{Limits}
-use Rattle.eu_lines.specs.declared.run.Run.{Run}
+use Rattle.eu_lines.specs.declared.run.Cutter.{Cutter}
 use Rattle.eu_lines.specs.Faults.{fault_at}
 use Rattle.eu_lines.specs.Lines.{lines_of, IsWhole, HasNoEnd, IsKept}
 use Rattle.eu_lines.specs.Script.{Place, Prints, Printed, IsBad, StopsIn}
@@ -29,7 +29,7 @@ module _ {S X : Type 0} (limits : Limits) (answers : Place S X → List ℕ → 
       (p.0, p.1 ++ one, p.2, p.3, printed_next p.2 ls line p.1 one middle after p.4 q, rw (p.5) (append_assoc p.0 p.1 one))
 
   -- one line more is answered
-  pub shown_line : (start : Start S X) (now : Standing S X) (run : Run) (after : Place S X) (lines : List (List ℕ)) (line one : List ℕ)
+  pub shown_line : (start : Start S X) (now : Standing S X) (run : Cutter) (after : Place S X) (lines : List (List ℕ)) (line one : List ℕ)
       → Shown limits answers start lines now → Prints limits answers now.place line one after → run.waiting.items ≡ now.run.waiting.items ++ one
       → Shown limits answers start (lines ++ line ∷ []) (record { run = run; place = after; holds = now.holds })
   shown_line start now run after lines line one p q e =
@@ -38,7 +38,7 @@ module _ {S X : Type 0} (limits : Limits) (answers : Place S X → List ℕ → 
       (λ out h. rw (e, ← append_assoc) (printed_next start.place lines line (out ++ now.run.waiting.items) one now.place after h q))
 
   -- what waits is written
-  pub shown_written : (start : Start S X) (now : Standing S X) (run : Run) (holds : Option (List ℕ)) (lines : List (List ℕ))
+  pub shown_written : (start : Start S X) (now : Standing S X) (run : Cutter) (holds : Option (List ℕ)) (lines : List (List ℕ))
       → Shown limits answers start lines now → Appends now.holds holds now.run.waiting.items → run.waiting.items ≡ []
       → Shown limits answers start lines (record { run = run; place = now.place; holds = holds })
   shown_written start now run holds lines p a e =
@@ -174,7 +174,7 @@ module _ {S X : Type 0} (limits : Limits) (answers : Place S X → List ℕ → 
       }
 
   -- the rest is kept, and what waited is written
-  stands_rest : (start : Start S X) (text rest : List ℕ) (now : Standing S X) (run : Run) (holds : Option (List ℕ))
+  stands_rest : (start : Start S X) (text rest : List ℕ) (now : Standing S X) (run : Cutter) (holds : Option (List ℕ))
       (st : Stands limits answers start text now) → HasNoEnd rest → ((line : List ℕ) → IsKept limits.line now.run.partial.items line → IsKept limits.line run.partial.items (line ++ rest))
       → run.number ≡ now.run.number → Appends now.holds holds now.run.waiting.items → run.waiting.items ≡ []
       → Stands limits answers start (text ++ rest) (record { run = run; place = now.place; holds = holds })
@@ -211,7 +211,7 @@ module _ {S X : Type 0} (limits : Limits) (answers : Place S X → List ℕ → 
   stands_line_in start text done part now next h st p k c =
       subst (λ (bytes : List ℕ). Stands limits answers start bytes next) (append_assoc text done (part ++ 10 ∷ [])) (stands_line start (text ++ done) part now next st h p k c)
 
-  pub stands_rest_in : (start : Start S X) (text done rest chunk : List ℕ) (now : Standing S X) (run : Run) (holds : Option (List ℕ)) → chunk ≡ done ++ rest → HasNoEnd rest
+  pub stands_rest_in : (start : Start S X) (text done rest chunk : List ℕ) (now : Standing S X) (run : Cutter) (holds : Option (List ℕ)) → chunk ≡ done ++ rest → HasNoEnd rest
       → (st : Stands limits answers start (text ++ done) now) → ((line : List ℕ) → IsKept limits.line now.run.partial.items line → IsKept limits.line run.partial.items (line ++ rest))
       → run.number ≡ now.run.number → Appends now.holds holds now.run.waiting.items → run.waiting.items ≡ []
       → Stands limits answers start (text ++ chunk) (record { run = run; place = now.place; holds = holds })

@@ -2,7 +2,7 @@
 use Rattle.std.specs.Prelude.{◌≡◌, ℕ, Bool, List, [], ◌∷◌, ◌++◌, length, Option}
 use Rattle.eu_lines.specs.declared.limits.Limits.{Limits}
 use Rattle.eu_lines.specs.declared.faults.ScriptFault.{ScriptFault}
-use Rattle.eu_lines.specs.declared.run.Run.{Run}
+use Rattle.eu_lines.specs.declared.run.Cutter.{Cutter}
 use Rattle.eu_lines.specs.Lines.{lines_of, IsWhole, HasNoEnd, IsKept}
 use Rattle.eu_lines.specs.Script.{Place, Wrote, Printed, StopsIn}
 
@@ -13,11 +13,11 @@ pub record Start (S X : Type 0) : Type 0 where
 
 -- Where a script stands: what it keeps between two lines, its place, and what the writer holds, where that is known.
 pub record Standing (S X : Type 0) : Type 0 where
-  pub run : Run
+  pub run : Cutter
   pub place : Place S X
   pub holds : Option (List ℕ)
 
-abbrev pub standing : {S X : Type 0} → Run → S → X → Option (List ℕ) → Standing S X
+abbrev pub standing : {S X : Type 0} → Cutter → S → X → Option (List ℕ) → Standing S X
 standing run s x holds = record { run = run; place = record { state = s; context = x }; holds = holds }
 
 -- Where a script stopped: the context, what the writer holds, where that is known, and whether it failed.

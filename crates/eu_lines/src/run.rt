@@ -14,9 +14,9 @@ use std::alloc::Global;
 /// So many bytes of text wait before they are written.
 const BLOCK: usize = 65_536;
 
-/// What is kept between one line and the next.
+/// What cuts a text into lines: what it keeps between one line and the next.
 #[derive(Drop)]
-pub struct Run {
+pub struct Cutter {
     /// The line that hasn't ended: all of it, or of one that is too long more than a line may have.
     partial: Vec<u8>,
     /// How many lines were answered.
@@ -27,14 +27,14 @@ pub struct Run {
     waiting: Vec<u8>,
 }
 
-impl Run {
+impl Cutter {
     /// At the start of a script.
-    pub fn new(alloc: Global) -> Run
+    pub fn new(alloc: Global) -> Cutter
         ensures kept { result.partial.items ≡ [] }
         ensures number { result.number ≡ 0 }
         ensures waiting { result.waiting.items ≡ [] }
     {
-        Run {
+        Cutter {
             partial: Vec::new(alloc),
             number: 0,
             one: String::new(alloc),
@@ -74,7 +74,7 @@ fn answer_line<X, D: Answerer<X>>(
 fn answer_part<X, D: Answerer<X>>(
     alloc: Global,
     limits: Limits,
-    run: &mut Run,
+    run: &mut Cutter,
     desk: &mut D,
     context: &mut X,
     part: &[u8],
@@ -148,7 +148,7 @@ fn write_out<W: Sink>(writer: &mut W, waiting: &mut Vec<u8>) -> Result<(), Write
 pub fn take_line<W: Sink, X, D: Answerer<X>>(
     alloc: Global,
     limits: Limits,
-    run: &mut Run,
+    run: &mut Cutter,
     desk: &mut D,
     context: &mut X,
     writer: &mut W,
@@ -178,7 +178,7 @@ pub fn take_line<W: Sink, X, D: Answerer<X>>(
 pub fn take_chunk<W: Sink, X, D: Answerer<X>>(
     alloc: Global,
     limits: Limits,
-    run: &mut Run,
+    run: &mut Cutter,
     desk: &mut D,
     context: &mut X,
     writer: &mut W,
@@ -208,7 +208,7 @@ pub fn take_chunk<W: Sink, X, D: Answerer<X>>(
 pub fn take_end<W: Sink, X, D: Answerer<X>>(
     alloc: Global,
     limits: Limits,
-    run: &mut Run,
+    run: &mut Cutter,
     desk: &mut D,
     context: &mut X,
     writer: &mut W,

@@ -3,7 +3,7 @@ ghost use Rattle.std.specs.Prelude.{◌≡◌, ◌≢◌, ◌≤◌, ◌<◌, �
 ghost use Rattle.std.specs.Io.KnownBytes.{Consumes};
 ghost use Rattle.eu_lines.specs.Script.{Wrote, Outcome, place};
 
-use crate::run::{Run, take_chunk, take_end};
+use crate::run::{Cutter, take_chunk, take_end};
 use crate::{Answerer, Limits, ScriptFault};
 use eu_stream::{Sink, Source};
 use std::alloc::{AllocError, Global};
@@ -50,7 +50,7 @@ pub fn answer_lines<R: Source, W: Sink, X, D: Answerer<X>>(
     ensures same_reader { R.stream reader.new ≡ R.stream reader.old }
     ensures same_writer { W.stream writer.new ≡ W.stream writer.old }
 {
-    let mut run = Run::new(alloc);
+    let mut run = Cutter::new(alloc);
     let mut chunk = room_for(alloc, CHUNK)?;
     let mut taken = 0;
     'reads: while taken <= limits.text {

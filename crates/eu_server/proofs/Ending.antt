@@ -3,10 +3,10 @@ use Rattle.std.proofs.Common.{◌≡◌, ◌⊎◌, Bool, true, false, Result, O
 use Rattle.eu_base.specs.declared.faults.Fault.{Fault}
 use Rattle.eu_base.specs.declared.faults.Fault.TheVariants.{Read}
 use Rattle.eu_server.specs.Ends.{IsClose, IsEnd, IsStart}
-use Rattle.eu_server.specs.declared.serve.Outcome.{Outcome}
+use Rattle.eu_server.specs.declared.serve.Finished.{Finished}
 
 -- what is so of the outcome is so of what is given
-pub judged : (P : Outcome → Type 0) (failed : Bool) (outcome result : Result Outcome Fault)
+pub judged : (P : Finished → Type 0) (failed : Bool) (outcome result : Result Finished Fault)
     → IfErr outcome (λ f. result ≡ Err f)
     → IfOk outcome (λ o. result ≡ (if failed then Err Read else Ok o))
     → IfOk outcome P
@@ -16,7 +16,7 @@ judged P true (Ok o) result other same p = rw same tt
 judged P false (Ok o) result other same p = rw same p
 
 -- and its fault is one of a server's
-pub ends : (failed : Bool) (outcome result : Result Outcome Fault)
+pub ends : (failed : Bool) (outcome result : Result Finished Fault)
     → IfErr outcome (λ f. result ≡ Err f)
     → IfOk outcome (λ o. result ≡ (if failed then Err Read else Ok o))
     → IfErr outcome (λ f. IsStart f ⊎ IsClose f)

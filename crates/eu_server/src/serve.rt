@@ -270,7 +270,7 @@ fn close_book<K: Label>(
 
 /// What a server did that came to a good end.
 #[derive(Drop)]
-pub struct Outcome {
+pub struct Finished {
     /// How many connections were served.
     pub served: u64,
     /// The book, closed and settled.
@@ -290,7 +290,7 @@ fn serve_and_close<
     acceptor: &Acceptor<'_, R>,
     plan: &Plan,
     chooser: H,
-) -> Result<Outcome, Fault>
+) -> Result<Finished, Fault>
     ensures lawful { IfOk result (λ o. IsLawful (account_of o.closed)) }
     ensures plain { IfOk result (λ o. (o.closed.base ≡ state_of (account_of o.closed).base) × (o.closed.end ≡ state_of (account_of o.closed).state)) }
     ensures settled { IfOk result (λ o. IsSettled o.closed.first o.closed.logs.items o.closed.entries.items) }
@@ -298,12 +298,12 @@ fn serve_and_close<
 {
     let (passes, served) = run_workers(rt, alloc, &shared, acceptor, plan, chooser)?;
     let closed = close_book(shared, alloc, passes)?;
-    Ok(Outcome { served, closed })
+    Ok(Finished { served, closed })
 }
 
 /// What a server ends by, of which is known whether accepting a connection has failed: by its other fault, if it has one; else by `Read`,
 /// if that has failed.
-fn judge_accepts(has_failed: bool, outcome: Result<Outcome, Fault>) -> Result<Outcome, Fault>
+fn judge_accepts(has_failed: bool, outcome: Result<Finished, Fault>) -> Result<Finished, Fault>
     ensures other { IfErr outcome (λ f. result ≡ Err f) }
     ensures failed { IfOk outcome (λ o. result ≡ (if has_failed then Err Fault.Read else Ok o)) }
 {
@@ -333,7 +333,7 @@ pub fn serve_book<
     plan: &Plan,
     chooser: H,
     blanks: Blanks,
-) -> Result<Outcome, Fault>
+) -> Result<Finished, Fault>
     requires names { HasNames blanks K.steps K.counted K.added K.removed }
     requires parts { HasParts blanks K.parts × (K.parts ≡ PARTS) }
     ensures lawful { IfOk result (λ o. IsLawful (account_of o.closed)) }
@@ -368,7 +368,7 @@ fn serve_new<R: Threads + Wait + Clock + Sync, H: Chooser + Send + Drop>(
     listener: &TcpListener,
     plan: &Plan,
     chooser: H,
-) -> Result<Outcome, Fault>
+) -> Result<Finished, Fault>
     ensures lawful { IfOk result (λ o. IsLawful (account_of o.closed)) }
     ensures plain { IfOk result (λ o. (o.closed.base ≡ state_of (account_of o.closed).base) × (o.closed.end ≡ state_of (account_of o.closed).state)) }
     ensures settled { IfOk result (λ o. IsSettled o.closed.first o.closed.logs.items o.closed.entries.items) }
@@ -471,7 +471,7 @@ pub fn serve_with_journal<
     chooser: H,
     journal: &mut J,
     writer: &mut W,
-) -> Result<Outcome, Fault>
+) -> Result<Finished, Fault>
     ensures lawful { IfOk result (λ o. IsLawful (account_of o.closed)) }
     ensures plain { IfOk result (λ o. (o.closed.base ≡ state_of (account_of o.closed).base) × (o.closed.end ≡ state_of (account_of o.closed).state)) }
     ensures settled { IfOk result (λ o. IsSettled o.closed.first o.closed.logs.items o.closed.entries.items) }

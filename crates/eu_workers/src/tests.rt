@@ -3,7 +3,7 @@ ghost use Rattle.std.specs.Prelude.{◌≡◌};
 ghost use Rattle.eu_shared.specs.Shares.{HasNames, HasParts};
 
 use crate::ended::Ended;
-use crate::timers::{Asks, take_turns};
+use crate::timers::{Asker, take_turns};
 use eu_base::{Config, Fault, Moment};
 use eu_book::Receipt;
 use eu_clock::{Chooser, Clock, FirstChooser, ListClock};
@@ -33,7 +33,7 @@ struct RefusedOnce<'a, K: Label, R: Wait> {
     count: u64,
 }
 
-impl<K: Label, R: Wait> Asks for RefusedOnce<'_, K, R> {
+impl<K: Label, R: Wait> Asker for RefusedOnce<'_, K, R> {
     ghost pass = { λ r. r.seat.pass };
 
     fn ask_once<C: Chooser>(

@@ -43,7 +43,7 @@ fn is_checkpoint_due(timer: Timer, turns: u64) -> bool
 }
 
 /// By what a timer's worker asks: its pass of the shared book. A test has one that is refused at first.
-pub(crate) trait Asks {
+pub(crate) trait Asker {
     // The pass.
     ghost pass: { Self → PassAccount };
 
@@ -71,7 +71,7 @@ pub(crate) trait Asks {
         ensures left { is_due_after timer turns ≡ false → (pass self.new).journal_first ≡ (pass self.old).journal_first };
 }
 
-impl<K: Label, R: Wait> Asks for Seat<'_, K, R> {
+impl<K: Label, R: Wait> Asker for Seat<'_, K, R> {
     ghost pass = { λ s. s.pass };
 
     fn ask_once<C: Chooser>(
@@ -98,7 +98,7 @@ impl<K: Label, R: Wait> Asks for Seat<'_, K, R> {
 
 /// Asks for a timer's command at most so many times, until the gate stops it. A journal for which no memory is left doesn't begin anew,
 /// and that counts nowhere.
-pub(crate) fn take_turns<G: Gate, A: Asks, C: Clock, H: Chooser>(
+pub(crate) fn take_turns<G: Gate, A: Asker, C: Clock, H: Chooser>(
     gate: &G,
     alloc: Global,
     timer: Timer,

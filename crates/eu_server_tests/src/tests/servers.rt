@@ -6,7 +6,7 @@ use eu_base::{Config, Fault, Key};
 use eu_clock::FirstChooser;
 use eu_fixtures::{LAST_MISSING, REGISTRATION as INSTANCE, settings};
 use eu_gate::Periods;
-use eu_server::{Outcome, Plan, serve_book, serve_by, serve_with_journal};
+use eu_server::{Finished, Plan, serve_book, serve_by, serve_with_journal};
 use eu_shared::Blanks;
 use eu_stream::Writing;
 use std::alloc::Global;
@@ -70,7 +70,7 @@ fn is_of_the_client(key: &Key) -> bool {
 }
 
 /// Whether a book was served to a client that registered A/i1. Two workers and three timers have a log each, and a server has no peers.
-fn is_of_one_client(outcome: &Outcome) -> bool {
+fn is_of_one_client(outcome: &Finished) -> bool {
     let closed = &outcome.closed;
     let leases = closed.end.leases.as_slice();
     let is_held = match leases.first() {

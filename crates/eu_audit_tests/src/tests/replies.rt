@@ -91,7 +91,7 @@ fn judged_other(alloc: Global, line: &str, other: &str) -> Result<bool, Fault> {
 }
 
 /// The verdict where a line has another reply.
-fn judged_reply(alloc: Global, line: &str, reply: &str) -> Result<bool, Fault> {
+pub fn judged_reply(alloc: Global, line: &str, reply: &str) -> Result<bool, Fault> {
     let (command, _) = line.split_once(" = ").ok_or(Fault::BadValue)?;
     let other = format!(in alloc; "{command} = {reply}")?;
     judged_other(alloc, line, other.as_str())
@@ -144,7 +144,7 @@ const CHANGES: [(&str, &str); 8] = [
 ];
 
 /// The verdict where a part of the end is another.
-fn judged_end(alloc: Global, part: &str, other: &str) -> Result<bool, Fault> {
+pub fn judged_end(alloc: Global, part: &str, other: &str) -> Result<bool, Fault> {
     let end = changed(alloc, END, part, other)?;
     judged(alloc, BASE, LINES, end.as_str())
 }

@@ -33,16 +33,20 @@ fn tell_command(out: &mut String, name: &str, found: &ArgMatches<'_>) -> Result<
     }
 }
 
+/// Writes what the words say that were found.
+fn tell_found(out: &mut String, matches: &ArgMatches<'_>) -> Result<(), AllocError> {
+    match matches.subcommand() {
+        Some((name, found)) => tell_command(out, name, found),
+        None => out.push_str("no command"),
+    }
+}
+
 /// Writes what words say.
 fn tell_words<'a>(alloc: Global, words: &'a [&'a str], out: &mut String) -> Result<(), Fault> {
-    let matches = match command(alloc)?.try_get_matches_from(words) {
-        Ok(matches) => matches,
-        Err(error) if error.kind() == ErrorKind::OutOfMemory => return Err(Fault::OutOfMemory),
-        Err(_) => return Ok(out.push_str("refused")?),
-    };
-    match matches.subcommand() {
-        Some((name, found)) => Ok(tell_command(out, name, found)?),
-        None => Ok(out.push_str("no command")?),
+    match command(alloc)?.try_get_matches_from(words) {
+        Ok(matches) => Ok(tell_found(out, &matches)?),
+        Err(error) if error.kind() == ErrorKind::OutOfMemory => Err(Fault::OutOfMemory),
+        Err(_) => Ok(out.push_str("refused")?),
     }
 }
 
@@ -105,17 +109,28 @@ const SERVER: (&str, &str) = (
     "serve true 85 30 60000 None None Some(Serving { port: 8761, sessions: 7, workers: 2, expected: 1 })",
 );
 
-/// Whether it says that.
-fn is_said(alloc: Global) -> Result<bool, Fault> {
-    let (said, wanted) = SERVER;
+/// What a line says, in room that was made for it before.
+fn told(alloc: Global, said: &str) -> Result<String, Fault> {
     let mut out = String::with_capacity(alloc, 256)?;
-    let mut options = Options;
-    options.tell(alloc, said, &mut out)?;
-    Ok(out.as_str() == wanted)
+    Options.tell(alloc, said, &mut out)?;
+    Ok(out)
+}
+
+/// Whether a line says that.
+fn is_said(alloc: Global, said: &str, wanted: &str) -> Result<bool, Fault> {
+    let told = told(alloc, said)?;
+    Ok(told.as_str() == wanted)
+}
+
+/// Whether it does at each of two calls, of which one may have found no memory.
+fn is_said_twice(alloc: Global, said: &str, wanted: &str) -> bool {
+    let first = is_said(alloc, said, wanted);
+    are_so(first, is_said(alloc, said, wanted))
 }
 
 /// Want of memory is told as that. In a usual run no allocation is refused; `tools/sweep_memory.sh` refuses one after another.
 #[test]
 fn memory_options(rt: HostRuntime) {
-    assert!(rt; are_so(is_said(rt.alloc()), is_said(rt.alloc())));
+    let (said, wanted) = SERVER;
+    assert!(rt; is_said_twice(rt.alloc(), said, wanted));
 }

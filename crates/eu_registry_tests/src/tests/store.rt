@@ -20,8 +20,8 @@ use std::alloc::{AllocError, Global};
 /// `put ID ID` puts leases of application A, made at 0 for 10 s with the stamp 7; `new ID ID` begins anew with such, and `fill N` with so
 /// many, j0 and so on, each made at the moment of its number. `expired T` tells how many leases have expired, how many deadlines were
 /// read, and the ids. All leases are told by `list`, those of an application by `list APP`, and those of the snapshot that was taken as the Nth,
-/// from 0, by `snapshot N`. `snap` takes one. `sweep ID ID` takes all of these at once, and tells how many, the ids of
-/// those that were held, and a dash for each that was not.
+/// from 0, by `snapshot N`. `snap` takes one, and `copied` tells all leases of a copy. `sweep ID ID` takes all of these at once, and tells how many,
+/// the ids of those that were held, and a dash for each that was not.
 #[derive(Drop)]
 pub struct Desk {
     leases: Leases,
@@ -207,6 +207,13 @@ impl Desk {
         Ok(tell_listing(out, leases.as_slice())?)
     }
 
+    /// Copies the leases, and tells what the copy lists.
+    fn tell_copied(&self, alloc: Global, out: &mut String) -> Result<(), Fault> {
+        let copy = self.leases.copy(alloc)?;
+        let leases = copy.listed(alloc, None)?;
+        Ok(tell_listing(out, leases.as_slice())?)
+    }
+
     /// Does what a line of a script says, at that place or where its lease is found.
     fn say(
         &mut self,
@@ -245,6 +252,7 @@ impl Told for Desk {
             "expired" => self.tell_expired(alloc, rest, out),
             "list" => self.list(alloc, rest, out),
             "snapshot" => self.tell_snapshot(alloc, rest, out),
+            "copied" => self.tell_copied(alloc, out),
             _ => self.say(alloc, said, None, out),
         }
     }

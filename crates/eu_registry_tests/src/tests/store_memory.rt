@@ -23,6 +23,20 @@ const PLAYED: &str = "
     list A = 7 i1 UP 0 i2 UP 0 i4 UP 0 i5 UP 0 i6 UP 0 i7 UP 0 i9 UP 0
     reserve = done
     put i3 = done
+    # A snapshot stays as it was where a lease is amended, put or taken behind it; a copy has what is held.
+    snap = done
+    set 5 A i3 DOWN - c = true
+    snapshot 0 = 8 i1 UP 0 i2 UP 0 i3 UP 0 i4 UP 0 i5 UP 0 i6 UP 0 i7 UP 0 i9 UP 0
+    copied = 8 i1 UP 0 i2 UP 0 i3 DOWN 10005 i4 UP 0 i5 UP 0 i6 UP 0 i7 UP 0 i9 UP 0
+    snap = done
+    put i0 = done
+    cancel 0 A i5 c = true
+    sweep i2 i9 ix = 3: i2 i9 -
+    snap = done
+    snapshot 2 = 6 i0 UP 0 i1 UP 0 i3 DOWN 10005 i4 UP 0 i6 UP 0 i7 UP 0
+    snapshot 1 = 8 i1 UP 0 i2 UP 0 i3 DOWN 10005 i4 UP 0 i5 UP 0 i6 UP 0 i7 UP 0 i9 UP 0
+    copied = 6 i0 UP 0 i1 UP 0 i3 DOWN 10005 i4 UP 0 i6 UP 0 i7 UP 0
+    list A = 6 i0 UP 0 i1 UP 0 i3 DOWN 10005 i4 UP 0 i6 UP 0 i7 UP 0
 ";
 
 /// The first wrong line of a table of which both are told.

@@ -2,21 +2,25 @@
 use eu_base::Fault;
 use eu_clock::FirstChooser;
 use eu_fixtures::{are_so, settings};
-use eu_lines::ScriptFault;
+use eu_lines::{LONGEST_LINE, ScriptFault};
 use eu_script::{run_audit, run_script, run_script_with_journal};
 use std::alloc::{AllocError, Global};
 
 /// A script, with what each line prints: one peer is told of a client, and loses what it is told then; an instance is adopted; the settings are changed,
-/// and an eviction comes.
-pub const LINES: [(&str, &str); 20] = [
+/// and an eviction comes. Between them are lines that are refused, for each fault but those of a limit.
+pub const LINES: [(&str, &str); 25] = [
     ("open 0 1", "opened"),
     ("register 0 A i1 90 UP UNKNOWN 5 c", "204"),
     ("renew 1 A i1 - - c", "200"),
     ("renew 1 A i1 3 - r", "409 UP UNKNOWN 5"),
+    ("drain 2 1", "refused 15"),
     ("drain 2 0", "batch 2 Register A i1 Heartbeat A i1"),
+    ("drain 2 0", "refused 8"),
+    ("landed 3 0 200", "refused 10"),
     ("landed 3 0 200 404", "landed"),
     ("drain 4 0", "batch 1 Register A i1"),
     ("lost 4 0", "lost"),
+    ("lost 4 0", "refused 11"),
     ("set 5 A i1 OUT_OF_SERVICE - c", "200"),
     ("unset 6 A i1 UP - c", "200"),
     (
@@ -38,6 +42,7 @@ pub const LINES: [(&str, &str); 20] = [
         "counts 1000000",
         "held 0 expected 0 threshold 0 last 2 permitted yes",
     ),
+    ("drain 1000000 0", "refused 9"),
 ];
 
 /// What is told of the 16 lines that are steps.
@@ -71,19 +76,20 @@ fn printed(out: &[u8]) -> Option<usize> {
     lines(str::from_utf8(out).unwrap_or("?"))
 }
 
-/// Whether a script prints all its lines, or ends by want of memory behind whole lines. Its output has room before.
+/// Whether a script prints all its lines. `OutOfMemory` where want of memory ends it, behind whole lines. Its output has room before.
 fn is_run(alloc: Global) -> Result<bool, Fault> {
     let config = settings()?;
     let script = script(alloc)?;
     let mut out = Vec::with_capacity(alloc, 4096)?;
     let mut reader = script.as_bytes();
     let result = run_script(alloc, &mut reader, &mut out, config, &mut FirstChooser);
-    let count = printed(&out);
-    Ok(match result {
-        Ok(()) => count == Some(LINES.len()),
-        Err(ScriptFault::OutOfMemory) => count.is_some() && count != Some(LINES.len()),
-        Err(_) => false,
-    })
+    match (result, printed(&out)) {
+        (Ok(()), Some(count)) => Ok(count == LINES.len()),
+        (Err(ScriptFault::OutOfMemory), Some(count)) if count < LINES.len() => {
+            Err(Fault::OutOfMemory)
+        }
+        _ => Ok(false),
+    }
 }
 
 #[test]
@@ -92,28 +98,108 @@ fn memory_script(rt: HostRuntime) {
     assert!(rt; are_so(is_run(alloc), is_run(alloc)));
 }
 
-/// Whether a script's journal is found to be a run, or want of memory is told and nothing written.
+/// The good lines that come before a bad one: as many of `LINES`.
+const GOOD: &[u8] = b"open 0 1\nregister 0 A i1 90 UP UNKNOWN 5 c\n";
+
+/// Bad lines, of each kind: one that says nothing or comes at a wrong time, words too few, too many or empty, and each field with a value that it hasn't.
+const BAD: [&[u8]; 21] = [
+    b"close",
+    b"open 0 1",
+    b"counts 1\r",
+    b"renew 1 A i1 - c",
+    b"cancel 1 A i1 c c",
+    b"look 1  A i1",
+    b"look 1  i1",
+    b"look 1 A \xff",
+    b"roll +1",
+    b"roll 000000000000000000001",
+    b"roll 4611686018427387905",
+    b"register 1 A i2 2147484 UP UNKNOWN 5 c",
+    b"register 1 A i2 90 up UNKNOWN 5 c",
+    b"register 1 A i2 90 UP - 5 c",
+    b"adopt 1 A i2 90 UP UNKNOWN 9223372036854775808",
+    b"renew 1 A i1 - UNKNOWN p",
+    b"config 1 no 50 15 7",
+    b"config 1 off 101 15 7",
+    b"config 1 off 50 0 7",
+    b"drain 1 4294967296",
+    b"landed 1 0 200 1000",
+];
+
+/// A script with a bad line behind these good ones, and another good one behind it.
+fn bad_script(alloc: Global, bad: &[u8]) -> Result<Vec<u8>, AllocError> {
+    let mut script = Vec::from_slice(alloc, GOOD)?;
+    script.extend_from_slice(bad)?;
+    script.extend_from_slice(b"\nrenew 1 A i1 - - c\n")?;
+    Ok(script)
+}
+
+/// Whether the bad line ends that script, once the good ones before it are printed. `OutOfMemory` where want of memory ends it, behind whole lines.
+fn is_told(alloc: Global, bad: &[u8]) -> Result<bool, Fault> {
+    let config = settings()?;
+    let script = bad_script(alloc, bad)?;
+    let mut out = Vec::with_capacity(alloc, 64)?;
+    let mut reader = script.as_slice();
+    let result = run_script(alloc, &mut reader, &mut out, config, &mut FirstChooser);
+    match (result, printed(&out)) {
+        (Err(ScriptFault::BadLine(3)), Some(2)) => Ok(true),
+        (Err(ScriptFault::OutOfMemory), Some(count)) if count <= 2 => Err(Fault::OutOfMemory),
+        _ => Ok(false),
+    }
+}
+
+/// The same of a line that is too long.
+fn is_long_told(alloc: Global) -> Result<bool, Fault> {
+    let long = vec![in alloc; b'x'; LONGEST_LINE + 1]?;
+    is_told(alloc, long.as_slice())
+}
+
+#[test]
+fn memory_bad_lines(rt: HostRuntime) {
+    let alloc = rt.alloc();
+    for bad in BAD {
+        assert!(rt; are_so(is_told(alloc, bad), is_told(alloc, bad)));
+    }
+    assert!(rt; are_so(is_long_told(alloc), is_long_told(alloc)));
+}
+
+/// Whether a script's journal is found to be a run. `OutOfMemory` where want of memory is told, and nothing written.
 fn is_judged(alloc: Global) -> Result<bool, Fault> {
     let config = settings()?;
     let script = script(alloc)?;
     let mut out = Vec::with_capacity(alloc, 64)?;
     let mut reader = script.as_bytes();
     let result = run_audit(alloc, &mut reader, &mut out, config, &mut FirstChooser);
-    Ok(match result {
-        Ok(is_run) => is_run && out.as_slice() == VERDICT,
-        Err(ScriptFault::OutOfMemory) => out.is_empty(),
-        Err(_) => false,
-    })
+    match result {
+        Ok(is_run) => Ok(is_run && out.as_slice() == VERDICT),
+        Err(ScriptFault::OutOfMemory) if out.is_empty() => Err(Fault::OutOfMemory),
+        Err(_) => Ok(false),
+    }
+}
+
+/// Whether a script with a bad line isn't judged, and nothing is written.
+fn is_not_judged(alloc: Global) -> Result<bool, Fault> {
+    let config = settings()?;
+    let script = bad_script(alloc, b"close")?;
+    let mut out = Vec::with_capacity(alloc, 64)?;
+    let mut reader = script.as_slice();
+    let result = run_audit(alloc, &mut reader, &mut out, config, &mut FirstChooser);
+    match result {
+        Err(ScriptFault::BadLine(3)) => Ok(out.is_empty()),
+        Err(ScriptFault::OutOfMemory) if out.is_empty() => Err(Fault::OutOfMemory),
+        _ => Ok(false),
+    }
 }
 
 #[test]
 fn memory_run_audit(rt: HostRuntime) {
     let alloc = rt.alloc();
     assert!(rt; are_so(is_judged(alloc), is_judged(alloc)));
+    assert!(rt; are_so(is_not_judged(alloc), is_not_judged(alloc)));
 }
 
-/// The journal that the script leaves. None where there was no memory for it, or for the script, and none was written; `Mismatch` where it was else.
-fn journal(alloc: Global) -> Result<Option<Vec<u8>>, Fault> {
+/// Whether the script leaves a journal. `OutOfMemory` where there was no memory for it, or for the script, and none was written.
+fn leaves_journal(alloc: Global) -> Result<bool, Fault> {
     let config = settings()?;
     let script = script(alloc)?;
     let mut out = Vec::with_capacity(alloc, 4096)?;
@@ -128,22 +214,37 @@ fn journal(alloc: Global) -> Result<Option<Vec<u8>>, Fault> {
         &mut FirstChooser,
     );
     match (result, printed(&out)) {
-        (Ok(()), Some(count)) if count == LINES.len() => Ok(Some(journal)),
-        (Err(ScriptFault::OutOfMemory), Some(_)) if journal.is_empty() => Ok(None),
-        _ => Err(Fault::Mismatch),
+        (Ok(()), Some(count)) => Ok(count == LINES.len() && !journal.is_empty()),
+        (Err(ScriptFault::OutOfMemory), Some(_)) if journal.is_empty() => Err(Fault::OutOfMemory),
+        _ => Ok(false),
     }
 }
 
-/// Whether a script leaves a journal, as far as there is memory.
-fn leaves_journal(alloc: Global) -> Result<bool, Fault> {
-    Ok(match journal(alloc)? {
-        Some(journal) => !journal.is_empty(),
-        None => true,
-    })
+/// Whether a script with a bad line leaves no journal.
+fn leaves_none(alloc: Global) -> Result<bool, Fault> {
+    let config = settings()?;
+    let script = bad_script(alloc, b"close")?;
+    let mut out = Vec::with_capacity(alloc, 64)?;
+    let mut journal = Vec::with_capacity(alloc, 64)?;
+    let mut reader = script.as_slice();
+    let result = run_script_with_journal(
+        alloc,
+        &mut reader,
+        &mut out,
+        &mut journal,
+        config,
+        &mut FirstChooser,
+    );
+    match (result, printed(&out)) {
+        (Err(ScriptFault::BadLine(3)), Some(2)) => Ok(journal.is_empty()),
+        (Err(ScriptFault::OutOfMemory), Some(_)) if journal.is_empty() => Err(Fault::OutOfMemory),
+        _ => Ok(false),
+    }
 }
 
 #[test]
 fn memory_journal(rt: HostRuntime) {
     let alloc = rt.alloc();
     assert!(rt; are_so(leaves_journal(alloc), leaves_journal(alloc)));
+    assert!(rt; are_so(leaves_none(alloc), leaves_none(alloc)));
 }

@@ -64,7 +64,7 @@ pub fn held(alloc: Global, book: &Book) -> Result<u64, Fault> {
 }
 
 /// Writes the stamp, the status and the overridden status of the lease that a view shows.
-fn tell_seen(view: &View, out: &mut String) -> Result<(), AllocError> {
+pub fn tell_seen(view: &View, out: &mut String) -> Result<(), AllocError> {
     match view {
         View::One(Some(listed)) => {
             let instance = &listed.instance;
@@ -76,7 +76,7 @@ fn tell_seen(view: &View, out: &mut String) -> Result<(), AllocError> {
 }
 
 /// Writes the same of i1 where a book holds it.
-pub fn tell_first(alloc: Global, book: &Book, out: &mut String) -> Result<(), Fault> {
+fn tell_first(alloc: Global, book: &Book, out: &mut String) -> Result<(), Fault> {
     let query = Query::One(key(alloc, "i1")?);
     let view = book.read(alloc, &query, at(0))?;
     Ok(tell_seen(&view, out)?)

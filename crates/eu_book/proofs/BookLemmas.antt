@@ -29,7 +29,8 @@ use Rattle.eu_book.specs.declared.journal.Journal.{Journal}
 use Rattle.eu_book.specs.Account.{Account, Refuses, opened, IsKept, cleared, ready, entry, grown}
 use Rattle.eu_book.specs.Checkpoint.{account_with, begun, BeginsAt, IsPaired, IsSame}
 use Rattle.eu_book.specs.Peers.{IsRefused, MayRefuse, queues_of, server_with}
-use Rattle.eu_book.specs.Undone.{before_step, undone_all}
+use Rattle.eu_core.specs.Undone.{undone}
+use Rattle.eu_book.specs.Undone.{undone_all}
 use Rattle.eu_book.proofs.HistoryLemmas.{runs_on, runs_ended, numbered_on, plus_assoc, plus_nothing, tally_on}
 use Rattle.eu_book.proofs.UndoneLemmas.{undone_all-push}
 
@@ -173,11 +174,11 @@ module _ (j : Journal) (totals : Tally) (p : Plain) (boxes : List Boxed) where
   is_ready s true full at = begins s (at refl) ∙ ap (λ b. cond b (cleared (account_with j totals p boxes)) (account_with j totals p boxes)) full
 
   -- an entry more, with what its step replaced
-  grows : (new : Journal) (e : Entry) (u : Option Undo) (sum : Tally) (q : Plain) (others : List Boxed) → IsPaired j → new.first ≡ j.first → new.queues ≡ j.queues
-      → new.entries.items ≡ j.entries.items ++ e ∷ [] → new.undos.items ≡ j.undos.items ++ u ∷ [] → sum ≡ plus totals (delta e.command e.reply) → before_step e.command u q ≡ p
+  grows : (new : Journal) (e : Entry) (u : Undo) (sum : Tally) (q : Plain) (others : List Boxed) → IsPaired j → new.first ≡ j.first → new.queues ≡ j.queues
+      → new.entries.items ≡ j.entries.items ++ e ∷ [] → new.undos.items ≡ j.undos.items ++ u ∷ [] → sum ≡ plus totals (delta e.command e.reply) → undone e.command u q ≡ p
       → account_with new sum q others ≡ grown (account_with j totals p boxes) e (server_with q others)
-  grows new e u sum q others paired first queues entries undos sum_is undone =
-      let back = (λ i. undone_all (entries i) (undos i) q) ∙ undone_all-push j.entries.items j.undos.items e u q paired ∙ ap (undone_all j.entries.items j.undos.items) undone in
+  grows new e u sum q others paired first queues entries undos sum_is leads =
+      let back = (λ i. undone_all (entries i) (undos i) q) ∙ undone_all-push j.entries.items j.undos.items e u q paired ∙ ap (undone_all j.entries.items j.undos.items) leads in
       λ i. let a : Account = record { base = of.server (back i) (queues i); first = first i; entries = entries i; state = server_with q others; totals = sum_is i } in a
 
 -- journals that have the same in them give one account
@@ -199,7 +200,7 @@ begun_paired false s j steps queues paired at = paired
 begun_paired true s j steps queues paired at = begins_paired s steps queues (at refl)
 
 -- a journal as it was, as it is with room made, the spare one, which begins anew where it was full, and the one with the entry of a command and what its step replaced
-module _ (j mid new : Journal) (totals : Tally) (p : Plain) (boxes : List Boxed) (s : Journal) (anew : Bool) (e : Entry) (u : Option Undo) (paired : IsPaired j) (same : IsSame mid j)
+module _ (j mid new : Journal) (totals : Tally) (p : Plain) (boxes : List Boxed) (s : Journal) (anew : Bool) (e : Entry) (u : Undo) (paired : IsPaired j) (same : IsSame mid j)
     (full : anew ≡ (length j.entries.items == most_entries)) (at : anew ≡ true → BeginsAt totals.steps (queues_of boxes) s)
     (entries : new.entries.items ≡ (begun anew s mid).entries.items ++ e ∷ []) (undos : new.undos.items ≡ (begun anew s mid).undos.items ++ u ∷ []) where
   still_paired : IsPaired (begun anew s mid)
@@ -210,11 +211,11 @@ module _ (j mid new : Journal) (totals : Tally) (p : Plain) (boxes : List Boxed)
       omega (arith, ap length undos, ap length entries, length-append (begun anew s mid).undos.items (u ∷ []), length-append (begun anew s mid).entries.items (e ∷ []), still_paired)
 
   pub entered : (sum : Tally) (q : Plain) (others : List Boxed) → new.first ≡ (begun anew s mid).first → new.queues ≡ (begun anew s mid).queues → sum ≡ plus totals (delta e.command e.reply)
-      → before_step e.command u q ≡ p → account_with new sum q others ≡ grown (ready (account_with j totals p boxes)) e (server_with q others)
-  entered sum q others first queues sum_is undone =
+      → undone e.command u q ≡ p → account_with new sum q others ≡ grown (ready (account_with j totals p boxes)) e (server_with q others)
+  entered sum q others first queues sum_is leads =
       let full_mid = full ∙ ap (λ es. length es == most_entries) (sym same.entries) in
       let readied = is_ready mid totals p boxes s anew full_mid at ∙ ap ready (same_account mid j totals p boxes same) in
-      grows (begun anew s mid) totals p boxes new e u sum q others still_paired first queues entries undos sum_is undone ∙ ap (λ a. grown a e (server_with q others)) readied
+      grows (begun anew s mid) totals p boxes new e u sum q others still_paired first queues entries undos sum_is leads ∙ ap (λ a. grown a e (server_with q others)) readied
 
 -- ---- refused
 

@@ -4,21 +4,22 @@ use Rattle.std.proofs.lemmas.List.{take_more, length-take-le}
 use Rattle.eu_core.specs.declared.undo.Undo.{Undo}
 use Rattle.eu_model.specs.declared.commands.Entry.{Entry}
 use Rattle.eu_model.specs.Plain.{Plain}
-use Rattle.eu_book.specs.Undone.{before_step, undone_all}
+use Rattle.eu_core.specs.Undone.{undone}
+use Rattle.eu_book.specs.Undone.{undone_all}
 
 -- one entry more at the end is undone before all
-pub undone_all-push : (es : List Entry) (us : List (Option Undo)) (e : Entry) (u : Option Undo) (p : Plain) → length us ≡ length es
-    → undone_all (es ++ e ∷ []) (us ++ u ∷ []) p ≡ undone_all es us (before_step e.command u p)
+pub undone_all-push : (es : List Entry) (us : List Undo) (e : Entry) (u : Undo) (p : Plain) → length us ≡ length es
+    → undone_all (es ++ e ∷ []) (us ++ u ∷ []) p ≡ undone_all es us (undone e.command u p)
 undone_all-push [] [] e u p alike = refl
 undone_all-push [] (v ∷ us) e u p alike = absurd (omega (arith, alike))
 undone_all-push (d ∷ es) [] e u p alike = absurd (omega (arith, alike))
 undone_all-push (d ∷ es) (v ∷ us) e u p alike =
     let rest : length us ≡ length es = omega (arith, alike) in
-    ap (before_step d.command v) (undone_all-push es us e u p rest)
+    ap (undone d.command v) (undone_all-push es us e u p rest)
 
 -- where the last of those that are left is undone, the others lead from there to what all of them lead to
-pub undone_more : (p now x : Plain) (es : List Entry) (us : List (Option Undo)) (left : ℕ) (e : Entry) (u : Option Undo) → 0 < left → left ≤ length es → length us ≡ length es
-    → e ≡ get_or es (left - 1) e → u ≡ get_or us (left - 1) u → now ≡ before_step e.command u p
+pub undone_more : (p now x : Plain) (es : List Entry) (us : List Undo) (left : ℕ) (e : Entry) (u : Undo) → 0 < left → left ≤ length es → length us ≡ length es
+    → e ≡ get_or es (left - 1) e → u ≡ get_or us (left - 1) u → now ≡ undone e.command u p
     → undone_all (take left es) (take left us) p ≡ x → undone_all (take (left - 1) es) (take (left - 1) us) now ≡ x
 undone_more p now x es us left e u some within alike e_is u_is is h =
     let n : left ≡ left - 1 + 1 = omega arith in

@@ -16,7 +16,7 @@ use crate::journal::{Dropped, Journal, Logged};
 use crate::peers::Peers;
 use crate::snapshot::ViewSnapshot;
 use crate::undoing::{plain_base, plain_state};
-use eu_base::{Config, Fault, MOST_PEERS, MOST_STEPS, Moment};
+use eu_base::{Config, Fault, MOST_ENTRIES, MOST_PEERS, MOST_STEPS, Moment};
 use eu_clock::Chooser;
 use eu_core::Registry;
 use eu_model::{Command, Entry, Listed, Listing, Query, Reply, State, Tally, View};
@@ -112,6 +112,7 @@ impl Book {
     /// is none of that number; then as its call refuses. `OutOfMemory` may come in place of what the registry refuses by, but never of
     /// `Exhausted` after 2^62 commands, of `NoPeer` or of what an outbox refuses by: these take no memory. A refusal changes
     /// nothing, the journal neither, and asks no word.
+    #[inline(always)]
     pub fn apply<C: Chooser>(
         &mut self,
         alloc: Global,
@@ -159,6 +160,7 @@ impl Book {
     }
 
     /// Puts a command to the registry, and enters it in the journal; gives its reply once more for a log, where one `logs` it.
+    #[inline(always)]
     fn enter<C: Chooser>(
         &mut self,
         alloc: Global,
@@ -176,6 +178,7 @@ impl Book {
         ensures unasked { OnErr result (chooser.new ≡ chooser.old) }
     {
         let steps = self.totals.steps;
+        let begins_anew = self.journal.entries.len() == MOST_ENTRIES;
         match answer(
             alloc,
             &mut self.journal,
@@ -188,14 +191,16 @@ impl Book {
             chooser,
             logs,
         ) {
-            Ok(accepted) => Ok(note(
+            Ok(stepped) => Ok(note(
                 &mut self.journal,
                 &mut self.spare,
                 &mut self.totals,
                 pass,
                 command,
                 moment,
-                accepted,
+                stepped,
+                begins_anew,
+                logs,
             )),
             Err(fault) => {
                 drop(command);

@@ -18,8 +18,8 @@ pub struct Journal {
     pub(crate) queues: Queues,
     /// The commands that were accepted since, with their replies, in their order.
     pub entries: Vec<Entry>,
-    /// What the step of each replaced; nothing, where it is a command for a peer.
-    pub(crate) undos: Vec<Option<Undo>>,
+    /// What the step of each replaced.
+    pub(crate) undos: Vec<Undo>,
 }
 
 impl Journal {
@@ -66,7 +66,7 @@ pub struct Dropped {
     /// The entry, if one was left.
     pub entry: Option<Entry>,
     /// What its step replaced.
-    pub(crate) undo: Option<Option<Undo>>,
+    pub(crate) undo: Option<Undo>,
     /// What waited for the peers before the first entry, where the journal has begun anew just now; else nothing.
     pub(crate) queues: Queues,
 }

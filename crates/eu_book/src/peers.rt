@@ -1,16 +1,17 @@
 //! The outboxes of the peers.
-ghost use Rattle.std.specs.Prelude.{◌≡◌, ◌≤◌, All, Err, Ok, Option, length, map, option_map, replicate, slice_get, vec_len, IfOk, IfErr, OnOk, OnErr};
+ghost use Rattle.std.specs.Prelude.{◌≡◌, ◌≤◌, Bool, List, [], All, Err, Ok, Option, length, map, option_map, replicate, slice_get, vec_len, IfOk, IfErr, OnOk, OnErr};
 ghost use Rattle.std.specs.Vec.{vec_capacity};
 ghost use Rattle.eu_base.specs.declared.instances.Instance.{Instance};
+ghost use Rattle.eu_base.specs.declared.tasks.Task.{Task};
 ghost use Rattle.eu_core.specs.Stepped.{copies_of};
 ghost use Rattle.eu_model.specs.Server.{idle, task_for, with_task};
-ghost use Rattle.eu_core.specs.Answered.{answered};
+ghost use Rattle.eu_core.specs.Answered.{replies_for, IsAnswered};
 ghost use Rattle.eu_book.specs.Account.{queues_fault};
 ghost use Rattle.eu_book.specs.Peers.{queues_of, IsReady, QueuesAnswer, told_key};
 
 use crate::tasks::task_for;
-use eu_base::{Codes, Fault, Key, MOST_PEERS, Moment, SharedInstance};
-use eu_core::{Answered, replies_for, split};
+use eu_base::{Codes, Fault, Key, MOST_PEERS, Moment, SharedInstance, Tasks};
+use eu_core::{Answered, replies_for};
 use eu_model::{Command, Queues, Reply};
 use eu_outbox::Outbox;
 use std::alloc::{AllocError, Global};
@@ -126,8 +127,8 @@ impl Peers {
         peer: u32,
         moment: Moment,
         logs: bool,
-    ) -> Result<Answered<Reply>, Fault>
-        ensures same { IfOk result (λ a. a ≡ answered logs a.reply) }
+    ) -> Result<Answered, Fault>
+        ensures same { IfOk result (IsAnswered logs) }
         ensures ok { IfOk result (λ a. QueuesAnswer self.old (Command.Drain peer) moment (Ok a.reply) self.new) }
         ensures refused { IfErr result (λ f. QueuesAnswer self.old (Command.Drain peer) moment (Err f) self.old) }
         ensures err { OnErr result (queues_of self.new ≡ queues_of self.old) }
@@ -135,13 +136,9 @@ impl Peers {
         let Some(outbox) = self.outboxes.get_mut(peer as usize) else {
             return Err(Fault::NoPeer);
         };
+        let room = Vec::with_capacity(alloc, 2)?;
         let batches = outbox.drain(alloc, moment, replies_for(logs))?;
-        let each = split(batches, logs);
-        Ok(Answered {
-            reply: Reply::Batch(each.reply),
-            answer: Reply::Batch(each.answer),
-            logged: each.logged.map(Reply::Batch),
-        })
+        Ok(batched(batches, room))
     }
 
     /// The batch in flight to a peer has landed, and was answered by these statuses (`Outbox::landed`).
@@ -177,6 +174,27 @@ impl Peers {
             queues.push(outbox.queue(alloc)?)?;
         }
         Ok(Queues::new(queues))
+    }
+}
+
+/// Equal batches, as many as a drain needs (`replies_for`), each for its use; the room is for two replies.
+fn batched(mut batches: Vec<Tasks>, mut room: Vec<Reply>) -> Answered
+    requires batches { (b : List Task) × (logs : Bool) × (batches.items ≡ replicate (replies_for logs) b) }
+    requires room { (room.items ≡ []) × (2 ≤ vec_capacity room) }
+    ensures { (b : List Task) (logs : Bool) → batches.items ≡ replicate (replies_for logs) b → (result.reply ≡ Reply.Batch b) × IsAnswered logs result }
+{
+    match (batches.pop(), batches.pop()) {
+        (Some(reply), Some(answer)) => {
+            room.push_reserved(Reply::Batch(answer));
+            if let Some(logged) = batches.pop() {
+                room.push_reserved(Reply::Batch(logged));
+            }
+            Answered {
+                reply: Reply::Batch(reply),
+                others: room,
+            }
+        }
+        _ => unreachable!(),
     }
 }
 

@@ -5,9 +5,9 @@ ghost use Rattle.eu_base.specs.declared.names.Key.{Key};
 ghost use Rattle.eu_core.specs.Stepped.{Chooses};
 ghost use Rattle.eu_model.specs.Server.{is_for_peers};
 ghost use Rattle.eu_model.specs.Answers.{ServerAnswers};
-ghost use Rattle.eu_core.specs.Answered.{answered};
+ghost use Rattle.eu_core.specs.Answered.{IsAnswered};
+ghost use Rattle.eu_core.specs.Undone.{undone};
 ghost use Rattle.eu_book.specs.Peers.{MayRefuse, server_with, told_key};
-ghost use Rattle.eu_book.specs.Undone.{before_step};
 
 use crate::peers::Peers;
 use crate::tasks::told_key;
@@ -17,14 +17,7 @@ use eu_core::{Answered, Registry, Stepped, Undo, owning_nothing};
 use eu_model::{Command, Reply};
 use std::alloc::{AllocError, Global};
 
-/// What a command is answered, and what its step of the registry replaced; one for a peer makes none.
-#[derive(Drop)]
-pub(crate) struct Served {
-    pub(crate) answered: Answered<Reply>,
-    pub(crate) undo: Option<Undo>,
-}
-
-/// Answers a command, in two equal replies; in one more for a log, where one `logs` it.
+/// Answers a command, by a step of the registry or, where it is for a peer, by none. Its reply is there for each use; for a log, where one `logs` it.
 pub(crate) fn serve<C: Chooser>(
     alloc: Global,
     registry: &mut Registry,
@@ -33,24 +26,24 @@ pub(crate) fn serve<C: Chooser>(
     moment: Moment,
     chooser: &mut C,
     logs: bool,
-) -> Result<Served, Fault>
-    ensures same { IfOk result (λ s. s.answered ≡ answered logs s.answered.reply) }
+) -> Result<Stepped, Fault>
+    ensures same { IfOk result (λ s. IsAnswered logs s.answered) }
     ensures answers { IfOk result (λ s. ServerAnswers (server_with registry.old peers.old) command.now moment (Ok s.answered.reply) (server_with registry.new peers.new)) }
     ensures chooses { IfOk result (λ s. Chooses C.asks registry.old chooser.old command.now moment s.answered.reply chooser.new) }
-    ensures undo { IfOk result (λ s. before_step command.now s.undo registry.new ≡ registry.old) }
+    ensures undo { IfOk result (λ s. undone command.now s.undo registry.new ≡ registry.old) }
     ensures refused { IfErr result (λ f. MayRefuse (server_with registry.old peers.old) command.now moment f) }
     ensures err { OnErr result (server_with registry.new peers.new ≡ server_with registry.old peers.old) }
     ensures unasked { OnErr result (chooser.new ≡ chooser.old) }
 {
     match command {
-        Command::Drain { peer } => Ok(for_peer(peers.drain(alloc, *peer, moment, logs)?)),
+        Command::Drain { peer } => Ok(for_peer(alloc, peers.drain(alloc, *peer, moment, logs)?)),
         Command::Landed { peer, codes } => {
             peers.landed(*peer, codes, moment)?;
-            Ok(for_peer(owning_nothing(alloc, Reply::Settled, logs)))
+            Ok(for_peer(alloc, owning_nothing(alloc, Reply::Settled)))
         }
         Command::Lost { peer } => {
             peers.lost(*peer, moment)?;
-            Ok(for_peer(owning_nothing(alloc, Reply::Settled, logs)))
+            Ok(for_peer(alloc, owning_nothing(alloc, Reply::Settled)))
         }
         command => match key_told(command, peers) {
             Some(key) => {
@@ -62,13 +55,14 @@ pub(crate) fn serve<C: Chooser>(
 }
 
 /// What a command for a peer is answered: it makes no step of the registry.
-fn for_peer(answered: Answered<Reply>) -> Served
+fn for_peer(alloc: Global, answered: Answered) -> Stepped
     ensures answered { result.answered ≡ answered }
-    ensures undo { result.undo ≡ None }
+    ensures undo { result.undo ≡ Undo.Nothing }
 {
-    Served {
+    Stepped {
         answered,
-        undo: None,
+        held: Vec::new(alloc),
+        undo: Undo::Nothing,
     }
 }
 
@@ -92,22 +86,18 @@ fn step<C: Chooser>(
     moment: Moment,
     chooser: &mut C,
     logs: bool,
-) -> Result<Served, Fault>
+) -> Result<Stepped, Fault>
     requires kind { is_for_peers command.now ≡ false }
     requires untold { (told_key command.now ≡ None) ⊎ (length peers.now ≡ 0) }
-    ensures same { IfOk result (λ s. s.answered ≡ answered logs s.answered.reply) }
+    ensures same { IfOk result (λ s. IsAnswered logs s.answered) }
     ensures answers { IfOk result (λ s. ServerAnswers (server_with registry.old peers.now) command.now moment (Ok s.answered.reply) (server_with registry.new peers.now)) }
     ensures chooses { IfOk result (λ s. Chooses C.asks registry.old chooser.old command.now moment s.answered.reply chooser.new) }
-    ensures undo { IfOk result (λ s. before_step command.now s.undo registry.new ≡ registry.old) }
+    ensures undo { IfOk result (λ s. undone command.now s.undo registry.new ≡ registry.old) }
     ensures refused { IfErr result (λ f. MayRefuse (server_with registry.old peers.now) command.now moment f) }
     ensures err { OnErr result (registry.new ≡ registry.old) }
     ensures unasked { OnErr result (chooser.new ≡ chooser.old) }
 {
-    let stepped = registry.step(alloc, command, moment, logs, 0, chooser)?;
-    Ok(Served {
-        answered: stepped.answered,
-        undo: Some(stepped.undo),
-    })
+    registry.step(alloc, command, moment, logs, 0, chooser)
 }
 
 /// The step of a command of which the peers may be told, and what they are told.
@@ -120,13 +110,13 @@ fn step_and_tell<C: Chooser>(
     moment: Moment,
     chooser: &mut C,
     logs: bool,
-) -> Result<Served, Fault>
+) -> Result<Stepped, Fault>
     requires kind { is_for_peers command.now ≡ false }
     requires key { told_key command.now ≡ Some key.now }
-    ensures same { IfOk result (λ s. s.answered ≡ answered logs s.answered.reply) }
+    ensures same { IfOk result (λ s. IsAnswered logs s.answered) }
     ensures answers { IfOk result (λ s. ServerAnswers (server_with registry.old peers.old) command.now moment (Ok s.answered.reply) (server_with registry.new peers.new)) }
     ensures chooses { IfOk result (λ s. Chooses C.asks registry.old chooser.old command.now moment s.answered.reply chooser.new) }
-    ensures undo { IfOk result (λ s. before_step command.now s.undo registry.new ≡ registry.old) }
+    ensures undo { IfOk result (λ s. undone command.now s.undo registry.new ≡ registry.old) }
     ensures refused { IfErr result (λ f. MayRefuse (server_with registry.old peers.old) command.now moment f) }
     ensures err { OnErr result (server_with registry.new peers.new ≡ server_with registry.old peers.old) }
     ensures unasked { OnErr result (chooser.new ≡ chooser.old) }
@@ -141,9 +131,10 @@ fn step_and_tell<C: Chooser>(
         undo,
     } = stepped;
     peers.tell(command, &answered.reply, moment, keys, held);
-    Ok(Served {
+    Ok(Stepped {
         answered,
-        undo: Some(undo),
+        held: Vec::new(alloc),
+        undo,
     })
 }
 

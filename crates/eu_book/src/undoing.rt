@@ -2,12 +2,12 @@
 ghost use Rattle.std.specs.Prelude.{◌≡◌, length, IfOk, OnOk};
 ghost use Rattle.eu_book.specs.Checkpoint.{base_with, IsPaired};
 ghost use Rattle.eu_book.specs.Peers.{server_with, state_of};
-ghost use Rattle.eu_book.specs.Undone.{before_step, undone_all};
+ghost use Rattle.eu_book.specs.Undone.{undone_all};
 
 use crate::journal::Journal;
 use crate::peers::Peers;
 use eu_core::{Registry, Undo};
-use eu_model::{Command, Entry, Queue, Queues, State};
+use eu_model::{Entry, Queue, Queues, State};
 use std::alloc::{AllocError, Global};
 
 /// A registry and what waits for its peers, as plain data.
@@ -50,7 +50,7 @@ fn undo_all(
     registry: &mut Registry,
     alloc: Global,
     entries: &[Entry],
-    undos: &[Option<Undo>],
+    undos: &[Undo],
 ) -> Result<(), AllocError>
     requires { length undos.now ≡ length entries.now }
     ensures { OnOk result (registry.new ≡ undone_all entries.now undos.now registry.old) }
@@ -58,25 +58,9 @@ fn undo_all(
     let mut left = entries.len();
     while left > 0 {
         left -= 1;
-        undo_step(registry, alloc, &entries[left].command, &undos[left])?;
+        registry.undo(alloc, &entries[left].command, &undos[left])?;
     }
     Ok(())
-}
-
-/// Undoes the step of a command, by what it replaced; one for a peer made none. `AllocError` where no memory is left; then a part may be
-/// undone.
-fn undo_step(
-    registry: &mut Registry,
-    alloc: Global,
-    command: &Command,
-    undo: &Option<Undo>,
-) -> Result<(), AllocError>
-    ensures { OnOk result (registry.new ≡ before_step command.now undo.now registry.old) }
-{
-    match undo {
-        Some(undo) => registry.undo(alloc, command, undo),
-        None => Ok(()),
-    }
 }
 
 /// The same queues once more.

@@ -13,7 +13,7 @@ use Rattle.eu_model.specs.declared.commands.Reply.TheVariants.{Evicted}
 use Rattle.eu_model.specs.Server.{key_of}
 use Rattle.eu_model.specs.Answers.{Answers}
 use Rattle.eu_core.specs.declared.step.Stepped.{Stepped}
-use Rattle.eu_core.specs.Answered.{answered}
+use Rattle.eu_core.specs.Answered.{IsAnswered}
 
 -- ---- how the victims of an eviction are drawn
 
@@ -43,7 +43,7 @@ copies_of m (Some x) = replicate m x
 -- a step that leads from old to new, with its reply for each use and m copies of the instance that is held after it
 pub record Acts (old : Plain) (c : Command) (t : ℕ) (logs : Bool) (m : ℕ) (s : Stepped) (new : Plain) : Type 0 where
   pub answers : Answers old c t (Ok s.answered.reply) new
-  pub same : s.answered ≡ answered logs s.answered.reply
+  pub same : IsAnswered logs s.answered
   pub held_are : s.held.items ≡ copies_of m (instance_held new c)
 
 -- an eviction has its victims drawn; no other command asks the chooser

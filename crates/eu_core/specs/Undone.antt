@@ -14,7 +14,7 @@ use Rattle.eu_lease.specs.Term.{Term}
 use Rattle.eu_store.specs.Stored.{changed, rejoined}
 use Rattle.eu_store.specs.Removed.{with_values}
 use Rattle.eu_core.specs.declared.undo.Undo.{Undo}
-use Rattle.eu_core.specs.declared.undo.Undo.TheVariants.{Renewal, Lease, Eviction, Minute, Expected, Settings}
+use Rattle.eu_core.specs.declared.undo.Undo.TheVariants.{Nothing, Renewal, Lease, Eviction, Minute, Expected, Settings}
 use Rattle.eu_core.specs.declared.undo.LeaseBefore.{LeaseBefore}
 use Rattle.eu_core.specs.declared.undo.RenewalBefore.{RenewalBefore}
 use Rattle.eu_core.specs.declared.undo.EvictionBefore.{EvictionBefore}
@@ -58,6 +58,7 @@ eviction_undone b p = record p {
 
 -- what was before the step of a command, by what it replaced and what it left
 abbrev pub undone : Command → Undo → Plain → Plain
+undone c Nothing p = p
 undone c (Renewal b) p = renewal_undone (key_of c) b p
 undone c (Lease b) p = lease_undone (key_of c) b p
 undone c (Eviction b) p = eviction_undone b.value p

@@ -28,6 +28,7 @@ pub struct Context {
 }
 
 /// A renewal (`AbstractInstanceRegistry.renew`, and `InstanceResource.renewLease` for the stamps).
+#[inline(always)]
 pub fn decide_renewal(
     held: Option<&HeldLease>,
     context: Context,
@@ -175,6 +176,7 @@ pub fn decide_no_status(
 }
 
 /// A cancel (`AbstractInstanceRegistry.internalCancel`).
+#[inline(always)]
 pub fn decide_cancel(held: Option<&HeldLease>, context: Context) -> Decision
     ensures change { IsChange result (option_copied held.entry) (plain_cancel (option_copied held.entry) context.expected) }
     ensures in_place { begins result.change.lease ≡ false }

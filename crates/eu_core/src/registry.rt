@@ -426,6 +426,7 @@ impl Registry {
         ensures { OnOk result (self.new ≡ undone command.now undo.now self.old) }
     {
         match undo {
+            Undo::Nothing => {}
             Undo::Renewal(before) => match key_of(command) {
                 Some(key) => self.undo_renewal(key, before),
                 None => {}
@@ -578,6 +579,7 @@ impl Registry {
     }
 
     /// What a renewal does to the lease of that key, where that is held and its id has that row.
+    #[inline(always)]
     pub(crate) fn renewal(
         &self,
         key: &Key,
@@ -637,6 +639,7 @@ impl Registry {
     }
 
     /// What a cancel does to the lease of that key, where that is held and its id has that row.
+    #[inline(always)]
     pub(crate) fn cancellation(
         &self,
         key: &Key,
@@ -652,6 +655,7 @@ impl Registry {
 
     /// Carries out what was decided of the lease of that key, which was found at that place, and whose id has that row. All memory is
     /// taken first: `OutOfMemory` alone refuses, which changes nothing.
+    #[inline(always)]
     pub(crate) fn carry_out(
         &mut self,
         alloc: Global,

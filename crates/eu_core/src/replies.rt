@@ -1,9 +1,9 @@
 //! The reply of a command for each of its uses, and copies of the instance that a step leaves.
-ghost use Rattle.std.specs.Prelude.{◌≡◌, true, replicate, IfOk, IsOk};
+ghost use Rattle.std.specs.Prelude.{◌≡◌, ℕ, ◌+◌, ◌-◌, Bool, true, false, replicate, IfOk};
 ghost use Rattle.std.specs.Option.{option_copied, option_map};
 ghost use Rattle.eu_model.specs.declared.views.Listed.{Listed};
 ghost use Rattle.eu_model.specs.Owned.{owns_nothing};
-ghost use Rattle.eu_core.specs.Answered.{answered, for_log, replies_for};
+ghost use Rattle.eu_core.specs.Answered.{equals_of, for_log, others_of, replies_for, IsAnswered};
 ghost use Rattle.eu_core.specs.Decided.{lease_left};
 ghost use Rattle.eu_core.specs.Stepped.{copies_of};
 
@@ -15,13 +15,12 @@ use std::alloc::{AllocError, Global};
 
 /// What a command is answered: equal replies, each for its use.
 #[derive(Debug, Drop)]
-pub struct Answered<R> {
+pub struct Answered {
     /// The one that a journal keeps.
-    pub reply: R,
-    /// The one that who asked is told.
-    pub answer: R,
-    /// The one that a log of theirs keeps, where they have one.
-    pub logged: Option<R>,
+    pub reply: Reply,
+    /// The others, where the reply owns memory: the one that who asked is told and, where they log it, the one that their log keeps. Else
+    /// none: it is said once more then, which takes no memory.
+    pub others: Vec<Reply>,
 }
 
 /// How many replies a command needs: one for a journal, one for who asked, and one more where they log it.
@@ -31,44 +30,98 @@ pub fn replies_for(logs: bool) -> u32
     if logs { 3 } else { 2 }
 }
 
-/// Equal replies, each for its use. As many are handed in as a command needs (`replies_for`).
-pub fn split<R: Drop>(mut replies: Vec<R>, logs: bool) -> Answered<R>
-    requires { (r : R) × (replies.items ≡ replicate (replies_for logs) r) }
-    ensures { (r : R) → replies.items ≡ replicate (replies_for logs) r → result ≡ answered logs r }
+/// Equal replies that own memory, each for its use. As many are handed in as a command needs (`replies_for`).
+pub fn split(mut replies: Vec<Reply>) -> Answered
+    requires { (r : Reply) × (logs : Bool) × (replies.items ≡ replicate (replies_for logs) r) }
+    ensures { (r : Reply) (logs : Bool) → owns_nothing r ≡ false → replies.items ≡ replicate (replies_for logs) r → (result.reply ≡ r) × IsAnswered logs result }
 {
-    match (replies.pop(), replies.pop()) {
-        (Some(reply), Some(answer)) => Answered {
+    match replies.pop() {
+        Some(reply) => Answered {
             reply,
-            answer,
-            logged: replies.pop(),
+            others: replies,
         },
-        _ => unreachable!(),
+        None => unreachable!(),
     }
 }
 
 /// A reply that owns no memory, for each of its uses. Takes none.
-pub fn owning_nothing(alloc: Global, reply: Reply, logs: bool) -> Answered<Reply>
+pub fn owning_nothing(alloc: Global, reply: Reply) -> Answered
     requires { owns_nothing reply ≡ true }
-    ensures { result ≡ answered logs reply }
+    ensures reply { result.reply ≡ reply }
+    ensures answered { (logs : Bool) → IsAnswered logs result }
 {
     Answered {
-        answer: reply.copy(alloc).unwrap(),
-        logged: for_log(alloc, &reply, logs).unwrap(),
         reply,
+        others: Vec::new(alloc),
     }
 }
 
-/// A reply once more, where one logs it. Takes memory only where a copy of the reply does.
+/// The other replies of a command: the one that who asked is told and, where one `logs` it, the one for their log. Takes no memory.
 #[inline(always)]
-pub(crate) fn for_log(alloc: Global, reply: &Reply, logs: bool) -> Result<Option<Reply>, AllocError>
-    ensures reply { IfOk result (λ l. l ≡ for_log logs reply.now) }
-    ensures memory { owns_nothing reply.now ≡ true → IsOk result }
+pub fn others(reply: &Reply, others: Vec<Reply>, logs: bool) -> (Reply, Option<Reply>)
+    requires { others.items ≡ others_of logs reply.now }
+    ensures { result ≡ (reply.now, for_log logs reply.now) }
 {
-    if logs {
-        Ok(Some(reply.copy(alloc)?))
+    let mut others = others;
+    let answer = next(reply, &mut others);
+    let logged = if logs {
+        Some(next(reply, &mut others))
     } else {
-        Ok(None)
+        None
+    };
+    (answer, logged)
+}
+
+/// One of a reply's equals, or else the reply once more, where it owns no memory.
+#[inline(always)]
+fn next(reply: &Reply, others: &mut Vec<Reply>) -> Reply
+    requires { (n : ℕ) × (others.old.items ≡ equals_of (n + 1) reply.now) }
+    ensures { (n : ℕ) → others.old.items ≡ equals_of (n + 1) reply.now → (result ≡ reply.now) × (others.new.items ≡ equals_of n reply.now) }
+{
+    match others.pop() {
+        Some(other) => other,
+        None => again(reply),
     }
+}
+
+/// A reply that owns no memory, once more. Takes none.
+fn again(reply: &Reply) -> Reply
+    requires { owns_nothing reply.now ≡ true }
+    ensures { result ≡ reply.now }
+{
+    match reply {
+        Reply::Registered { fresh } => Reply::Registered { fresh: *fresh },
+        Reply::Done => Reply::Done,
+        Reply::NotFound => Reply::NotFound,
+        Reply::Stale => Reply::Stale,
+        Reply::Last(renewals) => Reply::Last(*renewals),
+        Reply::Expected(clients) => Reply::Expected(*clients),
+        Reply::Settled => Reply::Settled,
+        _ => unreachable!(),
+    }
+}
+
+/// The others of a command's replies, made of the one for its journal. `AllocError` where no memory is left.
+#[inline(always)]
+pub(crate) fn others_for(alloc: Global, reply: &Reply, logs: bool) -> Result<Vec<Reply>, AllocError>
+    ensures { IfOk result (λ o. o.items ≡ others_of logs reply.now) }
+{
+    match reply {
+        Reply::Conflict(_) | Reply::Evicted(_) | Reply::Batch(_) => copies(alloc, reply, logs),
+        _ => Ok(Vec::new(alloc)),
+    }
+}
+
+/// A reply for who asked, and one more where they log it. `AllocError` where no memory is left.
+fn copies(alloc: Global, reply: &Reply, logs: bool) -> Result<Vec<Reply>, AllocError>
+    ensures { IfOk result (λ o. o.items ≡ replicate (replies_for logs - 1) reply.now) }
+{
+    let mut copies = Vec::with_capacity(alloc, 2)?;
+    copies.push(reply.copy(alloc)?)?;
+    if logs {
+        copies.push(reply.copy(alloc)?)?;
+    }
+    Ok(copies)
 }
 
 /// So many copies of the instance that is held once a change of a lease is carried out; none where no lease is. `AllocError` where no

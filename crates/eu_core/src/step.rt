@@ -1,5 +1,5 @@
 //! Steps: each command by its call, with its reply for each use and copies of what is held after it.
-ghost use Rattle.std.specs.Prelude.{◌≡◌, ℕ, [], false, true, Some, Err, IfOk, IfErr, OnErr};
+ghost use Rattle.std.specs.Prelude.{◌≡◌, ℕ, Bool, [], false, true, Some, Err, IfOk, IfErr, OnErr};
 ghost use Rattle.std.specs.FinMap as map;
 ghost use Rattle.std.specs.Borrow.{Bor};
 ghost use Rattle.std.specs.Option.{option_copied, option_map};
@@ -7,14 +7,14 @@ ghost use Rattle.eu_base.specs.declared.names.Key.{Key};
 ghost use Rattle.eu_model.specs.Answers.{Answers};
 ghost use Rattle.eu_model.specs.Owned.{owns_nothing};
 ghost use Rattle.eu_model.specs.Server.{is_for_peers, key_of};
-ghost use Rattle.eu_core.specs.Answered.{answered};
+ghost use Rattle.eu_core.specs.Answered.{IsAnswered};
 ghost use Rattle.eu_core.specs.Decided.{Decides};
 ghost use Rattle.eu_core.specs.Stepped.{Acts, Steps};
 ghost use Rattle.eu_core.specs.Undone.{undone};
 
 use crate::decision::Decision;
 use crate::registry::Registry;
-use crate::replies::{Answered, copies_left, for_log, owning_nothing, replies_for, split};
+use crate::replies::{Answered, copies_left, others_for, owning_nothing, replies_for, split};
 use crate::undo::Undo;
 use eu_base::{Config, Fault, Key, Moment, SharedInstance, Status};
 use eu_clock::Chooser;
@@ -26,7 +26,7 @@ use std::alloc::Global;
 #[derive(Debug, Drop)]
 pub struct Stepped {
     /// The reply for each use.
-    pub answered: Answered<Reply>,
+    pub answered: Answered,
     /// The copies; none where no lease is held under the command's key after the step, or where it names no key.
     pub held: Vec<SharedInstance>,
     /// What the step replaced.
@@ -67,17 +67,12 @@ impl Registry {
         let (place, found, row) = self.find(key);
         let decision = self.decide(command, key, found, row, moment)?;
         let Decision { change, reply } = decision;
-        let answer = reply.copy(alloc)?;
-        let logged = for_log(alloc, &reply, logs)?;
+        let others = others_for(alloc, &reply, logs)?;
         let held = copies_left(alloc, &change.lease, found, held)?;
         let undo = self.lease_before(alloc, key, found, row, &change)?;
         self.carry_out(alloc, key, place, row, change)?;
         Ok(Stepped {
-            answered: Answered {
-                reply,
-                answer,
-                logged,
-            },
+            answered: Answered { reply, others },
             held,
             undo,
         })
@@ -100,15 +95,16 @@ impl Registry {
         ensures unasked { OnErr result (chooser.new ≡ chooser.old) }
     {
         match command {
-            Command::EndMinute => Ok(self.step_end_minute(alloc, logs)),
-            Command::Update => Ok(self.step_update(alloc, logs)),
-            Command::Reconfigure { config } => Ok(self.step_reconfigure(alloc, config, logs)),
+            Command::EndMinute => Ok(self.step_end_minute(alloc)),
+            Command::Update => Ok(self.step_update(alloc)),
+            Command::Reconfigure { config } => Ok(self.step_reconfigure(alloc, config)),
             Command::Evict => self.step_evict(alloc, moment, logs, chooser),
             _ => unreachable!(),
         }
     }
 
     /// What a command does to the lease of its key, where that is held and its id has that row.
+    #[inline(always)]
     fn decide(
         &self,
         command: &Command,
@@ -176,49 +172,50 @@ impl Registry {
         before.victims = eviction.victims;
         before.removed = eviction.removed;
         Ok(Stepped {
-            answered: split(eviction.replies, logs),
+            answered: split(eviction.replies),
             held: Vec::new(alloc),
             undo: Undo::Eviction(before),
         })
     }
 
-    fn step_end_minute(&mut self, alloc: Global, logs: bool) -> Stepped
-        ensures acts { (t m : ℕ) → Acts self.old Command.EndMinute t logs m result self.new }
+    fn step_end_minute(&mut self, alloc: Global) -> Stepped
+        ensures acts { (t m : ℕ) (logs : Bool) → Acts self.old Command.EndMinute t logs m result self.new }
         ensures undo { undone Command.EndMinute result.undo self.new ≡ self.old }
     {
         let undo = self.minute_before();
         let reply = self.end_minute();
-        on_no_lease(alloc, reply, undo, logs)
+        on_no_lease(alloc, reply, undo)
     }
 
-    fn step_update(&mut self, alloc: Global, logs: bool) -> Stepped
-        ensures acts { (t m : ℕ) → Acts self.old Command.Update t logs m result self.new }
+    fn step_update(&mut self, alloc: Global) -> Stepped
+        ensures acts { (t m : ℕ) (logs : Bool) → Acts self.old Command.Update t logs m result self.new }
         ensures undo { undone Command.Update result.undo self.new ≡ self.old }
     {
         let undo = self.expected_before();
         let reply = self.update();
-        on_no_lease(alloc, reply, undo, logs)
+        on_no_lease(alloc, reply, undo)
     }
 
-    fn step_reconfigure(&mut self, alloc: Global, config: &Config, logs: bool) -> Stepped
-        ensures acts { (t m : ℕ) → Acts self.old (Command.Reconfigure config.now) t logs m result self.new }
+    fn step_reconfigure(&mut self, alloc: Global, config: &Config) -> Stepped
+        ensures acts { (t m : ℕ) (logs : Bool) → Acts self.old (Command.Reconfigure config.now) t logs m result self.new }
         ensures undo { undone (Command.Reconfigure config.now) result.undo self.new ≡ self.old }
     {
         let undo = self.settings_before();
         let reply = self.reconfigure(*config);
-        on_no_lease(alloc, reply, undo, logs)
+        on_no_lease(alloc, reply, undo)
     }
 }
 
 /// What a step gives that is on no lease, and whose reply owns no memory. Takes none.
-fn on_no_lease(alloc: Global, reply: Reply, undo: Undo, logs: bool) -> Stepped
+pub fn on_no_lease(alloc: Global, reply: Reply, undo: Undo) -> Stepped
     requires { owns_nothing reply ≡ true }
-    ensures answered { result.answered ≡ answered logs reply }
+    ensures reply { result.answered.reply ≡ reply }
+    ensures answered { (logs : Bool) → IsAnswered logs result.answered }
     ensures held { result.held.items ≡ [] }
     ensures undo { result.undo ≡ undo }
 {
     Stepped {
-        answered: owning_nothing(alloc, reply, logs),
+        answered: owning_nothing(alloc, reply),
         held: Vec::new(alloc),
         undo,
     }

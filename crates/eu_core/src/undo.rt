@@ -18,6 +18,8 @@ use std::marker::Model;
 /// What a step replaced. Memory is taken by each eviction, and by each command on a lease that is held, but for one that is a `Renewal`.
 #[derive(Debug, Drop)]
 pub enum Undo {
+    /// Nothing: by a command for a peer, which makes no step of a registry.
+    Nothing,
     /// By a command that changed the moments of a lease and the counts alone, as a heartbeat mostly does.
     Renewal(RenewalBefore),
     /// By another command on a lease.

@@ -25,18 +25,18 @@ const PLAYED: &str = "
     evict 1000000 = Evicted i1 i2
     # The same in steps, each with a reply for each use and a copy: a client registers twice, a peer's heartbeat is told of the newer instance,
     # a status is set and taken back, and the client leaves.
-    log register 2000000 A i1 90 UP UNKNOWN 5 c = Registered { fresh: true }, Registered { fresh: true }, Registered { fresh: true }; UP 5 90
-    log register 2000000 A i1 90 UP UNKNOWN 5 c = Registered { fresh: false }, Registered { fresh: false }, Registered { fresh: false }; UP 5 90
+    log register 2000000 A i1 90 UP UNKNOWN 5 c = Registered { fresh: true }; UP 5 90
+    log register 2000000 A i1 90 UP UNKNOWN 5 c = Registered { fresh: false }; UP 5 90
     log renew 2000000 A i1 3 - r = Conflict 5, Conflict 5, Conflict 5; UP 5 90
-    log set 2000000 A i1 DOWN 9 c = Done, Done, Done; DOWN 9 90
-    log renew 2000000 A i1 - - r = Done, Done, Done; DOWN 9 90
-    log unset 2000000 A i1 UP - c = Done, Done, Done; UP 9 90
-    log cancel 2000000 A i1 c = Done, Done, Done
+    log set 2000000 A i1 DOWN 9 c = Done; DOWN 9 90
+    log renew 2000000 A i1 - - r = Done; DOWN 9 90
+    log unset 2000000 A i1 UP - c = Done; UP 9 90
+    log cancel 2000000 A i1 c = Done
     # A peer's instance is adopted, the minute ends, an update is made, the settings are changed, and an eviction comes.
-    log adopt 2000000 A i1 30 UP UNKNOWN 10 = Registered { fresh: true }, Registered { fresh: true }, Registered { fresh: true }; UP 10 30
-    log roll 2000000 = Last(3), Last(3), Last(3)
-    log update 2000000 = Expected(1), Expected(1), Expected(1)
-    log config 2000000 off 85 15 0 = Done, Done, Done
+    log adopt 2000000 A i1 30 UP UNKNOWN 10 = Registered { fresh: true }; UP 10 30
+    log roll 2000000 = Last(3)
+    log update 2000000 = Expected(1)
+    log config 2000000 off 85 15 0 = Done
     log evict 3000000 = Evicted, Evicted, Evicted
     reserve = done
 ";

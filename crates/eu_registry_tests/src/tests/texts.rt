@@ -28,15 +28,13 @@ pub fn tell_answer(out: &mut String, answer: Result<Reply, Fault>) -> Result<(),
     }
 }
 
-/// Writes the reply as a journal keeps it, as who asked is told it, and as their log keeps it, where they have one; and the
-/// status, the stamp and the duration of each copy.
+/// Writes the reply as a journal keeps it and, where it owns memory, as who asked is told it, and as their log keeps it, where they have one; and
+/// the status, the stamp and the duration of each copy.
 pub fn tell_step(out: &mut String, stepped: &Stepped) -> Result<(), AllocError> {
     tell_reply(out, &stepped.answered.reply)?;
-    out.push_str(", ")?;
-    tell_reply(out, &stepped.answered.answer)?;
-    if let Some(logged) = &stepped.answered.logged {
+    for other in stepped.answered.others.as_slice() {
         out.push_str(", ")?;
-        tell_reply(out, logged)?;
+        tell_reply(out, other)?;
     }
     for held in stepped.held.as_slice() {
         let (last_dirty, secs) = (held.last_dirty().value(), held.secs().secs());

@@ -1,5 +1,6 @@
-use Rattle.std.proofs.Common.{◌≡◌, None, ◌∙◌, ap, arith, subst, sym}
-use Rattle.std.specs.Prelude.{Ok}
+use Rattle.std.proofs.Common.{◌≡◌, None, ◌∙◌, refl, ap, arith, subst, sym}
+use Rattle.std.specs.Prelude.{◌==◌, Ok, length}
+use Rattle.eu_base.specs.Limits.{most_entries}
 use Rattle.eu_base.specs.declared.faults.Fault.TheVariants.{OutOfMemory}
 use Rattle.eu_core.specs.Stepped.{Chooses}
 use Rattle.eu_model.specs.Answers.{ServerAnswers}
@@ -14,15 +15,15 @@ note-requires-clause-steps g c = omega (arith, c.self.invariant.1.steps)
 
 pub note-requires-clause-counted : goal.note-requires-clause-counted
 note-requires-clause-counted g c =
-    omega (arith, (sums_fit _ c.self.invariant.1 c.args.command c.args.moment c.in-Ok.accepted.served.answered.reply (server_with c.answer.new.registry c.answer.new.peers) c.in-Ok.ensures.answers).0)
+    omega (arith, (sums_fit _ c.self.invariant.1 c.args.command c.args.moment c.in-Ok.stepped.answered.reply (server_with c.answer.new.registry c.answer.new.peers) c.in-Ok.ensures.answers).0)
 
 pub note-requires-clause-added : goal.note-requires-clause-added
 note-requires-clause-added g c =
-    omega (arith, (sums_fit _ c.self.invariant.1 c.args.command c.args.moment c.in-Ok.accepted.served.answered.reply (server_with c.answer.new.registry c.answer.new.peers) c.in-Ok.ensures.answers).1)
+    omega (arith, (sums_fit _ c.self.invariant.1 c.args.command c.args.moment c.in-Ok.stepped.answered.reply (server_with c.answer.new.registry c.answer.new.peers) c.in-Ok.ensures.answers).1)
 
 pub note-requires-clause-removed : goal.note-requires-clause-removed
 note-requires-clause-removed g c =
-    omega (arith, (sums_fit _ c.self.invariant.1 c.args.command c.args.moment c.in-Ok.accepted.served.answered.reply (server_with c.answer.new.registry c.answer.new.peers) c.in-Ok.ensures.answers).2)
+    omega (arith, (sums_fit _ c.self.invariant.1 c.args.command c.args.moment c.in-Ok.stepped.answered.reply (server_with c.answer.new.registry c.answer.new.peers) c.in-Ok.ensures.answers).2)
 
 pub returns-in-Err-clause-refused : goal.returns-in-Err-clause-refused
 returns-in-Err-clause-refused g c =
@@ -39,15 +40,16 @@ invariant_of-self g c =
     let b = c.self.inside in
     let a = account_with b.journal b.totals b.registry b.peers in
     let kept = c.self.invariant.1 in
-    let accepted = c.in-Ok.accepted in
+    let stepped = c.in-Ok.stepped in
+    let anew = length b.journal.entries.items == most_entries in
     let is = c.in-Ok.ensures in
     let noted = c.note.ensures in
     let new = server_with c.answer.new.registry c.answer.new.peers in
-    let reply = accepted.served.answered.reply in
+    let reply = stepped.answered.reply in
     let e = entry c.args.pass b.totals.steps c.args.command c.args.moment reply in
-    let whole = entered b.journal c.answer.new.journal c.note.new.journal b.totals b.registry b.peers c.answer.new.spare accepted.begins_anew e accepted.served.undo c.self.invariant.0 is.journal is.full is.next noted.entries noted.undos
+    let whole = entered b.journal c.answer.new.journal c.note.new.journal b.totals b.registry b.peers c.answer.new.spare anew e stepped.undo c.self.invariant.0 is.journal refl is.next noted.entries noted.undos
     c.note.new.totals c.answer.new.registry c.answer.new.peers noted.first noted.queues noted.totals is.undo in (
-      entered_paired b.journal c.answer.new.journal c.note.new.journal b.totals b.registry b.peers c.answer.new.spare accepted.begins_anew e accepted.served.undo c.self.invariant.0 is.journal is.full is.next noted.entries noted.undos,
+      entered_paired b.journal c.answer.new.journal c.note.new.journal b.totals b.registry b.peers c.answer.new.spare anew e stepped.undo c.self.invariant.0 is.journal refl is.next noted.entries noted.undos,
       subst IsKept (sym whole) (kept_entered a kept c.args.pass c.args.command c.args.moment reply new is.counts is.answers),
     )
 
@@ -56,16 +58,17 @@ returns-in-Ok-clause-applied g c =
     let b = c.self.inside in
     let a = account_with b.journal b.totals b.registry b.peers in
     let kept = c.self.invariant.1 in
-    let accepted = c.in-Ok.accepted in
+    let stepped = c.in-Ok.stepped in
+    let anew = length b.journal.entries.items == most_entries in
     let is = c.in-Ok.ensures in
     let noted = c.note.ensures in
     let new = server_with c.answer.new.registry c.answer.new.peers in
-    let reply = accepted.served.answered.reply in
+    let reply = stepped.answered.reply in
     let e = entry c.args.pass b.totals.steps c.args.command c.args.moment reply in
-    let whole = entered b.journal c.answer.new.journal c.note.new.journal b.totals b.registry b.peers c.answer.new.spare accepted.begins_anew e accepted.served.undo c.self.invariant.0 is.journal is.full is.next noted.entries noted.undos
+    let whole = entered b.journal c.answer.new.journal c.note.new.journal b.totals b.registry b.peers c.answer.new.spare anew e stepped.undo c.self.invariant.0 is.journal refl is.next noted.entries noted.undos
     c.note.new.totals c.answer.new.registry c.answer.new.peers noted.first noted.queues noted.totals is.undo in
     let after = account_with c.note.new.journal c.note.new.totals c.answer.new.registry c.answer.new.peers in
-    let told = noted.told ∙ ap (λ x. x.answer) is.same in
+    let told = noted.told in
     let applies : Applies g.C.Chooser.asks a c.args.chooser.now (entry c.args.pass c.note.result.receipt.number c.args.command c.args.moment c.note.result.receipt.reply) after c.answer.new.chooser = record {
       counts = omega (arith, kept.steps, is.counts);
       numbered = noted.number;

@@ -1,13 +1,11 @@
 use Rattle.std.proofs.Common.{ap, sym, subst, ◌∙◌}
 use Rattle.std.specs.Prelude.{Ok}
 use Rattle.std.specs.Option.{option_map}
-use Rattle.eu_model.specs.declared.commands.Reply.{Reply}
 use Rattle.eu_model.specs.declared.views.Listed.{Listed}
 use Rattle.eu_model.specs.Answers.{Answers}
 use Rattle.eu_core.specs.Decided.{lease_left}
 use Rattle.eu_core.specs.Stepped.{Steps, copies_of}
 use Rattle.eu_core.specs.Undone.{undone}
-use Rattle.eu_core.specs.declared.replies.Answered.{Answered}
 use Rattle.eu_core.proofs.StepLemmas.{at_one, held_left, unasked}
 use Rattle.eu_core.proofs.registry.Registry.step.Goals as goal
 
@@ -25,7 +23,7 @@ returns-clause-ok g c =
     record {
       acts = record {
         answers = subst (λ q. Answers p a.command.now a.moment (Ok d.reply) q) (sym next) c.in_ok-decision.ensures.decides.answers;
-        same = λ i. let x : Answered Reply = record { reply = d.reply; answer = c.in_ok-answer.ensures.same i; logged = c.in_ok-logged.ensures.reply i } in x;
+        same = c.in_ok-others.ensures;
         held_are =
             c.in_ok-held.ensures
             ∙ ap (λ o. copies_of a.held (option_map (λ (l : Listed). l.instance) (lease_left d.change.lease o))) c.find-row.ensures.held

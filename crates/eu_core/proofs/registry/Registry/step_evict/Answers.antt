@@ -1,27 +1,26 @@
-use Rattle.std.proofs.Common.{◌∙◌, ap, subst, sym}
+use Rattle.std.proofs.Common.{refl, ◌∙◌, ap, subst, sym}
 use Rattle.std.specs.Prelude.{Ok, replicate}
 use Rattle.eu_model.specs.declared.commands.Command.TheVariants.{Evict}
 use Rattle.eu_model.specs.declared.commands.Reply.TheVariants.{Evicted}
 use Rattle.eu_model.specs.Answers.{Answers}
 use Rattle.eu_model.proofs.EvictLemmas.{evict_refused}
-use Rattle.eu_core.specs.Answered.{answered}
 use Rattle.eu_core.proofs.StepLemmas.{no_memory}
 use Rattle.eu_core.proofs.registry.Registry.step_evict.Goals as goal
 
 pub split-requires : goal.split-requires
 split-requires g c =
     let vs = c.in_ok-eviction.eviction.victims.items in
-    (Evicted vs, c.in_ok-eviction.ensures.replies ∙ ap (λ n. replicate n (Evicted vs)) c.replies_for.ensures)
+    (Evicted vs, c.args.logs, c.in_ok-eviction.ensures.replies ∙ ap (λ n. replicate n (Evicted vs)) c.replies_for.ensures)
 
 pub returns-clause-ok : goal.returns-clause-ok
 returns-clause-ok g c = λ m.
     let vs = c.in_ok-eviction.eviction.victims.items in
-    let same = c.split.ensures (Evicted vs) (c.in_ok-eviction.ensures.replies ∙ ap (λ n. replicate n (Evicted vs)) c.replies_for.ensures) in
-    let answer = ap (λ a. a.reply) same in
+    let told = c.split.ensures (Evicted vs) c.args.logs refl (c.in_ok-eviction.ensures.replies ∙ ap (λ n. replicate n (Evicted vs)) c.replies_for.ensures) in
+    let answer = told.0 in
     record {
       acts = record {
         answers = subst (λ r. Answers c.args.self.now Evict c.args.moment (Ok r) c.evict_due.new.self) (sym answer) c.in_ok-eviction.ensures.answers;
-        same = same ∙ ap (answered c.args.logs) (sym answer);
+        same = told.1;
         held_are = c.new-2.ensures.items;
       };
       chooses = (vs, answer, c.in_ok-eviction.ensures.drawn);

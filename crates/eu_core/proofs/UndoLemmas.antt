@@ -24,7 +24,7 @@ use Rattle.eu_core.specs.declared.undo.LeaseBefore.{LeaseBefore}
 use Rattle.eu_core.specs.declared.undo.RenewalBefore.{RenewalBefore}
 use Rattle.eu_core.specs.declared.undo.Undo.TheVariants.{Renewal, Lease, Minute, Expected, Settings}
 use Rattle.eu_core.specs.Decided.{counted, left, lease_left}
-use Rattle.eu_core.specs.Undone.{lease_undone, renewal_undone, retimed, unboxed, undone}
+use Rattle.eu_core.specs.Undone.{lease_undone, renewal_undone, retimed, undone}
 use Rattle.eu_core.proofs.RowLemmas.{changed_value, with_row-same}
 use Rattle.eu_core.proofs.StepLemmas.{get_changed}
 
@@ -55,7 +55,7 @@ module _ (p : Plain) (k : Key) (x : Change) where
 
   -- whatever changes
   pub lease_left_undone : (c : Command) (b : LeaseBefore) (held : Option Listed) (row : Option Status) → key_of c ≡ Some k → held ≡ get p.leases k → row ≡ get p.overrides k.id
-      → unboxed b.held ≡ held → b.row ≡ row → b.expected ≡ p.expected → b.rate ≡ counted p → undone c (Lease b) (left p k x) ≡ p
+      → b.held ≡ held → b.row ≡ row → b.expected ≡ p.expected → b.rate ≡ counted p → undone c (Lease b) (left p k x) ≡ p
   lease_left_undone c b held row key held_is row_is b_held b_row b_expected b_rate =
       let lease = ap (with_value (left p k x).leases k) (b_held ∙ held_is) ∙ value_undone by_key p.leases k (lease_left x.lease (get p.leases k)) in
       let rows = ap (with_value (left p k x).overrides k.id) (b_row ∙ row_is) ∙ value_undone by_name p.overrides k.id x.row in

@@ -1,8 +1,5 @@
 -- What was before a step, by its command and what it replaced
 use Rattle.std.specs.Prelude.{map, Option, Some, None}
-use Rattle.std.specs.Option.{option_map}
-use Rattle.std.specs.declared.alloc.Global.{Global}
-use Rattle.std.specs.declared.boxed.Box.{Box}
 use Rattle.eu_base.specs.declared.names.Key.{Key}
 use Rattle.eu_model.specs.declared.views.Listed.{Listed}
 use Rattle.eu_model.specs.declared.commands.Command.{Command}
@@ -28,15 +25,11 @@ abbrev pub renewal_undone : Option Key → RenewalBefore → Plain → Plain
 renewal_undone None b p = p
 renewal_undone (Some k) b p = record p { leases = changed (retimed b.lease) p.leases k; last = b.rate.last; since = b.rate.since }
 
--- what is held in a box
-abbrev pub unboxed : Option (Box Listed Global) → Option Listed
-unboxed o = option_map (λ b. b.value) o
-
 -- the key has again the lease that it had, and its id the row; as many are expected, and as many renewals counted, as then
 abbrev pub lease_undone : Option Key → LeaseBefore → Plain → Plain
 lease_undone None b p = p
 lease_undone (Some k) b p = record p {
-  leases = with_value p.leases k (unboxed b.held);
+  leases = with_value p.leases k b.held;
   overrides = with_value p.overrides k.id b.row;
   expected = b.expected;
   last = b.rate.last;

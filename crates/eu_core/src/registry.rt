@@ -460,7 +460,7 @@ impl Registry {
     ) -> Result<(), AllocError>
         ensures { OnOk result (self.new ≡ lease_undone (Some key.now) before.now self.old) }
     {
-        put_lease(&mut self.leases, alloc, key, before.held.as_deref())?;
+        put_lease(&mut self.leases, alloc, key, before.held.as_ref())?;
         put_row(&mut self.overrides, alloc, &key.id, before.row)?;
         self.threshold.expect(before.expected.number());
         self.rate = before.rate;
@@ -706,11 +706,10 @@ impl Registry {
     }
 
     /// What a command on the lease of that key is to replace by that change, where this is held and its id has that row. `AllocError`
-    /// where no memory is left, or 2^63 share its instance.
+    /// where 2^63 share its instance.
     #[inline(always)]
     pub(crate) fn lease_before(
         &self,
-        alloc: Global,
         key: &Key,
         held: Option<&HeldLease>,
         row: Option<Status>,
@@ -731,7 +730,7 @@ impl Registry {
                 }))
             }
             _ => Ok(Undo::Lease(LeaseBefore {
-                held: shared(alloc, held)?,
+                held: shared(held)?,
                 row,
                 expected: Clients::new(self.threshold.expected()),
                 rate: self.rate,

@@ -69,7 +69,7 @@ impl Registry {
         let Decision { change, reply } = decision;
         let others = others_for(alloc, &reply, logs)?;
         let held = copies_left(alloc, &change.lease, found, held)?;
-        let undo = self.lease_before(alloc, key, found, row, &change)?;
+        let undo = self.lease_before(key, found, row, &change)?;
         self.carry_out(alloc, key, place, row, change)?;
         Ok(Stepped {
             answered: Answered { reply, others },

@@ -5,7 +5,7 @@ ghost use Rattle.std.specs.Option.{option_copied};
 ghost use Rattle.eu_model.specs.Machine.{with_value};
 ghost use Rattle.eu_store.specs.Removed.{with_values};
 ghost use Rattle.eu_store.specs.Stored.{changed};
-ghost use Rattle.eu_core.specs.Undone.{retimed, unboxed};
+ghost use Rattle.eu_core.specs.Undone.{retimed};
 
 use crate::decision::{new_id, write_row};
 use eu_base::{Config, Id, Key, MOST_EXPECTED, Moment, Status};
@@ -15,7 +15,7 @@ use eu_store::{Amendment, HeldLease, Leases};
 use std::alloc::{AllocError, Global};
 use std::marker::Model;
 
-/// What a step replaced. Memory is taken by each eviction, and by each command on a lease that is held, but for one that is a `Renewal`.
+/// What a step replaced. Memory is taken by each eviction alone.
 #[derive(Debug, Drop)]
 pub enum Undo {
     /// Nothing: by a command for a peer, which makes no step of a registry.
@@ -47,7 +47,7 @@ pub struct RenewalBefore {
 #[derive(Debug, Drop)]
 pub struct LeaseBefore {
     /// The lease of its key, where one was held.
-    pub held: Option<Box<HeldLease>>,
+    pub held: Option<HeldLease>,
     /// The override row of its id, where it had one.
     pub row: Option<Status>,
     /// How many clients were expected.
@@ -106,15 +106,13 @@ impl Clients {
     }
 }
 
-/// What is held, once more: it shares its instance. `AllocError` where no memory is left, or 2^63 share that.
-pub(crate) fn shared(
-    alloc: Global,
-    held: Option<&HeldLease>,
-) -> Result<Option<Box<HeldLease>>, AllocError>
-    ensures { IfOk result (λ copy. unboxed copy ≡ option_copied held.entry) }
+/// What is held, once more: it shares its instance. `AllocError` where 2^63 share that.
+#[inline(always)]
+pub(crate) fn shared(held: Option<&HeldLease>) -> Result<Option<HeldLease>, AllocError>
+    ensures { IfOk result (λ copy. copy ≡ option_copied held.entry) }
 {
     match held {
-        Some(held) => Ok(Some(Box::new(alloc, held.copy()?)?)),
+        Some(held) => Ok(Some(held.copy()?)),
         None => Ok(None),
     }
 }

@@ -136,6 +136,9 @@ impl Peers {
         let Some(outbox) = self.outboxes.get_mut(peer as usize) else {
             return Err(Fault::NoPeer);
         };
+        if let Some(fault) = outbox.drain_refusal(moment) {
+            return Err(fault);
+        }
         let room = Vec::with_capacity(alloc, 2)?;
         let batches = outbox.drain(alloc, moment, replies_for(logs))?;
         Ok(batched(batches, room))

@@ -1,10 +1,10 @@
 //! Override rows, and an eviction by given words, with what it leaves worked out by hand.
 use crate::tests::store::put_each;
-use crate::tests::twins::first_wrong_of_both;
+use crate::tests::twins::{Twin, plays_long};
 use eu_base::{Config, Fault, Id, Status};
 use eu_clock::ListChooser;
 use eu_eviction::{Overrides, run_eviction};
-use eu_fixtures::{Told, cut, first_wrong, moment, tell_done, tell_ids, with_long_ids};
+use eu_fixtures::{Told, cut, first_wrong, moment, tell_done, tell_ids};
 use eu_store::Leases;
 use std::alloc::Global;
 use std::test::Fail;
@@ -160,24 +160,17 @@ const PLAYED: &str = "
     row i3 = None
 ";
 
-/// The first wrong line of a table, of which one allocation may be refused.
-fn plays(alloc: Global, table: &str) -> Result<Option<usize>, Fault> {
-    let mut tried = Desk::begin(alloc, "i0")?;
-    let mut other = Desk::begin(alloc, "i0")?;
-    let wrong = first_wrong_of_both(alloc, &mut tried, &mut other, "shown", table);
-    drop((tried, other));
-    wrong
-}
+impl Twin for Desk {
+    fn fresh(alloc: Global) -> Result<Desk, Fault> {
+        Desk::begin(alloc, "i0")
+    }
 
-fn plays_long(alloc: Global) -> Result<Option<usize>, Fault> {
-    let table = with_long_ids(alloc, PLAYED)?;
-    match plays(alloc, table.as_str()) {
-        Err(Fault::OutOfMemory) => plays(alloc, table.as_str()),
-        wrong => wrong,
+    fn whole() -> &'static str {
+        "shown"
     }
 }
 
 #[test]
 fn memory_eviction(rt: HostRuntime) {
-    assert_eq!(rt; plays_long(rt.alloc()), Ok(None));
+    assert_eq!(rt; plays_long::<Desk>(rt.alloc(), PLAYED), Ok(None));
 }

@@ -1,8 +1,7 @@
 //! Want of memory in a registry.
 use crate::tests::desk::Desk;
-use crate::tests::twins::first_wrong_of_both;
+use crate::tests::twins::{Twin, plays_long, plays_twice};
 use eu_base::Fault;
-use eu_fixtures::with_long_ids;
 use std::alloc::Global;
 
 const PLAYED: &str = "
@@ -41,30 +40,18 @@ const PLAYED: &str = "
     reserve = done
 ";
 
-/// The first wrong line of a table of which both are told.
-fn plays(alloc: Global, table: &str) -> Result<Option<usize>, Fault> {
-    let mut tried = Desk::new(alloc)?;
-    let mut other = Desk::new(alloc)?;
-    let wrong = first_wrong_of_both(alloc, &mut tried, &mut other, "shown", table);
-    drop((tried, other));
-    wrong
-}
-
-/// The same, at the second try where there was no room for an answer.
-fn plays_twice(alloc: Global, table: &str) -> Result<Option<usize>, Fault> {
-    match plays(alloc, table) {
-        Err(Fault::OutOfMemory) => plays(alloc, table),
-        wrong => wrong,
+impl Twin for Desk {
+    fn fresh(alloc: Global) -> Result<Desk, Fault> {
+        Desk::new(alloc)
     }
-}
 
-fn plays_long(alloc: Global) -> Result<Option<usize>, Fault> {
-    let table = with_long_ids(alloc, PLAYED)?;
-    plays_twice(alloc, table.as_str())
+    fn whole() -> &'static str {
+        "shown"
+    }
 }
 
 #[test]
 fn memory_core(rt: HostRuntime) {
-    assert_eq!(rt; plays_twice(rt.alloc(), PLAYED), Ok(None));
-    assert_eq!(rt; plays_long(rt.alloc()), Ok(None));
+    assert_eq!(rt; plays_twice::<Desk>(rt.alloc(), PLAYED), Ok(None));
+    assert_eq!(rt; plays_long::<Desk>(rt.alloc(), PLAYED), Ok(None));
 }

@@ -1,8 +1,7 @@
 //! Want of memory in a table of leases.
 use crate::tests::store::Desk;
-use crate::tests::twins::first_wrong_of_both;
+use crate::tests::twins::{Twin, plays_long, plays_twice};
 use eu_base::Fault;
-use eu_fixtures::with_long_ids;
 use std::alloc::Global;
 
 const PLAYED: &str = "
@@ -39,30 +38,18 @@ const PLAYED: &str = "
     list A = 6 i0 UP 0 i1 UP 0 i3 DOWN 10005 i4 UP 0 i6 UP 0 i7 UP 0
 ";
 
-/// The first wrong line of a table of which both are told.
-fn plays(alloc: Global, table: &str) -> Result<Option<usize>, Fault> {
-    let mut tried = Desk::new(alloc);
-    let mut other = Desk::new(alloc);
-    let wrong = first_wrong_of_both(alloc, &mut tried, &mut other, "list", table);
-    drop((tried, other));
-    wrong
-}
-
-/// The same, at the second try where there was no room for an answer.
-fn plays_twice(alloc: Global, table: &str) -> Result<Option<usize>, Fault> {
-    match plays(alloc, table) {
-        Err(Fault::OutOfMemory) => plays(alloc, table),
-        wrong => wrong,
+impl Twin for Desk {
+    fn fresh(alloc: Global) -> Result<Desk, Fault> {
+        Ok(Desk::new(alloc))
     }
-}
 
-fn plays_long(alloc: Global) -> Result<Option<usize>, Fault> {
-    let table = with_long_ids(alloc, PLAYED)?;
-    plays_twice(alloc, table.as_str())
+    fn whole() -> &'static str {
+        "list"
+    }
 }
 
 #[test]
 fn memory_store(rt: HostRuntime) {
-    assert_eq!(rt; plays_twice(rt.alloc(), PLAYED), Ok(None));
-    assert_eq!(rt; plays_long(rt.alloc()), Ok(None));
+    assert_eq!(rt; plays_twice::<Desk>(rt.alloc(), PLAYED), Ok(None));
+    assert_eq!(rt; plays_long::<Desk>(rt.alloc(), PLAYED), Ok(None));
 }

@@ -1,6 +1,6 @@
 //! Want of memory. In a usual run no allocation is refused; `tools/sweep_memory.sh` refuses one after another.
 use eu_base::Fault;
-use eu_fixtures::{Told, content_of};
+use eu_fixtures::{Told, content_of, with_long_ids};
 use std::alloc::Global;
 
 /// An answer has so much room: then none is told without memory once the call was made.
@@ -78,7 +78,7 @@ fn comes<T: Told>(
 
 /// The number, from 1, of the first line of a table of which something else comes, of one or the other; or of the last, where both don't hold
 /// the same then, of which they are asked by that word. `OutOfMemory` where no line was refused memory.
-pub fn first_wrong_of_both<T: Told>(
+fn first_wrong_of_both<T: Told>(
     alloc: Global,
     tried: &mut T,
     other: &mut T,
@@ -97,4 +97,36 @@ pub fn first_wrong_of_both<T: Told>(
         return Ok(None);
     }
     Ok(Some(number))
+}
+
+/// What can be told a table twice: two of them are told it, each all of it.
+pub trait Twin: Told + Drop {
+    /// One that was told nothing yet.
+    fn fresh(alloc: Global) -> Result<Self, Fault>;
+
+    /// The word by which it tells all that it holds.
+    fn whole() -> &'static str;
+}
+
+/// The first wrong line of a table of which two are told.
+fn plays<T: Twin>(alloc: Global, table: &str) -> Result<Option<usize>, Fault> {
+    let mut tried = T::fresh(alloc)?;
+    let mut other = T::fresh(alloc)?;
+    let wrong = first_wrong_of_both(alloc, &mut tried, &mut other, T::whole(), table);
+    drop((tried, other));
+    wrong
+}
+
+/// The same, at the second try where there was no room for an answer.
+pub fn plays_twice<T: Twin>(alloc: Global, table: &str) -> Result<Option<usize>, Fault> {
+    match plays::<T>(alloc, table) {
+        Err(Fault::OutOfMemory) => plays::<T>(alloc, table),
+        wrong => wrong,
+    }
+}
+
+/// The same with ids that take memory.
+pub fn plays_long<T: Twin>(alloc: Global, table: &str) -> Result<Option<usize>, Fault> {
+    let table = with_long_ids(alloc, table)?;
+    plays_twice::<T>(alloc, table.as_str())
 }

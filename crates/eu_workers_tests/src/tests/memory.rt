@@ -43,7 +43,7 @@ impl<K: Label, R: Wait> Shown for Seat<'_, K, R> {
 }
 
 /// The same. None of it is refused memory.
-fn shown<D: Shown>(alloc: Global, desk: &D) -> Result<String, AllocError> {
+fn text_of<D: Shown>(alloc: Global, desk: &D) -> Result<String, AllocError> {
     pause_or_go_on(alloc);
     let shown = desk.shown(alloc);
     pause_or_go_on(alloc);
@@ -81,12 +81,12 @@ fn is_followed<D: Desk + Shown>(
     here: &mut D,
     there: &mut There,
 ) -> Result<Turn, Fault> {
-    let before = shown(alloc, here)?;
+    let before = text_of(alloc, here)?;
     let first = turn(alloc, here, there);
     if first != Err(Fault::OutOfMemory) {
         return first;
     }
-    let after = shown(alloc, here)?;
+    let after = text_of(alloc, here)?;
     let is_changed = before.as_str() != after.as_str();
     let next = turn(alloc, here, there)?;
     if is_changed != (next == Turn::Waiting) {

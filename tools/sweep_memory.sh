@@ -17,7 +17,7 @@ cd "$(dirname "${BASH_SOURCE[0]}")/.."
 # The crate, the test, the refusals that it meets at least.
 tests='
 eu_registry_tests store_memory::memory_store 620
-eu_registry_tests memory::memory_core 380
+eu_registry_tests memory::memory_core 430
 eu_registry_tests eviction::memory_eviction 135
 eu_value_tests memory::memory_outbox 4200
 eu_value_tests value_memory::memory_values 145
@@ -36,14 +36,14 @@ eu_session_tests memory::memory_http 400
 eu_session_tests memory::memory_requests 163
 eu_workers_tests memory::memory_turn 145
 eu_workers_tests memory::memory_seat_turn 360
-eu_script_tests memory::memory_script 162
-eu_script_tests memory::memory_bad_lines 1
-eu_script_tests memory::memory_run_audit 261
+eu_script_tests memory::memory_script 180
+eu_script_tests memory::memory_bad_lines 1400
+eu_script_tests memory::memory_run_audit 350
 eu_script_tests memory::memory_journal 1800
 eu_journal_tests memory::memory_journal_audit 640
 eu_journal_tests memory::memory_bad_lines 1200
 eu_audit_tests memory::a_refused_allocation_is_no_verdict 337
-eu_audit_tests memory::memory_no_run 1
+eu_audit_tests memory::memory_no_run 1450
 eu_program_tests options::memory_options 160
 '
 

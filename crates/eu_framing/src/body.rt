@@ -1,7 +1,8 @@
 //! The body of a request.
-ghost use Rattle.std.specs.Prelude.{◌≡◌, ◌≢◌, ◌≤◌, ◌++◌, List, ℕ, IfOk, IfErr, OnOk, drop, vec_len};
+ghost use Rattle.std.specs.Prelude.{◌≡◌, ◌≢◌, ◌≤◌, ◌++◌, List, ℕ, IfOk, IfErr, OnOk, OnErr, drop, vec_len};
+ghost use Rattle.std.specs.Io.KnownBytes.{Keeps};
 ghost use Rattle.eu_framing.specs.Fields.{IsWithin};
-ghost use Rattle.eu_framing.specs.Message.{ReadsSized, BreaksSized, ReadsBody, BreaksBody, max_head};
+ghost use Rattle.eu_framing.specs.Message.{ReadsSized, BreaksSized, ReadsBody, BreaksBody, max_head, pending};
 ghost use Rattle.eu_framing.specs.Reading.{Grows, Blames};
 
 use crate::MAX_BODY;
@@ -30,6 +31,7 @@ fn read_sized<R: Source>(
     ensures body { IfOk result (λ r. (more : List ℕ) → ReadsSized len (drop start (buffer.new.items ++ more)) r.0.items (drop r.1 buffer.new.items ++ more)) }
     ensures inside { IfOk result (λ r. r.1 ≤ vec_len buffer.new) }
     ensures fault { IfErr result (λ fault. Blames (R.failed reader.new) (R.remaining reader.old) buffer.old.items (R.remaining reader.new) buffer.new.items fault (λ bytes f. BreaksSized len (drop start bytes) f)) }
+    ensures kept { OnErr result (Keeps (pending buffer.old.items (R.remaining reader.old)) (pending buffer.new.items (R.remaining reader.new))) }
     ensures told { IfErr result (λ fault. fault ≢ Fault.Read → R.failed reader.new ≡ R.failed reader.old) }
     ensures same_stream { R.stream reader.new ≡ R.stream reader.old }
 {
@@ -58,6 +60,7 @@ pub fn read_body<R: Source>(
     ensures body { IfOk result (λ r. (more : List ℕ) → ReadsBody framing (drop start (buffer.new.items ++ more)) r.0.items (drop r.1 buffer.new.items ++ more)) }
     ensures inside { IfOk result (λ r. r.1 ≤ vec_len buffer.new) }
     ensures fault { IfErr result (λ fault. Blames (R.failed reader.new) (R.remaining reader.old) buffer.old.items (R.remaining reader.new) buffer.new.items fault (λ bytes f. BreaksBody framing (drop start bytes) f)) }
+    ensures kept { OnErr result (Keeps (pending buffer.old.items (R.remaining reader.old)) (pending buffer.new.items (R.remaining reader.new))) }
     ensures told { IfErr result (λ fault. fault ≢ Fault.Read → R.failed reader.new ≡ R.failed reader.old) }
     ensures same_stream { R.stream reader.new ≡ R.stream reader.old }
 {

@@ -1,6 +1,7 @@
 //! The buffer between a reader and what is made of its bytes.
-ghost use Rattle.std.specs.Prelude.{◌≡◌, ◌≢◌, ◌≤◌, ◌<◌, ◌+◌, ℕ, List, Ok, true, false, length, drop, take, IfOk, IfErr, OnOk, vec_len};
-ghost use Rattle.std.specs.Io.KnownBytes.{IsAtEnd};
+ghost use Rattle.std.specs.Prelude.{◌≡◌, ◌≢◌, ◌≤◌, ◌<◌, ◌+◌, ℕ, List, Ok, true, false, length, drop, take, IfOk, IfErr, OnOk, OnErr, vec_len};
+ghost use Rattle.std.specs.Io.KnownBytes.{IsAtEnd, Keeps};
+ghost use Rattle.eu_framing.specs.Message.{pending};
 ghost use Rattle.eu_framing.specs.Reading.{Grows, Fails};
 
 use crate::MAX_FIELDS;
@@ -28,7 +29,8 @@ pub const EMPTY_ROOM: Room = Room {
 
 /// Reads once, to the end of the buffer, and tells how many bytes came: none only at the end.
 ///
-/// `Read` comes where a read failed, and `OutOfMemory` where there was no memory for what came.
+/// `Read` comes where a read failed, and `OutOfMemory` where there was no memory for what might come: then nothing was read. After a
+/// fault no byte is lost.
 pub fn fill<R: Source>(
     reader: &mut R,
     buffer: &mut Vec<u8>,
@@ -38,12 +40,14 @@ pub fn fill<R: Source>(
     ensures count { IfOk result (λ n. vec_len buffer.new ≡ vec_len buffer.old + n) }
     ensures end { IfOk result (λ n. n ≡ 0 → IsAtEnd (R.remaining reader.new)) }
     ensures fault { IfErr result (λ fault. Fails (R.failed reader.new) (R.remaining reader.old) buffer.old.items (R.remaining reader.new) buffer.new.items fault (λ bytes. bytes ≡ buffer.old.items)) }
+    ensures kept { OnErr result (Keeps (pending buffer.old.items (R.remaining reader.old)) (pending buffer.new.items (R.remaining reader.new))) }
     ensures told { IfErr result (λ fault. fault ≢ Fault.Read → R.failed reader.new ≡ R.failed reader.old) }
     ensures same_stream { R.stream reader.new ≡ R.stream reader.old }
 {
+    buffer.reserve(piece.len())?;
     match reader.read_some(piece) {
         Ok(count) => {
-            buffer.extend_from_slice(&piece[..count])?;
+            buffer.extend_from_slice(&piece[..count]).unwrap();
             Ok(count)
         }
         Err(_) => Err(Fault::Read),
@@ -52,7 +56,7 @@ pub fn fill<R: Source>(
 
 /// Reads until the buffer holds so many bytes, and tells whether they came before the end.
 ///
-/// The faults are those of `fill`.
+/// The faults are those of `fill`. After a fault no byte is lost.
 pub fn fill_to<R: Source>(
     reader: &mut R,
     buffer: &mut Vec<u8>,
@@ -64,6 +68,7 @@ pub fn fill_to<R: Source>(
     ensures cut { result ≡ Ok false → vec_len buffer.new < wanted }
     ensures end { result ≡ Ok false → IsAtEnd (R.remaining reader.new) }
     ensures fault { IfErr result (λ fault. Fails (R.failed reader.new) (R.remaining reader.old) buffer.old.items (R.remaining reader.new) buffer.new.items fault (λ bytes. length bytes < wanted)) }
+    ensures kept { OnErr result (Keeps (pending buffer.old.items (R.remaining reader.old)) (pending buffer.new.items (R.remaining reader.new))) }
     ensures told { IfErr result (λ fault. fault ≢ Fault.Read → R.failed reader.new ≡ R.failed reader.old) }
     ensures same_stream { R.stream reader.new ≡ R.stream reader.old }
 {

@@ -1,10 +1,11 @@
 //! A chunked body.
-ghost use Rattle.std.specs.Prelude.{◌≡◌, ◌≢◌, ◌≤◌, ◌<◌, ◌+◌, ◌-◌, ◌++◌, [], List, ℕ, IfOk, IfErr, IfSome, OnOk, drop, length, take, vec_len, bytes_eq};
+ghost use Rattle.std.specs.Prelude.{◌≡◌, ◌≢◌, ◌≤◌, ◌<◌, ◌+◌, ◌-◌, ◌++◌, [], List, ℕ, IfOk, IfErr, IfSome, OnOk, OnErr, drop, length, take, vec_len, bytes_eq};
 ghost use Rattle.std.specs.Option.{MatchOption};
 ghost use Rattle.httparse.specs.Ascii.{crlf_bytes};
 ghost use Rattle.httparse.specs.Grammar.{HasNoChunkLine, MayBecomeChunkLine};
+ghost use Rattle.std.specs.Io.KnownBytes.{Keeps};
 ghost use Rattle.eu_framing.specs.Chunks.{IsLineFault, IsDataFault, BreaksChunks, ReadsChunked, BreaksChunked};
-ghost use Rattle.eu_framing.specs.Message.{max_head};
+ghost use Rattle.eu_framing.specs.Message.{max_head, pending};
 ghost use Rattle.eu_framing.specs.Reading.{Grows, Blames};
 ghost use Rattle.eu_framing.specs.Scanning.{LineEndsAfter};
 ghost use Rattle.eu_framing.specs.Steps.{FindsLine};
@@ -106,6 +107,7 @@ fn find_line<R: Source>(
     ensures inside { IfOk result (λ found. start + found.0 ≤ vec_len buffer.new) }
     ensures fits { IfOk result (λ found. found.0 ≤ room) }
     ensures fault { IfErr result (λ fault. Blames (R.failed reader.new) (R.remaining reader.old) buffer.old.items (R.remaining reader.new) buffer.new.items fault (λ bytes f. IsLineFault room (drop start bytes) f)) }
+    ensures kept { OnErr result (Keeps (pending buffer.old.items (R.remaining reader.old)) (pending buffer.new.items (R.remaining reader.new))) }
     ensures told { IfErr result (λ fault. fault ≢ Fault.Read → R.failed reader.new ≡ R.failed reader.old) }
     ensures same_stream { R.stream reader.new ≡ R.stream reader.old }
 {
@@ -148,6 +150,7 @@ fn await_end<R: Source>(
     requires short { size ≤ MAX_BODY }
     ensures grows { OnOk result (Grows (R.remaining reader.old) (R.failed reader.old) buffer.old.items (R.remaining reader.new) (R.failed reader.new) buffer.new.items) }
     ensures fault { IfErr result (λ fault. Blames (R.failed reader.new) (R.remaining reader.old) buffer.old.items (R.remaining reader.new) buffer.new.items fault (λ bytes f. IsDataFault room size (drop start bytes) f)) }
+    ensures kept { OnErr result (Keeps (pending buffer.old.items (R.remaining reader.old)) (pending buffer.new.items (R.remaining reader.new))) }
     ensures told { IfErr result (λ fault. fault ≢ Fault.Read → R.failed reader.new ≡ R.failed reader.old) }
     ensures same_stream { R.stream reader.new ≡ R.stream reader.old }
 {
@@ -180,6 +183,7 @@ fn take_data<R: Source>(
     ensures inside { OnOk result (start + size + 2 ≤ vec_len buffer.new) }
     ensures fits { OnOk result (size + 2 ≤ room) }
     ensures fault { IfErr result (λ fault. Blames (R.failed reader.new) (R.remaining reader.old) buffer.old.items (R.remaining reader.new) buffer.new.items fault (λ bytes f. IsDataFault room size (drop start bytes) f)) }
+    ensures kept { OnErr result (Keeps (pending buffer.old.items (R.remaining reader.old)) (pending buffer.new.items (R.remaining reader.new))) }
     ensures told { IfErr result (λ fault. fault ≢ Fault.Read → R.failed reader.new ≡ R.failed reader.old) }
     ensures same_stream { R.stream reader.new ≡ R.stream reader.old }
 {
@@ -215,6 +219,7 @@ fn take_chunk<R: Source>(
     ensures grows { OnOk result (Grows (R.remaining reader.old) (R.failed reader.old) buffer.old.items (R.remaining reader.new) (R.failed reader.new) buffer.new.items) }
     ensures step { IfOk result (TakesStep start room buffer.new.items body.old.items body.new.items) }
     ensures fault { IfErr result (λ fault. Blames (R.failed reader.new) (R.remaining reader.old) buffer.old.items (R.remaining reader.new) buffer.new.items fault (λ bytes f. BreaksChunks room (length body.old.items) (drop start bytes) f)) }
+    ensures kept { OnErr result (Keeps (pending buffer.old.items (R.remaining reader.old)) (pending buffer.new.items (R.remaining reader.new))) }
     ensures told { IfErr result (λ fault. fault ≢ Fault.Read → R.failed reader.new ≡ R.failed reader.old) }
     ensures same_stream { R.stream reader.new ≡ R.stream reader.old }
 {
@@ -246,6 +251,7 @@ fn take_chunks<R: Source>(
     ensures grows { OnOk result (Grows (R.remaining reader.old) (R.failed reader.old) buffer.old.items (R.remaining reader.new) (R.failed reader.new) buffer.new.items) }
     ensures chunks { IfOk result (λ r. TakesChunks start r.0 r.1 buffer.new.items body.new.items) }
     ensures fault { IfErr result (λ fault. Blames (R.failed reader.new) (R.remaining reader.old) buffer.old.items (R.remaining reader.new) buffer.new.items fault (λ bytes f. BreaksChunked (drop start bytes) f)) }
+    ensures kept { OnErr result (Keeps (pending buffer.old.items (R.remaining reader.old)) (pending buffer.new.items (R.remaining reader.new))) }
     ensures told { IfErr result (λ fault. fault ≢ Fault.Read → R.failed reader.new ≡ R.failed reader.old) }
     ensures same_stream { R.stream reader.new ≡ R.stream reader.old }
 {
@@ -274,6 +280,7 @@ pub fn read_chunked<R: Source>(
     ensures body { IfOk result (λ r. (more : List ℕ) → ReadsChunked (drop start (buffer.new.items ++ more)) r.0.items (drop r.1 buffer.new.items ++ more)) }
     ensures inside { IfOk result (λ r. r.1 ≤ vec_len buffer.new) }
     ensures fault { IfErr result (λ fault. Blames (R.failed reader.new) (R.remaining reader.old) buffer.old.items (R.remaining reader.new) buffer.new.items fault (λ bytes f. BreaksChunked (drop start bytes) f)) }
+    ensures kept { OnErr result (Keeps (pending buffer.old.items (R.remaining reader.old)) (pending buffer.new.items (R.remaining reader.new))) }
     ensures told { IfErr result (λ fault. fault ≢ Fault.Read → R.failed reader.new ≡ R.failed reader.old) }
     ensures same_stream { R.stream reader.new ≡ R.stream reader.old }
 {

@@ -1,9 +1,9 @@
 //! The head of a request.
-ghost use Rattle.std.specs.Prelude.{◌≡◌, ◌≢◌, ◌⊎◌, ◌≤◌, ◌<◌, ◌++◌, false, List, ℕ, length, take, IfOk, IfErr, IfSome, OnOk, vec_len};
+ghost use Rattle.std.specs.Prelude.{◌≡◌, ◌≢◌, ◌⊎◌, ◌≤◌, ◌<◌, ◌++◌, false, List, ℕ, length, take, IfOk, IfErr, IfSome, OnOk, OnErr, vec_len};
 ghost use Rattle.std.specs.Option.{MatchOption};
-ghost use Rattle.std.specs.Io.KnownBytes.{IsAtEnd};
+ghost use Rattle.std.specs.Io.KnownBytes.{IsAtEnd, Keeps};
 ghost use Rattle.httparse.specs.Grammar.{HasNoRequest};
-ghost use Rattle.eu_framing.specs.Message.{max_head, max_fields, IsEnd, IsHeadFault};
+ghost use Rattle.eu_framing.specs.Message.{max_head, max_fields, IsEnd, IsHeadFault, pending};
 ghost use Rattle.eu_framing.specs.Reading.{Grows, Blames};
 ghost use Rattle.eu_framing.specs.Scanning.{IsAt, HeadEndsAfter};
 ghost use Rattle.eu_framing.specs.Steps.{HasHeadAt, blank_lines};
@@ -124,6 +124,7 @@ pub fn find_head<R: Source>(
     ensures head { IfOk result (λ found. IfSome found (HasHeadAt buffer.new.items spans.new)) }
     ensures end { IfOk result (λ found. MatchOption found (IsEnd buffer.new.items × IsAtEnd (R.remaining reader.new)) (λ _. Unit {0})) }
     ensures fault { IfErr result (λ fault. Blames (R.failed reader.new) (R.remaining reader.old) buffer.old.items (R.remaining reader.new) buffer.new.items fault IsHeadFault) }
+    ensures kept { OnErr result (Keeps (pending buffer.old.items (R.remaining reader.old)) (pending buffer.new.items (R.remaining reader.new))) }
     ensures told { IfErr result (λ fault. fault ≢ Fault.Read → R.failed reader.new ≡ R.failed reader.old) }
     ensures same_stream { R.stream reader.new ≡ R.stream reader.old }
 {

@@ -1,7 +1,7 @@
 //! The next request of a stream.
-ghost use Rattle.std.specs.Prelude.{◌≡◌, ◌≢◌, ◌⊎◌, ◌≤◌, ◌++◌, List, ℕ, IsUtf8, IfOk, IfErr, IfSome, OnOk, drop, string_bytes, take, vec_len};
+ghost use Rattle.std.specs.Prelude.{◌≡◌, ◌≢◌, ◌⊎◌, ◌≤◌, ◌++◌, List, ℕ, IsUtf8, IfOk, IfErr, IfSome, OnOk, OnErr, drop, string_bytes, take, vec_len};
 ghost use Rattle.std.specs.Option.{MatchOption};
-ghost use Rattle.std.specs.Io.KnownBytes.{IsAtEnd};
+ghost use Rattle.std.specs.Io.KnownBytes.{IsAtEnd, Keeps};
 ghost use Rattle.httparse.specs.Spans.{IsRequestWithin, IsRequestOf};
 ghost use Rattle.eu_framing.specs.Fields.{IsWithin};
 ghost use Rattle.eu_framing.specs.Message.{IsFault, max_head, FindsNext, Interrupts, path_of, query_of, pending, Between, OfBytes};
@@ -109,6 +109,7 @@ fn next_head<R: Source>(
     ensures end { IfOk result (λ found. MatchOption found (IsAtEnd (R.remaining reader.new)) (λ _. Unit {0})) }
     ensures within { IfOk result (λ found. IfSome found (λ head. IsWithin head.framing)) }
     ensures fault { IfErr result (λ fault. Blames (R.failed reader.new) (R.remaining reader.old) buffer.old.items (R.remaining reader.new) buffer.new.items fault IsFault) }
+    ensures kept { OnErr result (Keeps (pending buffer.old.items (R.remaining reader.old)) (pending buffer.new.items (R.remaining reader.new))) }
     ensures told { IfErr result (λ fault. fault ≢ Fault.Read → R.failed reader.new ≡ R.failed reader.old) }
     ensures same_stream { R.stream reader.new ≡ R.stream reader.old }
 {
@@ -143,8 +144,8 @@ fn next_head<R: Source>(
 ///   `MAX_TRAILER` bytes or has more than `MAX_FIELDS` fields, or the bytes end inside a chunked body.
 /// - `OutOfMemory`: there was no memory. `Read`: a read failed.
 ///
-/// Of `Read` no byte is lost: the buffer has what came before the failed read and isn't used, and that begins with no whole request.
-/// After any other fault the reader and the buffer are left open.
+/// After a fault no byte is lost: the buffer has what it had, with what was read behind it. After `Read` that begins with no whole
+/// request.
 pub fn read_request<R: Source>(
     alloc: Global,
     reader: &mut R,
@@ -153,6 +154,7 @@ pub fn read_request<R: Source>(
 ) -> Result<Option<Request>, Fault>
     ensures found { IfOk result (λ next. Between (pending buffer.old.items (R.remaining reader.old)) (pending buffer.new.items (R.remaining reader.new)) (FindsNext next)) }
     ensures fault { IfErr result (λ fault. Interrupts (R.failed reader.new) (pending buffer.old.items (R.remaining reader.old)) (pending buffer.new.items (R.remaining reader.new)) buffer.new.items fault ⊎ OfBytes (pending buffer.old.items (R.remaining reader.old)) (λ bytes. IsFault bytes fault)) }
+    ensures kept { OnErr result (Keeps (pending buffer.old.items (R.remaining reader.old)) (pending buffer.new.items (R.remaining reader.new))) }
     ensures sound { OnOk result (R.failed reader.new ≡ R.failed reader.old) }
     ensures told { IfErr result (λ fault. fault ≢ Fault.Read → R.failed reader.new ≡ R.failed reader.old) }
     ensures same_stream { R.stream reader.new ≡ R.stream reader.old }

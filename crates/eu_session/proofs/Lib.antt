@@ -3,4 +3,5 @@ mod FaultLemmas
 pub mod KeepLemmas
 mod ListingLemmas
 mod SessionLemmas
+mod TalkLemmas
 mod TurnLemmas

@@ -1,35 +1,31 @@
--- A session, one request after another.
-use Rattle.std.proofs.Common.{◌≡◌, ◌⊎◌, ⊎_elim, inl, inr, ℕ, ◌+◌, ◌<◌, ◌≤◌, Bool, true, false, ◌||◌, eqb, List, [], ◌∷◌, ◌++◌, flat_map, Option, Some, None, Result, Ok, Err, refl, sym, subst, ap, ◌∙◌, append-nil, length-append, arith}
-use Rattle.std.proofs.KnownBytes.{Appends-trans, Keeps-refl}
+-- What ends a session, by what its parts did.
+use Rattle.std.proofs.Common.{◌≡◌, ◌⊎◌, ⊎_elim, inl, inr, ℕ, ◌+◌, ◌<◌, ◌≤◌, Bool, true, false, ◌||◌, eqb, List, Option, Some, None, Result, Err, refl, sym, arith}
 use Rattle.std.proofs.lemmas.Bool.{false≢true, cases_lt}
-use Rattle.std.proofs.lemmas.List.Concat.{flat_map-append}
-use Rattle.std.specs.Io.KnownBytes.{Appends, Keeps}
+use Rattle.std.specs.Io.KnownBytes.{Keeps}
 use Rattle.eu_base.specs.declared.faults.Fault.{Fault}
 use Rattle.eu_base.specs.declared.faults.Fault.TheVariants as faults
 use Rattle.eu_framing.specs.declared.request.Request.{Request}
-use Rattle.eu_framing.specs.Message.{IsCut, FindsNext, Interrupts, pending, Between}
+use Rattle.eu_framing.specs.Message.{IsCut, FindsNext, Interrupts, Between}
 use Rattle.eu_model.specs.declared.asks.Answer.{Answer}
 use Rattle.eu_model.specs.declared.asks.Ask.{Ask}
-use Rattle.eu_http.specs.Response.{response}
 use Rattle.eu_session.specs.declared.faults.SessionFault.{SessionFault}
 use Rattle.eu_session.specs.declared.faults.SessionFault.TheVariants.{Read, Write, OutOfMemory}
-use Rattle.eu_session.specs.Session.{Turn, text_of, refusal, is_last, Standing, Breaks, Step, IsOpen, GoesOn, DidNothing, FailsClean, Ends, Session}
+use Rattle.eu_session.specs.Session.{is_last, Breaks, Step, DidNothing, FailsClean, Ends}
 use Rattle.eu_session.specs.Steps.{IsInside, Comes, Idles, AnswersTo, RefusesBy}
-use Rattle.eu_model.proofs.ChainLemmas.{chain_push, all_push}
 use Rattle.eu_session.proofs.FaultLemmas.{fault_differs, by_number}
 
-neither : (a b : Bool) → (a || b) ≡ false → (a ≡ false) × (b ≡ false)
+pub neither : (a b : Bool) → (a || b) ≡ false → (a ≡ false) × (b ≡ false)
 neither true b e = absurd (false≢true (sym e))
 neither false b e = (refl, e)
 
-before_last : (n : ℕ) → eqb n 99 ≡ false → n < 100 → n + 1 < 100
+pub before_last : (n : ℕ) → eqb n 99 ≡ false → n < 100 → n + 1 < 100
 before_last n e few = ⊎_elim (λ (h : n < 99). omega arith) (λ (h : 99 ≤ n). let is : n ≡ 99 = omega arith in absurd (false≢true (sym (rw is at e)))) (cases_lt n 99)
 
 -- the fault that was met in place of a request
-abbrev Met : Bool → Option (List ℕ) → Option (List ℕ) → List ℕ → Fault → Type 0
+abbrev pub Met : Bool → Option (List ℕ) → Option (List ℕ) → List ℕ → Fault → Type 0
 Met failed left left' ahead fault = Interrupts failed left left' ahead fault ⊎ Breaks left fault
 
-inside_breaks : (failed : Bool) (left left' : Option (List ℕ)) (ahead : List ℕ) (fault : Fault) → Met failed left left' ahead fault → IsInside fault → Breaks left fault
+pub inside_breaks : (failed : Bool) (left left' : Option (List ℕ)) (ahead : List ℕ) (fault : Fault) → Met failed left left' ahead fault → IsInside fault → Breaks left fault
 inside_breaks failed left left' ahead fault (inl (inl memory)) inside = absurd (inside.0 memory)
 inside_breaks failed left left' ahead fault (inl (inr read)) inside = absurd (inside.1 read.0)
 inside_breaks failed left left' ahead fault (inr breaks) inside = breaks
@@ -48,95 +44,18 @@ read_cut failed left left' ahead fault (inl (inl memory)) e = absurd (by_number 
 read_cut failed left left' ahead fault (inl (inr read)) e = (read.2, read.3)
 read_cut failed left left' ahead fault (inr breaks) e = absurd (no_bytes left fault breaks e)
 
-refused_unread : (failed : Bool) (left left' : Option (List ℕ)) (ahead : List ℕ) (fault : Fault) (held held' : Option (List ℕ)) (failed_writer : Bool) (e : SessionFault)
+pub refused_unread : (failed : Bool) (left left' : Option (List ℕ)) (ahead : List ℕ) (fault : Fault) (held held' : Option (List ℕ)) (failed_writer : Bool) (e : SessionFault)
     → Met failed left left' ahead fault → RefusesBy fault held held' failed_writer (Err e) → FailsClean left left' ahead (Err e)
 refused_unread failed left left' ahead fault held held' failed_writer Read met x = read_cut failed left left' ahead fault met x.0
 refused_unread failed left left' ahead fault held held' failed_writer Write met x = tt
 refused_unread failed left left' ahead fault held held' failed_writer OutOfMemory met x = tt
 
-texts_more : (ts : List Turn) (t : Turn) → flat_map text_of ts ++ text_of t ≡ flat_map text_of (ts ++ t ∷ [])
-texts_more ts t = sym (flat_map-append text_of ts (t ∷ []) ∙ ap (λ (x : List ℕ). flat_map text_of ts ++ x) (append-nil (text_of t)))
-
 module _ {D C : Type 0} (asked : D → Ask → ℕ → Result Answer Fault → D → Type 0) (tells : C → ℕ → C → Type 0) where
-  step_of : (l l' : Option (List ℕ)) (request : Request) (close : Bool) (desk desk' : D) (clock clock' : C) (c : Comes asked tells request desk clock desk' clock') → Between l l' (FindsNext (Some request))
+  pub step_of : (l l' : Option (List ℕ)) (request : Request) (close : Bool) (desk desk' : D) (clock clock' : C) (c : Comes asked tells request desk clock desk' clock') → Between l l' (FindsNext (Some request))
       → Step asked tells (record { left = l; desk = desk; clock = clock }) (record { request = request; moment = c.moment; outcome = c.outcome; close = close }) (record { left = l'; desk = desk'; clock = clock' })
   step_of l l' request close desk desk' clock clock' c reads = record { reads = reads; told = c.told; comes = c.comes }
 
-  pub goes_more : (old : Standing D C) (l l' : Option (List ℕ)) (request : Request) (close : Bool) (desk desk' : D) (clock clock' : C) (before held held' : Option (List ℕ)) (n : ℕ)
-      → GoesOn asked tells n old (record { left = l; desk = desk; clock = clock }) before held → Between l l' (FindsNext (Some request))
-      → (c : Comes asked tells request desk clock desk' clock') × Appends held held' (response c.outcome close) → close ≡ is_last n request → close ≡ false
-      → GoesOn asked tells (n + 1) old (record { left = l'; desk = desk'; clock = clock' }) before held'
-  goes_more old l l' request close desk desk' clock clock' before held held' n g reads x is open_ =
-      let t : Turn = record { request = request; moment = x.0.moment; outcome = x.0.outcome; close = close } in
-      let none = neither request.closes (eqb n 99) (sym is ∙ open_) in
-      record {
-        turns = g.turns ++ t ∷ [];
-        chain = chain_push (Step asked tells) old g.turns _ t _ g.chain (step_of l l' request close desk desk' clock clock' x.0 reads);
-        count = omega (arith, length-append g.turns (t ∷ []), g.count);
-        few = before_last n none.1 g.few;
-        each = all_push IsOpen g.turns t g.each (record { request = none.0; response = open_ });
-        written = subst (Appends before held') (texts_more g.turns t) (Appends-trans before held held' _ _ g.written x.1);
-      }
-
-  pub session_ended : (old : Standing D C) (l rest : Option (List ℕ)) (buffer : List ℕ) (desk : D) (clock : C) (before held : Option (List ℕ)) (n : ℕ) (failed_reader failed_writer : Bool)
-      → GoesOn asked tells n old (record { left = l; desk = desk; clock = clock }) before held → Between l (pending buffer rest) (FindsNext None)
-      → Session asked tells old (record { left = rest; desk = desk; clock = clock }) (record { before = before; after = held; reader_failed = failed_reader; writer_failed = failed_writer }) (Ok n)
-  session_ended old l rest buffer desk clock before held n failed_reader failed_writer g ends = record {
-    n = n;
-    last = record { left = l; desk = desk; clock = clock };
-    held = held;
-    goes_on = g;
-    ahead = buffer;
-    unread = tt;
-    ends = inl (refl, record { ends = ends; untouched = record { desk_is = refl; clock_is = refl }; written = Keeps-refl held });
-  }
-
-  pub session_closed : (old : Standing D C) (l rest : Option (List ℕ)) (buffer : List ℕ) (request : Request) (close : Bool) (desk desk' : D) (clock clock' : C) (before held held' : Option (List ℕ)) (n : ℕ) (failed_reader failed_writer : Bool)
-      → GoesOn asked tells n old (record { left = l; desk = desk; clock = clock }) before held → Between l (pending buffer rest) (FindsNext (Some request))
-      → (c : Comes asked tells request desk clock desk' clock') × Appends held held' (response c.outcome close) → close ≡ is_last n request → close ≡ true
-      → Session asked tells old (record { left = rest; desk = desk'; clock = clock' }) (record { before = before; after = held'; reader_failed = failed_reader; writer_failed = failed_writer }) (Ok (n + 1))
-  session_closed old l rest buffer request close desk desk' clock clock' before held held' n failed_reader failed_writer g reads x is closed =
-      record {
-        n = n;
-        last = record { left = l; desk = desk; clock = clock };
-        held = held;
-        goes_on = g;
-        ahead = buffer;
-        unread = tt;
-        ends = inr (
-          refl,
-          inl (record {
-            turn = record { request = request; moment = x.0.moment; outcome = x.0.outcome; close = close };
-            step = step_of l (pending buffer rest) request close desk desk' clock clock' x.0 reads;
-            last = sym is ∙ closed;
-            close = closed;
-            written = x.1;
-          }),
-        );
-      }
-
-  pub session_refused : (old : Standing D C) (l rest : Option (List ℕ)) (buffer : List ℕ) (fault : Fault) (desk : D) (clock : C) (before held held' : Option (List ℕ)) (n : ℕ) (failed_reader failed_writer : Bool)
-      → GoesOn asked tells n old (record { left = l; desk = desk; clock = clock }) before held → Met failed_reader l (pending buffer rest) buffer fault → IsInside fault × Appends held held' (refusal fault)
-      → Session asked tells old (record { left = rest; desk = desk; clock = clock }) (record { before = before; after = held'; reader_failed = failed_reader; writer_failed = failed_writer }) (Ok (n + 1))
-  session_refused old l rest buffer fault desk clock before held held' n failed_reader failed_writer g met x = record {
-    n = n;
-    last = record { left = l; desk = desk; clock = clock };
-    held = held;
-    goes_on = g;
-    ahead = buffer;
-    unread = tt;
-    ends = inr (
-      refl,
-      inr (record {
-        fault = fault;
-        breaks = inside_breaks failed_reader l (pending buffer rest) buffer fault met x.0;
-        untouched = record { desk_is = refl; clock_is = refl };
-        written = x.1;
-      }),
-    );
-  }
-
-  answered_unread : (l l' : Option (List ℕ)) (ahead : List ℕ) (request : Request) (close : Bool) (desk desk' : D) (clock clock' : C) (held held' : Option (List ℕ)) (failed_writer : Bool) (e : SessionFault)
+  pub answered_unread : (l l' : Option (List ℕ)) (ahead : List ℕ) (request : Request) (close : Bool) (desk desk' : D) (clock clock' : C) (held held' : Option (List ℕ)) (failed_writer : Bool) (e : SessionFault)
       → AnswersTo asked tells request close desk clock held desk' clock' held' failed_writer (Err e) → FailsClean l l' ahead (Err e)
   answered_unread l l' ahead request close desk desk' clock clock' held held' failed_writer Read x = absurd x
   answered_unread l l' ahead request close desk desk' clock clock' held held' failed_writer Write x = tt
@@ -149,7 +68,7 @@ module _ {D C : Type 0} (asked : D → Ask → ℕ → Result Answer Fault → D
   idle l l' request close desk desk' clock clock' reads (inr x) =
       inr (inr (record { request = request; moment = x.0.moment; outcome = x.0.outcome; close = close }, step_of l l' request close desk desk' clock clock' x.0 reads, x.1))
 
-  ends_answering : (l l' : Option (List ℕ)) (request : Request) (close : Bool) (desk desk' : D) (clock clock' : C) (held held' : Option (List ℕ)) (n : ℕ) (failed_reader failed_writer : Bool) (e : SessionFault)
+  pub ends_answering : (l l' : Option (List ℕ)) (request : Request) (close : Bool) (desk desk' : D) (clock clock' : C) (held held' : Option (List ℕ)) (n : ℕ) (failed_reader failed_writer : Bool) (e : SessionFault)
       → Between l l' (FindsNext (Some request)) → AnswersTo asked tells request close desk clock held desk' clock' held' failed_writer (Err e) → close ≡ is_last n request
       → Ends asked tells n (record { left = l; desk = desk; clock = clock }) (record { left = l'; desk = desk'; clock = clock' }) (record { before = held; after = held'; reader_failed = failed_reader; writer_failed = failed_writer }) (Err e)
   ends_answering l l' request close desk desk' clock clock' held held' n failed_reader failed_writer Read reads x is = absurd x
@@ -170,21 +89,7 @@ module _ {D C : Type 0} (asked : D → Ask → ℕ → Result Answer Fault → D
   ends_answering l l' request close desk desk' clock clock' held held' n failed_reader failed_writer OutOfMemory reads (inr x) is =
       inr (x.0, (record { request = request; moment = x.1.0.moment; outcome = x.1.0.outcome; close = close }, step_of l l' request close desk desk' clock clock' x.1.0 reads, x.1.1))
 
-  pub session_lost : (old : Standing D C) (l rest : Option (List ℕ)) (buffer : List ℕ) (request : Request) (close : Bool) (desk desk' : D) (clock clock' : C) (before held held' : Option (List ℕ)) (n : ℕ) (failed_reader failed_writer : Bool) (e : SessionFault)
-      → GoesOn asked tells n old (record { left = l; desk = desk; clock = clock }) before held → Between l (pending buffer rest) (FindsNext (Some request))
-      → AnswersTo asked tells request close desk clock held desk' clock' held' failed_writer (Err e) → close ≡ is_last n request
-      → Session asked tells old (record { left = rest; desk = desk'; clock = clock' }) (record { before = before; after = held'; reader_failed = failed_reader; writer_failed = failed_writer }) (Err e)
-  session_lost old l rest buffer request close desk desk' clock clock' before held held' n failed_reader failed_writer e g reads x is = record {
-    n = n;
-    last = record { left = l; desk = desk; clock = clock };
-    held = held;
-    goes_on = g;
-    ahead = buffer;
-    unread = answered_unread l (pending buffer rest) buffer request close desk desk' clock clock' held held' failed_writer e x;
-    ends = ends_answering l (pending buffer rest) request close desk desk' clock clock' held held' n failed_reader failed_writer e reads x is;
-  }
-
-  ends_refusing : (l l' : Option (List ℕ)) (ahead : List ℕ) (fault : Fault) (desk : D) (clock : C) (held held' : Option (List ℕ)) (n : ℕ) (failed_reader failed_writer : Bool) (e : SessionFault)
+  pub ends_refusing : (l l' : Option (List ℕ)) (ahead : List ℕ) (fault : Fault) (desk : D) (clock : C) (held held' : Option (List ℕ)) (n : ℕ) (failed_reader failed_writer : Bool) (e : SessionFault)
       → Met failed_reader l l' ahead fault → RefusesBy fault held held' failed_writer (Err e)
       → Ends asked tells n (record { left = l; desk = desk; clock = clock }) (record { left = l'; desk = desk; clock = clock }) (record { before = held; after = held'; reader_failed = failed_reader; writer_failed = failed_writer }) (Err e)
   ends_refusing l l' ahead fault desk clock held held' n failed_reader failed_writer Read met x = (read_failed failed_reader l l' ahead fault met x.0, record { desk_is = refl; clock_is = refl }, x.1)
@@ -201,16 +106,3 @@ module _ {D C : Type 0} (asked : D → Ask → ℕ → Result Answer Fault → D
   ends_refusing l l' ahead fault desk clock held held' n failed_reader failed_writer Write met (fails, inr x) =
       (fails, inr (inr (record { nothing = inl (record { desk_is = refl; clock_is = refl }); len = x.0; written = x.1 })))
   ends_refusing l l' ahead fault desk clock held held' n failed_reader failed_writer OutOfMemory met x = inl (inl (record { desk_is = refl; clock_is = refl }), x)
-
-  pub session_unrefused : (old : Standing D C) (l rest : Option (List ℕ)) (buffer : List ℕ) (fault : Fault) (desk : D) (clock : C) (before held held' : Option (List ℕ)) (n : ℕ) (failed_reader failed_writer : Bool) (e : SessionFault)
-      → GoesOn asked tells n old (record { left = l; desk = desk; clock = clock }) before held → Met failed_reader l (pending buffer rest) buffer fault → RefusesBy fault held held' failed_writer (Err e)
-      → Session asked tells old (record { left = rest; desk = desk; clock = clock }) (record { before = before; after = held'; reader_failed = failed_reader; writer_failed = failed_writer }) (Err e)
-  session_unrefused old l rest buffer fault desk clock before held held' n failed_reader failed_writer e g met x = record {
-    n = n;
-    last = record { left = l; desk = desk; clock = clock };
-    held = held;
-    goes_on = g;
-    ahead = buffer;
-    unread = refused_unread failed_reader l (pending buffer rest) buffer fault held held' failed_writer e met x;
-    ends = ends_refusing l (pending buffer rest) buffer fault desk clock held held' n failed_reader failed_writer e met x;
-  }

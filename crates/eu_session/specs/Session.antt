@@ -98,6 +98,16 @@ pub record IsOpen (t : Turn) : Type 0 where
   pub request : t.request.closes ≡ false
   pub response : t.close ≡ false
 
+-- A part of a session: from old to new requests were answered, one after another, each by a `step`, and the session goes on. It had n requests
+-- before and has m now; they are fewer than 100, and none closes it. What was written is their responses, in order.
+pub record Part {S : Type 0} (step : S → Turn → S → Type 0) (n m : ℕ) (old new : S) (before after : Option (List ℕ)) : Type 0 where
+  pub turns : List Turn
+  pub chain : Chain step old turns new
+  pub count : m ≡ n + length turns
+  pub few : m < 100
+  pub each : AllByRecursion IsOpen turns
+  pub written : Appends before after (flat_map text_of turns)
+
 -- Where a read failed no byte was lost, and those that were read ahead begin with no whole request: each that came whole before was answered.
 abbrev pub FailsClean : Option (List ℕ) → Option (List ℕ) → List ℕ → Result ℕ SessionFault → Type 0
 FailsClean old new ahead (Ok m) = ⊤
@@ -114,16 +124,6 @@ pub record Streams : Type 0 where
 
 -- `asked` and `tells` are what a desk answers and what a clock tells. `before` and `after` are what the writer holds.
 module _ {D C : Type 0} (asked : D → Ask → ℕ → Result Answer Fault → D → Type 0) (tells : C → ℕ → C → Type 0) where
-  -- From old to new n requests were answered, one after another, and the session goes on: they are fewer than 100, and none
-  -- closes it. What was written is their responses, in order.
-  pub record GoesOn (n : ℕ) (old new : Standing D C) (before after : Option (List ℕ)) : Type 0 where
-    pub turns : List Turn
-    pub chain : Chain (Step asked tells) old turns new
-    pub count : length turns ≡ n
-    pub few : n < 100
-    pub each : AllByRecursion IsOpen turns
-    pub written : Appends before after (flat_map text_of turns)
-
   -- The bytes end before a request, and nothing was asked or written.
   pub record EndsBytes (old new : Standing D C) (before after : Option (List ℕ)) : Type 0 where
     pub ends : Between old.left new.left (FindsNext None)
@@ -194,7 +194,7 @@ module _ {D C : Type 0} (asked : D → Ask → ℕ → Result Answer Fault → D
     pub n : ℕ
     pub last : Standing D C
     pub held : Option (List ℕ)
-    pub goes_on : GoesOn n old last s.before held
+    pub goes_on : Part (Step asked tells) 0 n old last s.before held
     pub ahead : List ℕ
     pub unread : FailsClean last.left (pending ahead new.left) ahead result
     pub ends : Ends n last (record { left = pending ahead new.left; desk = new.desk; clock = new.clock }) (record s { before = held }) result

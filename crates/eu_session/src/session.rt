@@ -1,23 +1,15 @@
 //! A session: one request after the other.
 ghost use Rattle.std.specs.Prelude.{◌≡◌, ◌≢◌, IfErr, OnOk};
 ghost use Rattle.eu_session.specs.Session.{Session};
-ghost use Rattle.eu_session.specs.Session as spec;
 
-use crate::turn::{answer_request, refuse};
-use crate::{MAX_REQUESTS, SessionFault};
+use crate::SessionFault;
+use crate::talk::{Talk, Turned, take_turn};
 use eu_clock::Clock;
-use eu_framing::{EMPTY_ROOM, Request, read_request};
+use eu_framing::EMPTY_ROOM;
 use eu_model::Desk;
 use eu_routes::Routes;
 use eu_stream::{Sink, Source};
 use std::alloc::Global;
-
-/// Whether a session ends with the request, which comes after `n` others.
-fn is_last(request: &Request, n: u32) -> bool
-    ensures { result ≡ spec.is_last n request.now }
-{
-    request.closes || n == MAX_REQUESTS - 1
-}
 
 /// Serves a session of HTTP/1.1 (RFC 9112, section 9), and tells how many requests there were.
 ///
@@ -66,22 +58,14 @@ pub fn serve_session<D: Desk, C: Clock, R: Source, W: Sink>(
     ensures same_reader { R.stream reader.new ≡ R.stream reader.old }
     ensures same_writer { W.stream writer.new ≡ W.stream writer.old }
 {
-    let mut buffer = Vec::new(alloc);
+    let mut talk = Talk::new(alloc);
     let mut room = EMPTY_ROOM;
-    for n in 0..MAX_REQUESTS {
-        let request = match read_request(alloc, reader, &mut buffer, &mut room) {
-            Ok(Some(request)) => request,
-            Ok(None) => return Ok(n),
-            Err(fault) => {
-                refuse(alloc, writer, fault)?;
-                return Ok(n + 1);
-            }
-        };
-        let close = is_last(&request, n);
-        answer_request(alloc, routes, desk, clock, writer, &request, close)?;
-        if close {
-            return Ok(n + 1);
+    'turns: loop {
+        match take_turn(
+            alloc, routes, &mut room, &mut talk, desk, clock, reader, writer,
+        )? {
+            Turned::GoesOn => {}
+            Turned::Ended(requests) => return Ok(requests),
         }
     }
-    Ok(MAX_REQUESTS)
 }

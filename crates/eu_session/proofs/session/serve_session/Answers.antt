@@ -1,45 +1,27 @@
-use Rattle.std.proofs.Common.{◌∙◌}
+use Rattle.std.proofs.Common.{◌∙◌, Ok, Err, refl}
 use Rattle.std.proofs.lemmas.Result.{err_from_is_err_and}
-use Rattle.eu_session.proofs.SessionLemmas.{goes_more, session_ended, session_closed, session_refused, session_lost, session_unrefused}
+use Rattle.eu_session.specs.declared.talk.Turned.TheVariants.{Ended}
+use Rattle.eu_session.proofs.TalkLemmas.{parts_join, parts_end}
 use Rattle.eu_session.proofs.session.serve_session.Goals as goal
 
-pub returns-in-Ok-None-clause-session : goal.returns-in-Ok-None-clause-session
-returns-in-Ok-None-clause-session g c =
-    session_ended g.D.Desk.asked g.C.Clock.tells _ _ _ c.read_request.new.buffer.items _ _ _ _ _ _ _ c.loop-n.invariant.goes_on (rw c.in-Ok-None.field-0-is at c.in-Ok-None.ensures.found)
-
-pub returns-in_err-answer_request-clause-session : goal.returns-in_err-answer_request-clause-session
-returns-in_err-answer_request-clause-session g c =
-    let p = err_from_is_err_and c.from_residual-in_err-answer_request.result c.from_residual-in_err-answer_request.ensures.1 in
-    rw (p.1, p.2) (session_lost g.D.Desk.asked g.C.Clock.tells _ _ _ c.read_request.new.buffer.items c.in-Ok-Some.request c.is_last-close.result _ _ _ _ _ _ _ _ _ _ _
-    c.loop-n.invariant.goes_on (rw c.in-Ok-Some.field-0-is at c.in-Ok-Some.ensures.found) c.in_err-answer_request.ensures.answers c.is_last-close.ensures)
-
-pub returns-in_err-answer_request-clause-told_writer : goal.returns-in_err-answer_request-clause-told_writer
-returns-in_err-answer_request-clause-told_writer g c =
-    let p = err_from_is_err_and c.from_residual-in_err-answer_request.result c.from_residual-in_err-answer_request.ensures.1 in
-    rw (p.1, p.2) (λ other. c.in_err-answer_request.ensures.told other ∙ c.loop-n.invariant.sound)
-
-pub returns-then-close-clause-session : goal.returns-then-close-clause-session
-returns-then-close-clause-session g c =
-    session_closed g.D.Desk.asked g.C.Clock.tells _ _ _ c.read_request.new.buffer.items c.in-Ok-Some.request c.is_last-close.result _ _ _ _ _ _ _ _ _ _
-    c.loop-n.invariant.goes_on (rw c.in-Ok-Some.field-0-is at c.in-Ok-Some.ensures.found) c.in_ok-answer_request.ensures.answers c.is_last-close.ensures c.if-close.true
-
-pub returns-in_err-refuse-in-Err-clause-session : goal.returns-in_err-refuse-in-Err-clause-session
-returns-in_err-refuse-in-Err-clause-session g c =
+pub returns-in_err-take_turn-clause-session : goal.returns-in_err-take_turn-clause-session
+returns-in_err-take_turn-clause-session g c =
     let p = err_from_is_err_and c.from_residual.result c.from_residual.ensures.1 in
-    rw (p.1, p.2) (session_unrefused g.D.Desk.asked g.C.Clock.tells _ _ _ c.read_request.new.buffer.items c.in-Err.fault _ _ _ _ _ _ _ _ _
-    c.loop-n.invariant.goes_on c.in-Err.ensures.fault c.in_err-refuse-in-Err.ensures.refuses)
+    rw (p.1, p.2) (parts_end g.D.Desk.asked g.C.Clock.tells _ _ _ _ _ _ (g.W.Sink.contents c.turns.writer) c.take_turn.new.talk.buffer.items (Err c.in_err-take_turn.field-0.0) _
+    c.turns.invariant.goes_on c.in_err-take_turn.ensures.turn refl)
 
-pub returns-in-Err-clause-session : goal.returns-in-Err-clause-session
-returns-in-Err-clause-session g c =
-    session_refused g.D.Desk.asked g.C.Clock.tells _ _ _ c.read_request.new.buffer.items c.in-Err.fault _ _ _ _ _ _ _ _
-    c.loop-n.invariant.goes_on c.in-Err.ensures.fault c.in_ok-refuse-in-Err.ensures.refuses
+pub returns-in-Ended-clause-session : goal.returns-in-Ended-clause-session
+returns-in-Ended-clause-session g c =
+    parts_end g.D.Desk.asked g.C.Clock.tells _ _ _ _ _ _ (g.W.Sink.contents c.turns.writer) c.take_turn.new.talk.buffer.items (Ok (Ended c.in-Ended.requests)) _
+    c.turns.invariant.goes_on (rw c.in-Ended.is at c.in_ok-take_turn.ensures.turn) refl
 
-pub loop-n-preserved : goal.loop-n-preserved
-loop-n-preserved g c = record {
-  goes_on = goes_more g.D.Desk.asked g.C.Clock.tells _ _ _ c.in-Ok-Some.request c.is_last-close.result _ _ _ _ _ _ _ _
-      c.loop-n.invariant.goes_on (rw c.in-Ok-Some.field-0-is at c.in-Ok-Some.ensures.found) c.in_ok-answer_request.ensures.answers c.is_last-close.ensures c.if-close.false;
-  sound_reader = c.in-Ok-Some.ensures.sound ∙ c.loop-n.invariant.sound_reader;
-  sound = c.in_ok-answer_request.ensures.sound ∙ c.loop-n.invariant.sound;
-  same_reader = c.in-Ok-Some.ensures.same_stream ∙ c.loop-n.invariant.same_reader;
-  same_writer = c.in_ok-answer_request.ensures.same_stream ∙ c.loop-n.invariant.same_writer;
-}
+pub turns-preserved : goal.turns-preserved
+turns-preserved g c =
+    let turn = rw c.in-GoesOn.is at c.in_ok-take_turn.ensures.turn in
+    record {
+      goes_on = parts_join g.D.Desk.asked g.C.Clock.tells _ _ _ _ _ _ _ _ _ c.turns.invariant.goes_on turn.1;
+      sound_reader = c.in_ok-take_turn.ensures.sound_reader ∙ c.turns.invariant.sound_reader;
+      sound_writer = c.in_ok-take_turn.ensures.sound_writer ∙ c.turns.invariant.sound_writer;
+      same_reader = c.take_turn.ensures.same_reader ∙ c.turns.invariant.same_reader;
+      same_writer = c.take_turn.ensures.same_writer ∙ c.turns.invariant.same_writer;
+    }

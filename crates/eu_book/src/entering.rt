@@ -24,6 +24,7 @@ use std::mem;
 
 /// Answers a command, once there is room for its entry. `Exhausted` where the steps are as many as a book counts; this, and the
 /// refusal of a peer's queue, come before any memory is taken.
+#[inline(always)]
 pub(crate) fn answer<C: Chooser>(
     alloc: Global,
     journal: &mut Journal,
@@ -95,7 +96,7 @@ pub(crate) fn note(
         mem::swap(journal, spare);
     }
     *totals = totals.plus(Tally::of(&command, &reply));
-    let (answer, logged) = eu_core::others(&reply, others, logs);
+    let (answer, logged) = eu_core::told_and_logged(&reply, others, logs);
     journal.entries.push_reserved(Entry {
         pass,
         number,

@@ -18,6 +18,7 @@ use eu_model::{Command, Reply};
 use std::alloc::{AllocError, Global};
 
 /// Answers a command, by a step of the registry or, where it is for a peer, by none. Its reply is there for each use; for a log, where one `logs` it.
+#[inline(always)]
 pub(crate) fn serve<C: Chooser>(
     alloc: Global,
     registry: &mut Registry,
@@ -78,6 +79,7 @@ fn key_told<'a>(command: &'a Command, peers: &Peers) -> Option<&'a Key>
 }
 
 /// The step of a command of which nobody is told.
+#[inline(always)]
 fn step<C: Chooser>(
     alloc: Global,
     registry: &mut Registry,

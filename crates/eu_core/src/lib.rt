@@ -12,6 +12,6 @@ mod undo;
 
 pub use eu_store::Snapshot;
 pub use registry::Registry;
-pub use replies::{Answered, others, owning_nothing, replies_for, split};
-pub use step::{Stepped, on_no_lease};
+pub use replies::{Answered, owning_nothing, replies_for, split, told_and_logged};
+pub use step::Stepped;
 pub use undo::{Clients, EvictionBefore, LeaseBefore, RenewalBefore, Undo};

@@ -58,14 +58,14 @@ pub fn owning_nothing(alloc: Global, reply: Reply) -> Answered
 
 /// The other replies of a command: the one that who asked is told and, where one `logs` it, the one for their log. Takes no memory.
 #[inline(always)]
-pub fn others(reply: &Reply, others: Vec<Reply>, logs: bool) -> (Reply, Option<Reply>)
+pub fn told_and_logged(reply: &Reply, others: Vec<Reply>, logs: bool) -> (Reply, Option<Reply>)
     requires { others.items ≡ others_of logs reply.now }
     ensures { result ≡ (reply.now, for_log logs reply.now) }
 {
     let mut others = others;
-    let answer = next(reply, &mut others);
+    let answer = one_more(reply, &mut others);
     let logged = if logs {
-        Some(next(reply, &mut others))
+        Some(one_more(reply, &mut others))
     } else {
         None
     };
@@ -74,7 +74,7 @@ pub fn others(reply: &Reply, others: Vec<Reply>, logs: bool) -> (Reply, Option<R
 
 /// One of a reply's equals, or else the reply once more, where it owns no memory.
 #[inline(always)]
-fn next(reply: &Reply, others: &mut Vec<Reply>) -> Reply
+fn one_more(reply: &Reply, others: &mut Vec<Reply>) -> Reply
     requires { (n : ℕ) × (others.old.items ≡ equals_of (n + 1) reply.now) }
     ensures { (n : ℕ) → others.old.items ≡ equals_of (n + 1) reply.now → (result ≡ reply.now) × (others.new.items ≡ equals_of n reply.now) }
 {

@@ -207,7 +207,7 @@ impl Registry {
 }
 
 /// What a step gives that is on no lease, and whose reply owns no memory. Takes none.
-pub fn on_no_lease(alloc: Global, reply: Reply, undo: Undo) -> Stepped
+fn on_no_lease(alloc: Global, reply: Reply, undo: Undo) -> Stepped
     requires { owns_nothing reply ≡ true }
     ensures reply { result.answered.reply ≡ reply }
     ensures answered { (logs : Bool) → IsAnswered logs result.answered }

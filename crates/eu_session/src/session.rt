@@ -3,9 +3,9 @@ ghost use Rattle.std.specs.Prelude.{◌≡◌, ◌≢◌, IfErr, OnOk};
 ghost use Rattle.eu_session.specs.Session.{Session};
 
 use crate::SessionFault;
-use crate::talk::{Talk, Turned, take_turn};
+use crate::room::SessionRoom;
+use crate::talk::{Turned, take_turn};
 use eu_clock::Clock;
-use eu_framing::EMPTY_ROOM;
 use eu_model::Desk;
 use eu_routes::Routes;
 use eu_stream::{Sink, Source};
@@ -38,10 +38,11 @@ use std::alloc::Global;
 ///   asks was asked, once, or nothing. Where a command was done nothing more is written, since a refusal would be false; else what is
 ///   written is the refusal by `OutOfMemory` (503), which says `Connection: close`.
 ///
-/// Bytes that were read behind the last request are lost.
+/// Bytes that were read behind the last request are lost. What `room` holds doesn't matter.
 pub fn serve_session<D: Desk, C: Clock, R: Source, W: Sink>(
     alloc: Global,
     routes: &Routes,
+    room: &mut SessionRoom,
     desk: &mut D,
     clock: &mut C,
     reader: &mut R,
@@ -58,11 +59,17 @@ pub fn serve_session<D: Desk, C: Clock, R: Source, W: Sink>(
     ensures same_reader { R.stream reader.new ≡ R.stream reader.old }
     ensures same_writer { W.stream writer.new ≡ W.stream writer.old }
 {
-    let mut talk = Talk::new(alloc);
-    let mut room = EMPTY_ROOM;
+    room.talk.begin_anew(alloc);
     'turns: loop {
         match take_turn(
-            alloc, routes, &mut room, &mut talk, desk, clock, reader, writer,
+            alloc,
+            routes,
+            &mut room.room,
+            &mut room.talk,
+            desk,
+            clock,
+            reader,
+            writer,
         )? {
             Turned::GoesOn => {}
             Turned::Ended(requests) => return Ok(requests),

@@ -13,6 +13,9 @@ use eu_routes::Routes;
 use eu_stream::{Sink, Source};
 use std::alloc::Global;
 
+/// The most bytes of memory that a buffer keeps from session to session.
+const MOST_KEPT: usize = 65_536;
+
 /// A session between two turns. It is a value: whoever has it can take the next turn.
 #[derive(Debug, Drop)]
 pub struct Talk {
@@ -42,6 +45,18 @@ impl Talk {
             buffer: Vec::new(alloc),
             served: 0,
         }
+    }
+
+    /// Begins another session in its place, and keeps the memory of the buffer, up to 64 KiB. Takes none.
+    pub fn begin_anew(&mut self, alloc: Global)
+        ensures buffer { self.new.buffer.items ≡ [] }
+        ensures served { self.new.served ≡ 0 }
+    {
+        if self.buffer.capacity() > MOST_KEPT {
+            self.buffer = Vec::new(alloc);
+        }
+        self.buffer.clear();
+        self.served = 0;
     }
 }
 

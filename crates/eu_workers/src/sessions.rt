@@ -7,7 +7,7 @@ use crate::gated::{GatedSink, GatedSource};
 use crate::site::Site;
 use eu_clock::Clock;
 use eu_gate::{Gate, Go, Incoming, Point};
-use eu_session::{SessionFault, serve_session};
+use eu_session::{SessionFault, SessionRoom, serve_session};
 use eu_shared::{Label, Pass, Seat};
 use std::io::{Read, Write};
 use std::sync::Wait;
@@ -16,6 +16,7 @@ use std::sync::Wait;
 fn serve<K: Label, R: Wait, G: Gate, C: Clock, I: Read, O: Write>(
     site: &Site<'_, K, R, G>,
     who: u32,
+    room: &mut SessionRoom,
     seat: &mut Seat<'_, K, R>,
     clock: &mut C,
     reader: &mut I,
@@ -25,13 +26,22 @@ fn serve<K: Label, R: Wait, G: Gate, C: Clock, I: Read, O: Write>(
 {
     let mut source = GatedSource::new(reader, site.gate, who);
     let mut sink = GatedSink::new(writer, site.gate, who);
-    serve_session(site.alloc, site.routes, seat, clock, &mut source, &mut sink)
+    serve_session(
+        site.alloc,
+        site.routes,
+        room,
+        seat,
+        clock,
+        &mut source,
+        &mut sink,
+    )
 }
 
 /// A turn with a connection: serves its session, ends it, and trims the log of the pass. Tells what came of the session.
 fn turn<K: Label, R: Wait, G: Gate, S: Incoming, C: Clock>(
     site: &Site<'_, K, R, G>,
     who: u32,
+    room: &mut SessionRoom,
     seat: &mut Seat<'_, K, R>,
     clock: &mut C,
     source: &mut S,
@@ -40,7 +50,7 @@ fn turn<K: Label, R: Wait, G: Gate, S: Incoming, C: Clock>(
     ensures { HasTurn seat.old.pass seat.new.pass }
 {
     let (mut reader, mut writer) = connection;
-    let served = serve(site, who, seat, clock, &mut reader, &mut writer);
+    let served = serve(site, who, room, seat, clock, &mut reader, &mut writer);
     source.end(reader, writer);
     seat.pass.trim();
     served
@@ -68,6 +78,7 @@ pub fn run_sessions<K: Label, R: Wait, G: Gate, S: Incoming, C: Clock>(
         shared: site.shared,
         rt: site.rt,
     };
+    let mut room = SessionRoom::new(site.alloc);
     let mut ended = Ended::default();
     for _turn in 0..limit {
         if site.gate.pass(who, Point::Turn) == Go::Stop {
@@ -76,7 +87,8 @@ pub fn run_sessions<K: Label, R: Wait, G: Gate, S: Incoming, C: Clock>(
         let Some(connection) = source.next() else {
             break;
         };
-        ended.count(&turn(site, who, &mut seat, clock, source, connection));
+        let served = turn(site, who, &mut room, &mut seat, clock, source, connection);
+        ended.count(&served);
     }
     let Seat {
         pass,

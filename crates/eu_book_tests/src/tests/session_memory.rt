@@ -9,7 +9,7 @@ use eu_clock::ListClock;
 use eu_fixtures::{pause_or_go_on, settings};
 use eu_model::Desk;
 use eu_routes::Routes;
-use eu_session::serve_session;
+use eu_session::{SessionRoom, serve_session};
 use eu_shared::{Blanks, Label, PARTS, Seat};
 use eu_stream::Writing;
 use std::alloc::Global;
@@ -37,6 +37,7 @@ fn say<D: Desk>(
     request: &str,
     is_refused: bool,
 ) -> Result<Vec<u8>, Fault> {
+    let mut room = SessionRoom::new(alloc);
     let mut clock = ListClock::new(Vec::new(alloc));
     let mut out = Vec::with_capacity(alloc, 4096)?;
     let mut reader = request.as_bytes();
@@ -44,7 +45,15 @@ fn say<D: Desk>(
     if is_refused {
         pause_or_go_on(alloc);
     }
-    let ended = serve_session(alloc, routes, desk, &mut clock, &mut reader, &mut writer);
+    let ended = serve_session(
+        alloc,
+        routes,
+        &mut room,
+        desk,
+        &mut clock,
+        &mut reader,
+        &mut writer,
+    );
     if is_refused {
         pause_or_go_on(alloc);
     }

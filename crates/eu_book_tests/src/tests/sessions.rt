@@ -7,7 +7,7 @@ use crate::tests::shared::{USUAL, open};
 use eu_base::Fault;
 use eu_clock::ListClock;
 use eu_routes::Routes;
-use eu_session::serve_session;
+use eu_session::{SessionRoom, serve_session};
 use eu_shared::{Blanks, Label, PARTS, Seat};
 use eu_stream::Writing;
 use std::alloc::Global;
@@ -25,11 +25,20 @@ const RESPONSES: &str =
 /// Whether a session over a pass writes what it is to.
 fn serve<K: Label, R: Wait>(alloc: Global, seat: &mut Seat<'_, K, R>) -> Result<bool, Fault> {
     let routes = Routes::new(alloc)?;
+    let mut room = SessionRoom::new(alloc);
     let mut clock = ListClock::new(Vec::new(alloc));
     let mut reader = REQUESTS.as_bytes();
     let mut out = Vec::new(alloc);
     let mut writer = Writing::new(&mut out);
-    let served = serve_session(alloc, &routes, seat, &mut clock, &mut reader, &mut writer);
+    let served = serve_session(
+        alloc,
+        &routes,
+        &mut room,
+        seat,
+        &mut clock,
+        &mut reader,
+        &mut writer,
+    );
     drop((routes, clock));
     Ok(served.is_ok() && out.as_slice() == RESPONSES.as_bytes())
 }

@@ -5,7 +5,7 @@ use eu_fixtures::{Brittle, REGISTRATION, clock, done};
 use eu_json::read_instance;
 use eu_model::{Answer, Ask, Command, Desk, Listed, Query, Times, View};
 use eu_routes::Routes;
-use eu_session::serve_session;
+use eu_session::{SessionRoom, serve_session};
 use eu_stream::{Sink, Source};
 use std::alloc::{AllocError, Global};
 
@@ -83,9 +83,10 @@ fn serve<R: Source, W: Sink>(
     reader: &mut R,
     writer: &mut W,
 ) -> Result<(Result<u32, u8>, u64), Fault> {
+    let mut room = SessionRoom::new(alloc);
     let mut clock = clock(alloc, &[1000, 1001, 1002, 1003])?;
     let routes = Routes::new(alloc)?;
-    let served = serve_session(alloc, &routes, desk, &mut clock, reader, writer);
+    let served = serve_session(alloc, &routes, &mut room, desk, &mut clock, reader, writer);
     let next = clock.now().ms();
     drop((clock, routes));
     match served {

@@ -6,7 +6,7 @@ use eu_clock::Clock;
 use eu_fixtures::Parts;
 use eu_model::{Answer, Ask, Desk, Reply};
 use eu_routes::Routes;
-use eu_session::serve_session;
+use eu_session::{SessionRoom, serve_session};
 use eu_stream::{ReadFault, Sink, Source, WriteFault};
 use std::alloc::Global;
 use std::cell::RefCell;
@@ -113,6 +113,7 @@ fn serve(
     match serve_session(
         alloc,
         routes,
+        &mut SessionRoom::new(alloc),
         &mut desk,
         &mut clock,
         &mut reader,

@@ -4,7 +4,7 @@ use eu_base::Fault;
 use eu_book::Book;
 use eu_fixtures::{MISSING, clock, pause_or_go_on};
 use eu_routes::Routes;
-use eu_session::{SessionFault, serve_session};
+use eu_session::{SessionFault, SessionRoom, serve_session};
 use eu_stream::Writing;
 use std::alloc::{AllocError, Global};
 
@@ -40,6 +40,7 @@ fn say(
     text: &str,
     is_refused: bool,
 ) -> Result<Said, Fault> {
+    let mut room = SessionRoom::new(alloc);
     let mut clock = clock(alloc, &[1000, 1001, 1002])?;
     let mut out = Vec::with_capacity(alloc, 4096)?;
     let mut reader = text.as_bytes();
@@ -47,7 +48,15 @@ fn say(
     if is_refused {
         pause_or_go_on(alloc);
     }
-    let ended = serve_session(alloc, routes, book, &mut clock, &mut reader, &mut writer);
+    let ended = serve_session(
+        alloc,
+        routes,
+        &mut room,
+        book,
+        &mut clock,
+        &mut reader,
+        &mut writer,
+    );
     if is_refused {
         pause_or_go_on(alloc);
     }

@@ -6,7 +6,7 @@ use eu_clock::{Clock, ListClock};
 use eu_fixtures::{clock, written_out};
 use eu_model::Desk;
 use eu_routes::Routes;
-use eu_session::{SessionFault, serve_session};
+use eu_session::{SessionFault, SessionRoom, serve_session};
 use eu_stream::{Sink, Source, WriteFault};
 use std::alloc::Global;
 
@@ -53,7 +53,8 @@ fn serve<D: Desk, R: Source>(
 ) -> Result<u32, SessionFault> {
     match Routes::new(alloc) {
         Ok(routes) => {
-            let served = serve_session(alloc, &routes, desk, clock, reader, writer);
+            let mut room = SessionRoom::new(alloc);
+            let served = serve_session(alloc, &routes, &mut room, desk, clock, reader, writer);
             drop(routes);
             served
         }

@@ -5,9 +5,9 @@ use Rattle.eu_session.proofs.session.serve_session.Given as goal
 
 abbrev pub invariant-turns : goal.invariant-turns
 invariant-turns g l = record {
-  goes_on : Part (Step g.D.Desk.asked g.C.Clock.tells) 0 l.talk.served
+  goes_on : Part (Step g.D.Desk.asked g.C.Clock.tells) 0 l.room.talk.served
       (record { left = g.R.Source.remaining l.initial.reader; desk = l.initial.desk; clock = l.initial.clock })
-      (record { left = pending l.talk.buffer.items (g.R.Source.remaining l.reader); desk = l.desk; clock = l.clock })
+      (record { left = pending l.room.talk.buffer.items (g.R.Source.remaining l.reader); desk = l.desk; clock = l.clock })
       (g.W.Sink.contents l.initial.writer) (g.W.Sink.contents l.writer);
   sound_reader : g.R.Source.failed l.reader ≡ g.R.Source.failed l.initial.reader;
   sound_writer : g.W.Sink.failed l.writer ≡ g.W.Sink.failed l.initial.writer;
@@ -16,4 +16,4 @@ invariant-turns g l = record {
 }
 
 abbrev pub decreases-turns : goal.decreases-turns
-decreases-turns g l = 100 - l.talk.served
+decreases-turns g l = 100 - l.room.talk.served

@@ -26,6 +26,7 @@ pub(crate) fn prepare(
 
 /// Makes room for an entry more: in the journal or, where it has as many as it keeps, in the spare one. That is emptied then, and begins after
 /// so many steps. Says whether the journal begins anew. `AllocError` where no memory is left. No entry of the journal changes.
+#[inline(always)]
 pub(crate) fn make_room(
     alloc: Global,
     journal: &mut Journal,

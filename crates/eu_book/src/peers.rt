@@ -100,6 +100,7 @@ impl Peers {
 
     /// Why the queue of its peer refuses a command, if it does: `NoPeer`, or a fault of the call that it is on the outbox. None
     /// for a command that speaks of no queue. Takes no memory.
+    #[inline(always)]
     pub(crate) fn refusal(&self, command: &Command, moment: Moment) -> Option<Fault>
         ensures { result ≡ queues_fault (queues_of self.now) command.now moment }
     {

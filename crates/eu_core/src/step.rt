@@ -1,4 +1,4 @@
-//! Steps: each command by its call, with its reply for each use and copies of what is held after it.
+//! Steps: each command by its call, with its reply, copies of what is held after it, and what undoes it.
 ghost use Rattle.std.specs.Prelude.{◌≡◌, ℕ, Bool, [], false, true, Some, Err, IfOk, IfErr, OnErr};
 ghost use Rattle.std.specs.FinMap as map;
 ghost use Rattle.std.specs.Borrow.{Bor};
@@ -22,10 +22,10 @@ use eu_model::{Command, Reply};
 use eu_store::HeldLease;
 use std::alloc::Global;
 
-/// What a step gives: its reply for each use, so many copies of the instance that is held after it, and what undoes it.
+/// What a step gives: its reply, so many copies of the instance that is held after it, and what undoes it.
 #[derive(Debug, Drop)]
 pub struct Stepped {
-    /// The reply for each use.
+    /// The reply and, where it owns memory, one more for each other use.
     pub answered: Answered,
     /// The copies; none where no lease is held under the command's key after the step, or where it names no key.
     pub held: Vec<SharedInstance>,
@@ -34,10 +34,10 @@ pub struct Stepped {
 }
 
 impl Registry {
-    /// Takes one step by a command at the moment, and gives its reply, once more for who asked, and once more for a log, where one
-    /// `logs` it; and so many copies of the instance that is held under the command's key after it: none where no lease is held then,
-    /// or where the command names no key (`EndMinute`, `Update`, `Reconfigure`, `Evict`). And what it replaced, by which the step is
-    /// undone.
+    /// Takes one step by a command at the moment, and gives its reply. Where that owns memory it is there once more for who asked and,
+    /// where one `logs` it, once more for a log. It gives so many copies of the instance that is held under the command's key after it: none
+    /// where no lease is held then, or where the command names no key (`EndMinute`, `Update`, `Reconfigure`, `Evict`). And it gives what it
+    /// replaced, by which it is undone.
     ///
     /// No command for a peer (`Drain`, `Landed`, `Lost`) is handed in. The step is that of the command's call: `register`,
     /// `renew`, `cancel`, `set_status`, `unset_status`, `adopt`, `end_minute`, `update`, `reconfigure` or `evict`, whose replies and

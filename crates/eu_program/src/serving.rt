@@ -6,7 +6,10 @@ use crate::files::create;
 use eu_base::{Config, Fault};
 use eu_clock::Chooser;
 use eu_options::Serving;
-use eu_server::{Plan, serve_by, serve_with_journal};
+use eu_server::{
+    BUCKET_MS, LINGER_BYTES, LINGER_MS, Plan, READ_TIMEOUT_MS, THRESHOLD_MS, WRITE_TIMEOUT_MS,
+    serve_by, serve_with_journal,
+};
 use eu_stream::Writing;
 use std::io;
 use std::net::{Ipv4Addr, Net, SocketAddr, TcpListener, TcpStream};
@@ -40,8 +43,8 @@ fn plan_of(config: Config, serving: Serving) -> Plan
     ensures expected { result.expected ≡ serving.expected }
     ensures workers { result.workers ≡ serving.workers }
     ensures sessions { result.sessions ≡ serving.sessions }
-    ensures periods { result.periods ≡ record { evictor = config.evict_ms; bucket = 60000; threshold = 900000 } }
-    ensures timeouts { result.timeouts ≡ record { read = 10000; write = 10000; linger = 1000; linger_bytes = 65536 } }
+    ensures periods { result.periods ≡ record { evictor = config.evict_ms; bucket = BUCKET_MS; threshold = THRESHOLD_MS } }
+    ensures timeouts { result.timeouts ≡ record { read = READ_TIMEOUT_MS; write = WRITE_TIMEOUT_MS; linger = LINGER_MS; linger_bytes = LINGER_BYTES } }
 {
     Plan::of_server(config, serving.expected, serving.workers, serving.sessions)
 }

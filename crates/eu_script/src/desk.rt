@@ -208,6 +208,7 @@ fn settled_line(command: &Command) -> &'static str
 
 /// Prints the line of a command's answer; `settled` is what it prints where it ended a flight. `OutOfMemory` where that is the
 /// answer, or none was left to print it.
+#[inline(always)]
 fn print_answer(
     out: &mut String,
     settled: &str,

@@ -77,15 +77,15 @@ impl Plan {
 
 /// How many workers of sessions a server has by a plan of so many: 1 to 16.
 fn workers_of(wanted: u32) -> u32
-    ensures value { result ≡ max 1 (min wanted 16) }
-    ensures few { result ≤ 16 }
+    ensures value { result ≡ max 1 (min wanted MOST_WORKERS) }
+    ensures few { result ≤ MOST_WORKERS }
 {
     wanted.clamp(1, MOST_WORKERS)
 }
 
 /// How many connections a server by this plan accepts, and how many workers look for them: as many as it has.
 fn admission_of(plan: &Plan) -> Admission
-    ensures { result ≡ record { left = plan.now.sessions; workers = max 1 (min plan.now.workers 16); failed = false } }
+    ensures { result ≡ record { left = plan.now.sessions; workers = max 1 (min plan.now.workers MOST_WORKERS); failed = false } }
 {
     let workers = workers_of(plan.workers);
     Admission::new(plan.sessions, workers)
@@ -174,7 +174,7 @@ fn make_workers<'a, K: Label, R: Wait + Clock, H: Chooser + Drop>(
     plan: &Plan,
     chooser: H,
 ) -> Result<Vec<ServerWorker<'a, K, R, H>>, Fault>
-    ensures staff { IfOk result (λ staff. IsStaff (max 1 (min plan.now.workers 16)) chooser staff.items) }
+    ensures staff { IfOk result (λ staff. IsStaff (max 1 (min plan.now.workers MOST_WORKERS)) chooser staff.items) }
     ensures fault { IfErr result IsStart }
 {
     let count = workers_of(plan.workers);

@@ -7,3 +7,4 @@ mod served;
 mod sessions;
 mod settings;
 mod told;
+mod turns;

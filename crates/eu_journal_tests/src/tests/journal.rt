@@ -1,9 +1,8 @@
 //! The text of a journal, line by line, and lines that are refused. The digest was computed by another program.
 use eu_base::{
-    App, Fault, Id, Instance, Key, Keys, LeaseSecs, Moment, RenewalSecs, Rest, SharedInstance,
-    Stamp, Status,
+    Fault, Instance, Keys, LeaseSecs, Moment, RenewalSecs, Rest, SharedInstance, Stamp, Status,
 };
-use eu_fixtures::{settings, text_of};
+use eu_fixtures::{key_of, settings, text_of};
 use eu_journal::JournalLine;
 use eu_journal_text::{journal_text, read_line};
 use eu_journal_values::LineFault;
@@ -29,15 +28,9 @@ const END: &str =
 const DIGEST: &str =
     "{\"line\":\"digest\",\"sha256\":\"77fcc120a5cc9e81b10d5040ee8ae61dca426317fe24f79aa5f63e2d7d3911c2\"}";
 
-fn key(alloc: Global) -> Result<Key, Fault> {
-    let app = App::read(alloc, "orders")?;
-    let id = Id::read(alloc, "a-1")?;
-    Ok(Key { app, id })
-}
-
 fn instance(alloc: Global) -> Result<SharedInstance, Fault> {
     let last_dirty = Stamp::new(1_700_000_000_000).ok_or(Fault::BadStamp)?;
-    let key = key(alloc)?;
+    let key = key_of(alloc, "orders", "a-1")?;
     let rest = Rest::of_host(alloc, "a")?;
     let instance = Instance {
         key,
@@ -85,7 +78,7 @@ fn base(alloc: Global) -> Result<State, Fault> {
 
 /// It is evicted.
 fn entries(alloc: Global) -> Result<Vec<Entry>, Fault> {
-    let key = key(alloc)?;
+    let key = key_of(alloc, "orders", "a-1")?;
     let mut keys = Vec::new(alloc);
     keys.push(key)?;
     let Some(moment) = Moment::new(2000) else {

@@ -3,7 +3,7 @@ ghost use Rattle.std.specs.Prelude.{◌≡◌};
 ghost use Rattle.eu_shared.specs.Shares.{HasNames, HasParts};
 
 use crate::tests::hands::{push, push_timers, work_through};
-use crate::tests::replicas::registers;
+use crate::tests::servers::registers;
 use eu_base::{Fault, Task};
 use eu_clock::{FirstChooser, ListClock};
 use eu_fixtures::settings;
@@ -325,7 +325,7 @@ fn register_client<K: Label, R: Wait>(
     shared: &Shared<K>,
 ) -> Result<(), Fault> {
     let mut pass = shared.pass(rt, alloc)?;
-    let is_registered = registers(rt, shared, alloc, &mut pass);
+    let is_registered = registers(rt, shared, alloc, &mut pass, "i1");
     drop(pass);
     if is_registered {
         Ok(())

@@ -2,6 +2,7 @@
 ghost use Rattle.std.specs.Prelude.{◌≡◌};
 ghost use Rattle.eu_shared.specs.Shares.{HasNames, HasParts};
 
+use crate::tests::servers::registers;
 use crate::tests::turns::{done, held, is_accepted};
 use eu_base::{Config, Fault, Moment, Task};
 use eu_book::Book;
@@ -25,24 +26,6 @@ pub struct Open;
 impl Gate for Open {
     fn pass(&self, _who: u32, _point: Point) -> Go {
         Go::On
-    }
-}
-
-/// Whether a client registers A/i1 at the moment 0.
-pub fn registers<K: Label, R: Wait>(
-    rt: &R,
-    shared: &Shared<K>,
-    alloc: Global,
-    pass: &mut Pass<K>,
-) -> bool {
-    let Some(moment) = Moment::new(0) else {
-        return false;
-    };
-    match registration(alloc, "i1") {
-        Ok(command) => {
-            is_accepted(pass.ask(rt, shared, alloc, command, moment, &mut FirstChooser))
-        }
-        Err(_) => false,
     }
 }
 
@@ -80,7 +63,7 @@ fn replicate<K: Label, R: Wait>(
     peer: &mut InProcess<Book, ListClock>,
 ) -> Result<Ended, Fault> {
     let mut pass = site.shared.pass(site.rt, site.alloc)?;
-    if !registers(site.rt, site.shared, site.alloc, &mut pass)
+    if !registers(site.rt, site.shared, site.alloc, &mut pass, "i1")
         || !drains(site.rt, site.shared, site.alloc, &mut pass)
     {
         drop(pass);
@@ -217,7 +200,7 @@ fn turns_of<K: Label, R: Wait>(
 fn turns_at<K: Label, R: Wait>(site: &Site<'_, K, R, Open>) -> Result<(Ended, u64), Fault> {
     let (rt, shared) = (site.rt, site.shared);
     let mut pass = shared.pass(rt, site.alloc)?;
-    if !registers(rt, shared, site.alloc, &mut pass) {
+    if !registers(rt, shared, site.alloc, &mut pass, "i1") {
         drop(pass);
         return Err(Fault::OutOfMemory);
     }

@@ -102,7 +102,7 @@ fn held<K: Label, R: Wait>(rt: &R, alloc: Global, shared: &Shared<K>) -> Result<
 }
 
 /// Whether a client registers the instance of that id of A at the moment 0.
-fn registers<K: Label, R: Wait>(
+pub fn registers<K: Label, R: Wait>(
     rt: &R,
     shared: &Shared<K>,
     alloc: Global,

@@ -2,8 +2,8 @@
 ghost use Rattle.std.specs.Prelude.{◌≡◌};
 ghost use Rattle.eu_shared.specs.Shares.{HasNames, HasParts};
 
-use crate::tests::replicas::{registers, server};
-use crate::tests::servers::clock;
+use crate::tests::replicas::server;
+use crate::tests::servers::{clock, registers};
 use eu_base::{Config, Fault};
 use eu_book::Book;
 use eu_clock::{FirstChooser, ListClock};
@@ -68,7 +68,7 @@ fn make_stale<K: Label, R: Wait>(
     site: &Site<'_, K, R, Twice>,
     pass: &mut Pass<K>,
 ) -> Result<u64, Fault> {
-    if !registers(site.rt, site.shared, site.alloc, pass) {
+    if !registers(site.rt, site.shared, site.alloc, pass, "i1") {
         return Err(Fault::OutOfMemory);
     }
     pass.checkpoint(site.rt, site.shared, site.alloc)?;

@@ -8,17 +8,17 @@
 
 mod arriving;
 mod hall;
+mod leaving;
 mod phase;
 mod place;
 #[cfg(test)]
 mod tests;
 mod trouble;
 mod unsent;
-mod writes;
 
 pub use arriving::Arriving;
 pub use hall::Hall;
+pub use leaving::{Leaving, Sent};
 pub use phase::{Awaited, Happened, PATIENCE, Patience, Phase};
 pub use place::{Place, Standing};
 pub use unsent::Unsent;
-pub use writes::Sent;

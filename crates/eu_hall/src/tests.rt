@@ -1,6 +1,6 @@
 //! Each public function on its way, with values that were worked out by hand.
 
-use crate::{Arriving, Awaited, Hall, Happened, PATIENCE, Phase, Sent, Unsent};
+use crate::{Arriving, Awaited, Hall, Happened, Leaving, PATIENCE, Phase, Sent, Unsent};
 use eu_stream::{Sink, Source};
 use std::alloc::Global;
 use std::io::{self, ErrorKind, Read, Write};
@@ -205,8 +205,12 @@ fn a_peer_that_is_always_interrupted_has_failed(rt: HostRuntime) -> Result<(), F
     let mut peer = Peer::new(rt.alloc(), &steps);
     let mut unsent = Unsent::new(rt.alloc());
     assert_eq!(rt; unsent.write_some(b"a"), Ok(1));
-    assert!(rt; unsent.send(&mut peer).is_err());
-    assert_eq!(rt; unsent.send(&mut peer), Ok(Sent::Waits));
+    let mut leaving = Leaving::new(&mut peer);
+    assert!(rt; unsent.send_to(&mut leaving).is_err());
+    assert!(rt; leaving.has_failed());
+    assert!(rt; !leaving.waits());
+    assert_eq!(rt; unsent.send_to(&mut leaving), Ok(Sent::Waits));
+    assert!(rt; leaving.waits());
     assert_eq!(rt; unsent.len(), 1);
     Ok(())
 }

@@ -1,10 +1,10 @@
 //! What is to be sent to a peer.
 ghost use Rattle.std.specs.Prelude.{◌≡◌, ◌≤◌, ◌<◌, ◌↔◌, ◌++◌, ◌==◌, [], Some, Ok, true, false, drop, length, take, vec_len, vec_capacity, IfOk, OnErr, OnOk};
 ghost use Rattle.std.specs.Io.KnownBytes.{Appends, Keeps};
-ghost use Rattle.eu_hall.specs.Leaving.{Goes};
+ghost use Rattle.eu_hall.specs.Sending.{Goes};
 ghost use Rattle.eu_hall.specs.Waiting.{IsLean, stream_of};
 
-use crate::writes::{Sent, write_front};
+use crate::leaving::{Leaving, Sent, write_front};
 use eu_stream::{Sink, WriteFault};
 use std::alloc::Global;
 use std::io::Write;
@@ -74,20 +74,36 @@ impl Unsent {
         self.bytes.capacity()
     }
 
-    /// Sends until nothing is left, or the writer would wait (`ErrorKind::WouldBlock`), and tells which of the two it was. What the writer took is unsent
-    /// no more, and everything else stays, in every case.
+    /// Sends until nothing is left, or the writer would wait, and tells which of the two it was. What the writer took is unsent no more, and everything
+    /// else stays, in every case.
     ///
     /// A write that a signal interrupts is made again, until it was made `MOST_TRIES` times. A `WriteFault` comes where a write fails otherwise, or takes
     /// none of some bytes, or was made that often.
+    pub fn send_to<W: Write>(&mut self, leaving: &mut Leaving<'_, W>) -> Result<Sent, WriteFault>
+        ensures bytes { Goes (W.contents leaving.old.writer.now) (W.contents leaving.new.writer.now) self.old.rest self.new.rest }
+        ensures all { (result ≡ Ok Sent.All) ↔ (self.new.rest ≡ []) }
+        ensures waits { result ≡ Ok Sent.Waits → leaving.new.waits ≡ true }
+        ensures sound { OnOk result (leaving.new.has_failed ≡ leaving.old.has_failed) }
+        ensures failed { OnErr result (leaving.new.has_failed ≡ true) }
+        ensures same_stream { leaving.new.writer.ghost_name ≡ leaving.old.writer.ghost_name }
+        ensures has_failed { self.new.has_failed ≡ self.old.has_failed }
+    {
+        let (count, sent) = write_front(leaving, &self.bytes[self.sent..]);
+        self.sent += count;
+        let_go(&mut self.bytes, &mut self.sent);
+        sent
+    }
+
+    /// Sends as `send_to` does, to any writer of std that never waits (`ErrorKind::WouldBlock` where it would).
+    ///
+    /// The contracts of std's traits don't tell when a write fails or would wait, so this one leaves open whether one did: `send_to` tells it exactly.
     pub fn send<W: Write>(&mut self, writer: &mut W) -> Result<Sent, WriteFault>
         ensures bytes { Goes (W.contents writer.old) (W.contents writer.new) self.old.rest self.new.rest }
         ensures all { (result ≡ Ok Sent.All) ↔ (self.new.rest ≡ []) }
         ensures has_failed { self.new.has_failed ≡ self.old.has_failed }
     {
-        let (count, sent) = write_front(writer, &self.bytes[self.sent..]);
-        self.sent += count;
-        let_go(&mut self.bytes, &mut self.sent);
-        sent
+        let mut leaving = Leaving::new(writer);
+        self.send_to(&mut leaving)
     }
 
     /// Appends all of the bytes. A `WriteFault` comes where no memory is left for them; that is remembered, and nothing else changes.

@@ -1,8 +1,8 @@
 use Rattle.std.proofs.Common.{◌≡◌, ℕ, ◌+◌, ◌-◌, ◌≤◌, List, [], ◌++◌, Option, length, take, drop, ap, sym, ◌∙◌, subst, refl, arith, length-drop, take-append-drop}
 use Rattle.std.proofs.lemmas.List.{take_all, drop_all, drop-drop, length-take}
 use Rattle.std.specs.Io.KnownBytes.{Appends}
-use Rattle.eu_hall.specs.Leaving.{Goes}
-use Rattle.eu_hall.proofs.unsent.Unsent.send.Goals as goal
+use Rattle.eu_hall.specs.Sending.{Goes}
+use Rattle.eu_hall.proofs.unsent.Unsent.send_to.Goals as goal
 
 -- the writer took so many of the bytes that weren't sent, and those after them are left
 goes : (old new : Option (List ℕ)) (items given before after : List ℕ) (sent count : ℕ) → given ≡ items → before ≡ drop sent items → after ≡ drop (sent + count) items → Appends old new (take count (take (length given - sent) (drop sent given))) → Goes old new before after

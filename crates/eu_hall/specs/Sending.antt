@@ -1,12 +1,12 @@
 -- What is to be sent, and what becomes of it.
-use Rattle.std.specs.Prelude.{◌≡◌, ℕ, ◌<◌, ◌≤◌, ◌==◌, ◌++◌, Bool, List, length, take, Option, Some, None, Result, Ok, Err, if◌then◌else◌}
+use Rattle.std.specs.Prelude.{◌≡◌, ℕ, ◌<◌, ◌≤◌, ◌==◌, ◌++◌, Bool, true, false, List, length, take, Option, Some, None, Result, Ok, Err, if◌then◌else◌}
 use Rattle.std.specs.IoError.{error_kind}
 use Rattle.std.specs.Io.KnownBytes.{Appends, Keeps}
 use Rattle.std.specs.declared.io.Error.{Error}
 use Rattle.eu_hall.specs.declared.trouble.Trouble.{Trouble}
 use Rattle.eu_hall.specs.declared.trouble.Trouble.TheVariants.{Again, Waits, Failed}
-use Rattle.eu_hall.specs.declared.writes.Written.{Written}
-use Rattle.eu_hall.specs.declared.writes.Written.TheVariants.{Took, Later, Fault}
+use Rattle.eu_hall.specs.declared.leaving.Written.{Written}
+use Rattle.eu_hall.specs.declared.leaving.Written.TheVariants.{Took, Later, Fault}
 use Rattle.eu_hall.specs.Troubles.{trouble_of}
 
 -- a write that came to that is made again, or is over
@@ -25,6 +25,14 @@ abbrev pub Writes : Option (List ℕ) → Option (List ℕ) → List ℕ → Wri
 Writes old new bytes (Took count) = (0 < count) × (count ≤ length bytes) × Appends old new (take count bytes)
 Writes old new bytes Later = Keeps old new
 Writes old new bytes Fault = Keeps old new
+
+abbrev pub is_later : Written → Bool
+is_later Later = true
+is_later _ = false
+
+abbrev pub is_fault : Written → Bool
+is_fault Fault = true
+is_fault _ = false
 
 -- some front of what was unsent went to the writer, and the rest of it is unsent still
 pub record Goes (old new : Option (List ℕ)) (before after : List ℕ) : Type 0 where

@@ -3,7 +3,7 @@ use Rattle.std.specs.Prelude.{ℕ, ◌+◌, ◌-◌, ◌^◌, ◌||◌, ◌&&◌
 use Rattle.eu_hall.specs.declared.phase.Phase.{Phase}
 use Rattle.eu_hall.specs.declared.phase.Phase.TheVariants.{Idle, Asking, Answering, Lingering}
 use Rattle.eu_hall.specs.declared.phase.Happened.{Happened}
-use Rattle.eu_hall.specs.declared.phase.Happened.TheVariants.{Nothing, Moved, Answered}
+use Rattle.eu_hall.specs.declared.phase.Happened.TheVariants.{Moved, Answered}
 use Rattle.eu_hall.specs.declared.phase.Patience.{Patience}
 use Rattle.eu_hall.specs.declared.phase.Awaited.{Awaited}
 

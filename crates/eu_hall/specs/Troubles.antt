@@ -1,8 +1,7 @@
 -- What an error of a reader or a writer means, and what is noted of it.
-use Rattle.std.specs.Prelude.{ℕ, Bool, true, false, Option, Some, None, Result, Ok, Err}
+use Rattle.std.specs.Prelude.{Bool, true, false}
 use Rattle.std.specs.declared.io.ErrorKind.{ErrorKind}
 use Rattle.std.specs.declared.io.ErrorKind.TheVariants.{Interrupted, WouldBlock}
-use Rattle.eu_stream.specs.declared.source.ReadFault.{ReadFault}
 use Rattle.eu_hall.specs.declared.trouble.Trouble.{Trouble}
 use Rattle.eu_hall.specs.declared.trouble.Trouble.TheVariants.{Again, Waits, Failed}
 

@@ -1,5 +1,5 @@
-use Rattle.std.proofs.Common.{◌≡◌, ℕ, ◌+◌, ◌-◌, ◌≤◌, List, [], ◌++◌, Option, length, take, drop, ap, sym, ◌∙◌, subst, refl, arith, length-drop, take-append-drop}
-use Rattle.std.proofs.lemmas.List.{take_all, drop_all, drop-drop, length-take}
+use Rattle.std.proofs.Common.{◌≡◌, ℕ, ◌+◌, ◌-◌, ◌≤◌, List, [], ◌++◌, Option, length, take, drop, ap, sym, ◌∙◌, subst, arith, length-drop, take-append-drop}
+use Rattle.std.proofs.lemmas.List.{take_all, drop_all, drop-drop}
 use Rattle.std.specs.Io.KnownBytes.{Appends}
 use Rattle.eu_hall.specs.Sending.{Goes}
 use Rattle.eu_hall.proofs.unsent.Unsent.send_to.Goals as goal

@@ -1,0 +1,146 @@
+//! What is to be sent to a peer.
+ghost use Rattle.std.specs.Prelude.{◌≡◌, ◌≤◌, ◌<◌, ◌↔◌, ◌++◌, ◌==◌, [], Some, Ok, true, false, drop, length, take, vec_len, vec_capacity, IfOk, OnErr, OnOk};
+ghost use Rattle.std.specs.Io.KnownBytes.{Appends, Keeps};
+ghost use Rattle.eu_hall.specs.Leaving.{Goes};
+ghost use Rattle.eu_hall.specs.Waiting.{IsLean, stream_of};
+
+use crate::writes::{Sent, write_front};
+use eu_stream::{Sink, WriteFault};
+use std::alloc::Global;
+use std::io::Write;
+use std::marker::Model;
+
+/// Bytes that are to be sent to a peer, first to last. As a `Sink` it takes whatever is written into it, and `send` passes it on to the peer, as far
+/// as that takes it. Contracts see the bytes that are still to be sent, and whether a write into it has failed.
+///
+/// Bytes that were sent keep their memory until all are; then none is held.
+#[derive(Debug, Drop)]
+pub struct Unsent {
+    bytes: Vec<u8>,
+    sent: usize,
+    has_failed: bool,
+}
+
+impl Model for Unsent {
+    ghost use Rattle.std.specs.Prelude.{drop, length, vec_capacity};
+    ghost use Rattle.eu_hall.specs.Waiting.{IsLean, Waiting};
+
+    ghost Value = { Waiting };
+
+    ghost view = { λ u. record { rest = drop u.sent u.bytes.items; has_failed = u.has_failed } };
+
+    ghost invariant = { λ u. IsLean (length u.bytes.items) u.sent (vec_capacity u.bytes) };
+}
+
+impl Unsent {
+    /// Nothing to be sent. Takes no memory.
+    pub fn new(alloc: Global) -> Unsent
+        ensures { result ≡ record { rest = []; has_failed = false } }
+    {
+        Unsent {
+            bytes: Vec::new(alloc),
+            sent: 0,
+            has_failed: false,
+        }
+    }
+
+    /// How many bytes are still to be sent.
+    pub fn len(&self) -> usize
+        ensures { result ≡ length self.now.rest }
+    {
+        self.bytes.len() - self.sent
+    }
+
+    /// Whether nothing is to be sent.
+    pub fn is_empty(&self) -> bool
+        ensures { result ≡ (length self.now.rest == 0) }
+    {
+        self.len() == 0
+    }
+
+    /// Whether a write into it has failed so far, for want of memory.
+    pub fn has_failed(&self) -> bool
+        ensures { result ≡ self.now.has_failed }
+    {
+        self.has_failed
+    }
+
+    /// How many bytes of memory it holds: none where nothing is to be sent.
+    pub fn memory(&self) -> usize
+        ensures least { length self.now.rest ≤ result }
+        ensures none { self.now.rest ≡ [] → result ≡ 0 }
+    {
+        let _sent = self.sent;
+        self.bytes.capacity()
+    }
+
+    /// Sends until nothing is left, or the writer would wait (`ErrorKind::WouldBlock`), and tells which of the two it was. What the writer took is unsent
+    /// no more, and everything else stays, in every case.
+    ///
+    /// A write that a signal interrupts is made again, until it was made `MOST_TRIES` times. A `WriteFault` comes where a write fails otherwise, or takes
+    /// none of some bytes, or was made that often.
+    pub fn send<W: Write>(&mut self, writer: &mut W) -> Result<Sent, WriteFault>
+        ensures bytes { Goes (W.contents writer.old) (W.contents writer.new) self.old.rest self.new.rest }
+        ensures all { (result ≡ Ok Sent.All) ↔ (self.new.rest ≡ []) }
+        ensures has_failed { self.new.has_failed ≡ self.old.has_failed }
+    {
+        let (count, sent) = write_front(writer, &self.bytes[self.sent..]);
+        self.sent += count;
+        let_go(&mut self.bytes, &mut self.sent);
+        sent
+    }
+
+    /// Appends all of the bytes. A `WriteFault` comes where no memory is left for them; that is remembered, and nothing else changes.
+    fn append(&mut self, bytes: &[u8]) -> Result<(), WriteFault>
+        ensures ok { OnOk result (self.new ≡ record self.old { rest = self.old.rest ++ bytes.now }) }
+        ensures err { OnErr result (self.new ≡ record self.old { has_failed = true }) }
+    {
+        let appended = self.bytes.extend_from_slice(bytes);
+        let_go(&mut self.bytes, &mut self.sent);
+        if appended.is_err() {
+            self.has_failed = true;
+            return Err(WriteFault);
+        }
+        Ok(())
+    }
+}
+
+/// A write appends all of the bytes. It fails only where no memory is left for them.
+impl Sink for Unsent {
+    ghost stream = { stream_of };
+
+    ghost contents = { λ u. Some u.rest };
+
+    ghost failed = { λ u. u.has_failed };
+
+    fn write_some(&mut self, bytes: &[u8]) -> Result<usize, WriteFault>
+        ensures bound { IfOk result (λ n. n ≤ length bytes.now) }
+        ensures some { IfOk result (λ n. 0 < length bytes.now → 0 < n) }
+        ensures bytes { IfOk result (λ n. Appends (Some self.old.rest) (Some self.new.rest) (take n bytes.now)) }
+        ensures sound { OnOk result (self.new.has_failed ≡ self.old.has_failed) }
+        ensures kept { OnErr result (Keeps (Some self.old.rest) (Some self.new.rest)) }
+        ensures failed { OnErr result (self.new.has_failed ≡ true) }
+        ensures same_stream { stream_of self.new ≡ stream_of self.old }
+        ensures all { IfOk result (λ n. n ≡ length bytes.now) }
+    {
+        self.append(bytes)?;
+        Ok(bytes.len())
+    }
+
+    fn flush(&mut self) -> Result<(), WriteFault> {
+        Ok(())
+    }
+}
+
+/// Lets go of the memory where all bytes are sent.
+fn let_go(bytes: &mut Vec<u8>, sent: &mut usize)
+    requires { sent.old ≤ length bytes.old.items }
+    ensures rest { drop sent.new bytes.new.items ≡ drop sent.old bytes.old.items }
+    ensures lean { IsLean (length bytes.new.items) sent.new (vec_capacity bytes.new) }
+{
+    if *sent == bytes.len() {
+        bytes.clear();
+        bytes.shrink_to_fit();
+        *sent = 0;
+    }
+}

@@ -1,61 +1,53 @@
-//! How many connections are still to be accepted.
-ghost use Rattle.std.specs.Prelude.{◌≡◌, ◌-◌, ◌==◌, ◌&&◌, not, false, true};
+//! How many connections came, and how many are open.
+ghost use Rattle.std.specs.Prelude.{◌≡◌, ◌+◌, ◌-◌, ◌<◌, ◌≤◌, ◌==◌, ◌&&◌, ◌||◌, not, false, true, min};
 
-/// What the session workers of a server share: how many connections are still to be accepted, whether accepting one has failed, and
-/// how many of the workers still look for one.
+/// How many connections a server still takes, how many are open, and how many of its loops work.
 #[derive(Clone, Copy, Debug, PartialEq, Eq)]
 pub struct Admission {
-    left: u32,
-    workers: u32,
-    failed: bool,
+    /// How many are still to be accepted.
+    pub left: u64,
+    /// How many have come, those that were refused included.
+    pub came: u64,
+    /// How many are open.
+    pub here: u64,
+    /// How many loops have not ended.
+    pub loops: u32,
+    /// No more are accepted.
+    pub is_closed: bool,
+    /// Accepting one has failed for good.
+    pub has_failed: bool,
 }
 
 impl Admission {
-    /// That of a server with so many connections to accept, and so many session workers.
-    pub fn new(sessions: u32, workers: u32) -> Admission
-        ensures { result ≡ record { left = sessions; workers = workers; failed = false } }
+    /// That of a server which takes so many connections and has so many loops.
+    pub fn new(sessions: u64, loops: u32) -> Admission
+        ensures { result ≡ record { left = sessions; came = 0; here = 0; loops = loops; is_closed = false; has_failed = false } }
     {
         Admission {
             left: sessions,
-            workers,
-            failed: false,
+            came: 0,
+            here: 0,
+            loops,
+            is_closed: false,
+            has_failed: false,
         }
     }
 
-    /// Whether a further connection is wanted: some are left, and accepting one hasn't failed.
-    pub fn is_open(&self) -> bool
-        ensures { result ≡ (not (self.now.left == 0) && not self.now.failed) }
-    {
-        self.left != 0 && !self.failed
-    }
-
-    /// Whether accepting a connection has failed.
-    pub fn has_failed(&self) -> bool
-        ensures { result ≡ self.now.failed }
-    {
-        self.failed
-    }
-
-    /// Counts a connection that was accepted.
-    pub fn admit(&mut self)
-        ensures { self.new ≡ record self.old { left = self.old.left - 1 } }
-    {
+    /// Counts one that has come.
+    pub fn admit(&mut self) {
         self.left = self.left.saturating_sub(1);
+        self.came = self.came.saturating_add(1);
+        self.here = self.here.saturating_add(1);
     }
 
-    /// Notes that accepting a connection has failed: no further one is wanted.
-    pub fn fail(&mut self)
-        ensures { self.new ≡ record self.old { failed = true } }
-    {
-        self.failed = true;
+    /// Counts one out.
+    pub fn let_out(&mut self) {
+        self.here = self.here.saturating_sub(1);
     }
 
-    /// Counts a worker out, who looks for no further connection, and tells whether it was the last one.
-    pub fn leave(&mut self) -> bool
-        ensures last { result ≡ (self.new.workers == 0) }
-        ensures out { self.new ≡ record self.old { workers = self.old.workers - 1 } }
-    {
-        self.workers = self.workers.saturating_sub(1);
-        self.workers == 0
+    /// Counts a loop out, and tells whether it was the last one.
+    pub fn end_loop(&mut self) -> bool {
+        self.loops = self.loops.saturating_sub(1);
+        self.loops == 0
     }
 }

@@ -1,16 +1,24 @@
-//! Connections as they are accepted and as they end, and the pace of a server's timers.
+//! A server's connections: a door that accepts them, loops in whose halls they wait, and a pool for requests that take long; and the pace of
+//! its timers.
 #![tactic(auto)]
 
-mod accepting;
-mod acceptor;
 mod admission;
 mod bell;
+mod door;
+mod hub;
+mod loops;
+mod mail;
 mod pace;
+mod pool;
+mod station;
 #[cfg(test)]
 mod tests;
 
-pub use acceptor::{
-    Acceptor, Connections, LINGER_BYTES, LINGER_MS, READ_TIMEOUT_MS, Timeouts, WRITE_TIMEOUT_MS,
-};
 pub use admission::Admission;
+pub use door::Door;
+pub use hub::{Hub, Limits};
+pub use loops::Loop;
+pub use mail::Mailbox;
 pub use pace::Pace;
+pub use pool::Pool;
+pub use station::{Hand, Station};

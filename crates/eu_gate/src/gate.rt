@@ -4,17 +4,20 @@ ghost use Rattle.std.specs.Prelude.{◌≡◌};
 /// The most session workers of a server. They have the numbers 1 to 16.
 pub const MOST_WORKERS: u32 = 16;
 
+/// The workers of sessions that a server has beside those: one that accepts connections, and two for requests that take long.
+pub const OTHER_WORKERS: u32 = 3;
+
 /// The number of the evictor.
-pub const EVICTOR: u32 = 17;
+pub const EVICTOR: u32 = 20;
 
 /// The number of the bucket's worker.
-pub const BUCKET: u32 = 18;
+pub const BUCKET: u32 = 21;
 
 /// The number of the threshold's worker.
-pub const THRESHOLD: u32 = 19;
+pub const THRESHOLD: u32 = 22;
 
 /// The number of the replicator of peer 0. That of peer `p` is greater by `p`.
-pub const FIRST_REPLICATOR: u32 = 20;
+pub const FIRST_REPLICATOR: u32 = 23;
 
 /// Where a worker stands.
 #[derive(Clone, Copy, Debug, PartialEq, Eq)]

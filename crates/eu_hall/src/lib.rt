@@ -7,6 +7,7 @@
 #![tactic(auto)]
 
 mod arriving;
+mod guest;
 mod hall;
 mod leaving;
 mod phase;
@@ -17,6 +18,7 @@ mod trouble;
 mod unsent;
 
 pub use arriving::Arriving;
+pub use guest::{Guest, Incoming, Left, Visit};
 pub use hall::Hall;
 pub use leaving::{Leaving, Sent};
 pub use phase::{Awaited, Happened, PATIENCE, Patience, Phase};

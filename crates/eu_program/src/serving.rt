@@ -1,15 +1,13 @@
 //! A server of the port that the options name.
 ghost use Rattle.std.specs.Prelude.{◌≡◌, ◌≢◌, ◌⊎◌, OnOk};
+ghost use Rattle.eu_accept.specs.Limits.{server_limits};
 
 use crate::end::End;
 use crate::files::create;
 use eu_base::{Config, Fault};
 use eu_clock::Chooser;
 use eu_options::Serving;
-use eu_server::{
-    BUCKET_MS, LINGER_BYTES, LINGER_MS, Plan, READ_TIMEOUT_MS, THRESHOLD_MS, WRITE_TIMEOUT_MS,
-    serve_by, serve_with_journal,
-};
+use eu_server::{BUCKET_MS, Plan, THRESHOLD_MS, serve_by, serve_with_journal};
 use eu_stream::Writing;
 use std::io;
 use std::net::{Ipv4Addr, Net, SocketAddr, TcpListener, TcpStream};
@@ -44,15 +42,20 @@ fn plan_of(config: Config, serving: Serving) -> Plan
     ensures workers { result.workers ≡ serving.workers }
     ensures sessions { result.sessions ≡ serving.sessions }
     ensures periods { result.periods ≡ record { evictor = config.evict_ms; bucket = BUCKET_MS; threshold = THRESHOLD_MS } }
-    ensures timeouts { result.timeouts ≡ record { read = READ_TIMEOUT_MS; write = WRITE_TIMEOUT_MS; linger = LINGER_MS; linger_bytes = LINGER_BYTES } }
+    ensures limits { result.limits ≡ server_limits }
 {
-    Plan::of_server(config, serving.expected, serving.workers, serving.sessions)
+    Plan::of_server(
+        config,
+        serving.expected,
+        serving.workers,
+        u64::from(serving.sessions),
+    )
 }
 
 /// Serves by a plan and writes the book's journal to that file, and gives the exit status. The file is created before a connection is
 /// taken.
 fn serve_to<
-    R: Threads + Wait + Clock + Files + Print + Eprint + AllocGlobal + Sync,
+    R: Threads + Wait + Clock + Net + Files + Print + Eprint + AllocGlobal + Sync,
     C: Chooser + Send + Drop,
 >(rt: &R, listener: &TcpListener, plan: &Plan, path: &str, chooser: C) -> u8
     ensures { (result ≡ 0) ⊎ (result ≡ 3) }

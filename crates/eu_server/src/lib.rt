@@ -4,6 +4,6 @@
 mod no_peer;
 mod serve;
 
-pub use eu_accept::{LINGER_BYTES, LINGER_MS, READ_TIMEOUT_MS, WRITE_TIMEOUT_MS};
+pub use eu_accept::Limits;
 pub use eu_gate::{BUCKET_MS, MOST_WORKERS, THRESHOLD_MS};
 pub use serve::{Finished, Plan, serve_book, serve_by, serve_with_journal};

@@ -4,6 +4,7 @@ ghost use Rattle.std.specs.Vec.{vec_capacity};
 ghost use Rattle.std.specs.Io.KnownBytes.{Appends, Keeps};
 ghost use Rattle.eu_book.specs.Account.{IsLawful};
 ghost use Rattle.eu_book.specs.Peers.{state_of};
+ghost use Rattle.eu_accept.specs.Limits.{server_limits};
 ghost use Rattle.eu_server.specs.Ends.{IsClose, IsEnd, IsStart};
 ghost use Rattle.eu_server.specs.Journal.{IsUntold, closed_text};
 ghost use Rattle.eu_server.specs.Served.{served_text};
@@ -14,23 +15,22 @@ ghost use Rattle.eu_shared.specs.Closing.{account_of};
 ghost use Rattle.eu_shared.specs.Shares.{HasNames, HasParts};
 
 use crate::no_peer::NoPeer;
-use eu_accept::{
-    Acceptor, Admission, Connections, LINGER_BYTES, LINGER_MS, READ_TIMEOUT_MS, Timeouts,
-    WRITE_TIMEOUT_MS,
-};
+use eu_accept::{Door, Hand, Hub, Limits, Loop, Station};
 use eu_base::{Config, Fault};
 use eu_clock::{Chooser, SystemClock};
-use eu_gate::{BUCKET_MS, MOST_WORKERS, Periods, THRESHOLD_MS};
+use eu_gate::{BUCKET_MS, MOST_WORKERS, OTHER_WORKERS, Periods, THRESHOLD_MS};
 use eu_journal_text::{WriteError, write_journal};
 use eu_routes::Routes;
 use eu_settle::{Closed, settle};
 use eu_shared::{Blanks, Label, PARTS, Pass, Shared, Unclosed, close};
 use eu_stream::Sink;
 use eu_workers::{Job, Site, Work, Worker, run_all};
+use mio::Poll;
 use std::alloc::Global;
+use std::io;
 use std::io::Write;
 use std::marker::Brand;
-use std::net::TcpListener;
+use std::net::{Net, TcpListener};
 use std::sync::Wait;
 use std::thread::Threads;
 use std::time::Clock;
@@ -45,24 +45,24 @@ pub struct Plan {
     pub config: Config,
     /// How many clients it expects at first.
     pub expected: u32,
-    /// How many connections it serves at once, 1 to 16; 0 counts as 1, and more than 16 as 16.
+    /// How many loops serve its connections, 1 to 16; 0 counts as 1, and more than 16 as 16.
     pub workers: u32,
     /// After how many connections it ends.
-    pub sessions: u32,
+    pub sessions: u64,
     /// The milliseconds between two turns of each timer; 0 counts as 1.
     pub periods: Periods,
-    /// For how many milliseconds it waits for a connection, and how much of one it drops at its end.
-    pub timeouts: Timeouts,
+    /// How many connections it has at most, and how long it waits for them.
+    pub limits: Limits,
 }
 
 impl Plan {
     /// That of an ordinary server with these settings, which expects so many clients, and serves so many connections by so many workers:
     /// its evictor takes a turn each `evict_ms` of the settings, the bucket ends a minute each `BUCKET_MS`, the threshold is updated each
-    /// `THRESHOLD_MS`, and its timeouts are `READ_TIMEOUT_MS`, `WRITE_TIMEOUT_MS`, `LINGER_MS` and `LINGER_BYTES`.
-    pub fn of_server(config: Config, expected: u32, workers: u32, sessions: u32) -> Plan
+    /// `THRESHOLD_MS`, and its limits are those of `Limits::of_server`.
+    pub fn of_server(config: Config, expected: u32, workers: u32, sessions: u64) -> Plan
         ensures settings { (result.config ≡ config) × (result.expected ≡ expected) × (result.workers ≡ workers) × (result.sessions ≡ sessions) }
         ensures periods { result.periods ≡ record { evictor = config.evict_ms; bucket = BUCKET_MS; threshold = THRESHOLD_MS } }
-        ensures timeouts { result.timeouts ≡ record { read = READ_TIMEOUT_MS; write = WRITE_TIMEOUT_MS; linger = LINGER_MS; linger_bytes = LINGER_BYTES } }
+        ensures limits { result.limits ≡ server_limits }
     {
         Plan {
             config,
@@ -70,7 +70,7 @@ impl Plan {
             workers,
             sessions,
             periods: Periods::of_server(config.evict_ms),
-            timeouts: Timeouts::of_server(),
+            limits: Limits::of_server(),
         }
     }
 }
@@ -83,22 +83,14 @@ fn workers_of(wanted: u32) -> u32
     wanted.clamp(1, MOST_WORKERS)
 }
 
-/// How many connections a server by this plan accepts, and how many workers look for them: as many as it has.
-fn admission_of(plan: &Plan) -> Admission
-    ensures { result ≡ record { left = plan.now.sessions; workers = max 1 (min plan.now.workers MOST_WORKERS); failed = false } }
-{
-    let workers = workers_of(plan.workers);
-    Admission::new(plan.sessions, workers)
-}
-
 /// A worker of a server, over a book that `K` names.
-type ServerWorker<'a, K, R, H> = Worker<K, Connections<'a, R>, SystemClock<'a, R>, H, NoPeer>;
+type ServerWorker<'a, K, R, H> = Worker<K, Station<'a, R>, SystemClock<'a, R>, H, NoPeer>;
 
 /// A worker that is ready for this work, in as many turns as can be counted.
 fn job<'a, K: Label, R: Wait + Clock, H: Chooser>(
     rt: &'a R,
     pass: Pass<K>,
-    work: Work<Connections<'a, R>, H, NoPeer>,
+    work: Work<Station<'a, R>, H, NoPeer>,
 ) -> ServerWorker<'a, K, R, H>
     ensures { IsReadyFor work.entry result }
 {
@@ -110,6 +102,14 @@ fn job<'a, K: Label, R: Wait + Clock, H: Chooser>(
     })
 }
 
+/// Whether a work asks so often that its log is to have its room at once.
+fn wants_log<R: Wait + Clock, H>(work: &Work<Station<'_, R>, H, NoPeer>) -> bool {
+    match work {
+        Work::Sessions { source } => source.visits(),
+        _ => false,
+    }
+}
+
 /// Adds a worker that is ready for this work, with a pass of its own. That of a worker of sessions has room in its log for a whole journal: else
 /// no heartbeat would be answered any more where memory is short and each log as long as its room. `OutOfMemory`, and the fault of `Shared::pass`.
 fn add<'a, K: Label, R: Wait + Clock, H: Chooser + Drop>(
@@ -117,33 +117,31 @@ fn add<'a, K: Label, R: Wait + Clock, H: Chooser + Drop>(
     rt: &'a R,
     alloc: Global,
     shared: &Shared<K>,
-    work: Work<Connections<'a, R>, H, NoPeer>,
+    work: Work<Station<'a, R>, H, NoPeer>,
 ) -> Result<(), Fault>
     ensures made { OnOk result ((worker : _) × IsReadyFor work.entry worker × (workers.new.items ≡ workers.old.items ++ worker ∷ [])) }
     ensures fault { IfErr result IsStart }
 {
     let mut pass = shared.pass(rt, alloc)?;
-    if matches!(work, Work::Sessions { .. }) {
+    if wants_log(&work) {
         pass.reserve_log()?;
     }
     workers.push(job(rt, pass, work))?;
     Ok(())
 }
 
-/// Adds so many workers of sessions. The faults are those of `add`.
+/// Adds a worker of sessions for each of these stations. The faults are those of `add`.
 fn add_sessions<'a, K: Label, R: Wait + Clock, H: Chooser + Drop>(
     workers: &mut Vec<ServerWorker<'a, K, R, H>>,
     rt: &'a R,
     alloc: Global,
     shared: &Shared<K>,
-    acceptor: &'a Acceptor<'a, R>,
-    count: u32,
+    stations: Vec<Station<'a, R>>,
 ) -> Result<(), Fault>
-    ensures made { OnOk result ((sessions : _) × AreSessions count sessions × (workers.new.items ≡ workers.old.items ++ sessions)) }
+    ensures made { OnOk result ((sessions : _) × AreSessions (vec_len stations) sessions × (workers.new.items ≡ workers.old.items ++ sessions)) }
     ensures fault { IfErr result IsStart }
 {
-    for _ in 0..count {
-        let source = Connections { acceptor };
+    for source in stations {
         add(workers, rt, alloc, shared, Work::Sessions { source })?;
     }
     Ok(())
@@ -165,76 +163,88 @@ fn add_timers<'a, K: Label, R: Wait + Clock, H: Chooser + Drop>(
     add(workers, rt, alloc, shared, Work::Threshold)
 }
 
-/// The workers of a server by this plan: those of sessions, and then those of the timers. `OutOfMemory`, and the fault of `Shared::pass`.
+/// The door of a server, its loops, which poll with these, and the two threads for requests that take long. An error is the system's or the clock's.
+fn make_stations<'a, R: Wait + Clock + Net>(
+    hub: &'a Hub<'a, R>,
+    listener: &TcpListener,
+    polls: Vec<Poll>,
+) -> io::Result<Vec<Station<'a, R>>> {
+    let mut stations = Vec::with_capacity(
+        hub.alloc,
+        polls.len().saturating_add(OTHER_WORKERS as usize),
+    )?;
+    stations.push(Station::Door(Door::new(hub, hub.rt, listener)?))?;
+    for (number, poll) in polls.into_iter().enumerate() {
+        stations.push(Station::Loop(Loop::new(hub, number, poll)?))?;
+    }
+    stations.push(Station::Pool(Hand::new(hub)))?;
+    stations.push(Station::Pool(Hand::new(hub)))?;
+    Ok(stations)
+}
+
+/// The workers of a server: those of sessions, one for each of these stations, and then those of the timers. `OutOfMemory`, and the fault of `Shared::pass`.
 fn make_workers<'a, K: Label, R: Wait + Clock, H: Chooser + Drop>(
     rt: &'a R,
     alloc: Global,
     shared: &Shared<K>,
-    acceptor: &'a Acceptor<'a, R>,
-    plan: &Plan,
+    stations: Vec<Station<'a, R>>,
     chooser: H,
 ) -> Result<Vec<ServerWorker<'a, K, R, H>>, Fault>
-    ensures staff { IfOk result (λ staff. IsStaff (max 1 (min plan.now.workers MOST_WORKERS)) chooser staff.items) }
+    ensures staff { IfOk result (λ staff. IsStaff (vec_len stations) chooser staff.items) }
     ensures fault { IfErr result IsStart }
 {
-    let count = workers_of(plan.workers);
-    let mut workers = Vec::with_capacity(alloc, count as usize + TIMERS)?;
-    add_sessions(&mut workers, rt, alloc, shared, acceptor, count)?;
+    let mut workers = Vec::with_capacity(alloc, stations.len().saturating_add(TIMERS))?;
+    add_sessions(&mut workers, rt, alloc, shared, stations)?;
     add_timers(&mut workers, rt, alloc, shared, chooser)?;
     Ok(workers)
 }
 
-/// Takes the passes back, into room that is there, and tells how many connections the workers of sessions served in all. Takes no memory.
+/// Takes the passes back, into room that is there. Takes no memory.
 fn gather<K: Label, R: Wait + Clock, H: Chooser + Drop>(
     workers: Vec<ServerWorker<'_, K, R, H>>,
     passes: &mut Vec<Pass<K>>,
-) -> u64
+)
     requires room { vec_len passes.old + vec_len workers ≤ vec_capacity passes.old }
 {
-    let mut served = 0u64;
     for worker in workers {
-        let Worker::Done(pass, ended, work) = worker else {
+        let Worker::Done(pass, _, work) = worker else {
             continue;
         };
-        if matches!(work, Work::Sessions { .. }) {
-            served = served.saturating_add(ended.turns);
-        }
         drop(work);
         passes.push_reserved(pass);
     }
-    served
 }
 
-/// Has all workers of a server by this plan work until the sessions have ended. Gives their passes, room for which is made before any
-/// works, and tells how many connections were served. `OutOfMemory`, and the faults of `make_workers`: all before any works.
+/// Has all workers of a server work until the sessions have ended. Gives their passes, room for which is made before any
+/// works. `OutOfMemory`, and the faults of `make_workers`: all before any works.
 fn run_workers<
     'a,
     K: Label + Send + Sync,
-    R: Threads + Wait + Clock + Sync,
+    R: Threads + Wait + Clock + Net + Sync,
     H: Chooser + Send + Drop,
 >(
     rt: &'a R,
     alloc: Global,
     shared: &'a Shared<K>,
-    acceptor: &'a Acceptor<'a, R>,
-    plan: &Plan,
+    hub: &'a Hub<'a, R>,
+    stations: Vec<Station<'a, R>>,
     chooser: H,
-) -> Result<(Vec<Pass<K>>, u64), Fault>
+) -> Result<Vec<Pass<K>>, Fault>
     ensures { IfErr result IsStart }
 {
     let routes = Routes::new(alloc)?;
-    let mut workers = make_workers(rt, alloc, shared, acceptor, plan, chooser)?;
+    let mut workers = make_workers(rt, alloc, shared, stations, chooser)?;
     let mut passes = Vec::with_capacity(alloc, workers.len())?;
     let site = Site {
         rt,
         alloc,
         shared,
         routes: &routes,
-        gate: &acceptor.pace,
+        gate: &hub.pace,
     };
     run_all(&site, workers.as_mut_slice());
-    let served = gather(workers, &mut passes);
-    Ok((passes, served))
+    gather(workers, &mut passes);
+    Ok(passes)
 }
 
 /// Gives a book back that was closed and is settled: the fault of the close where it wasn't closed, `Mismatch` where a worker didn't
@@ -281,14 +291,14 @@ pub struct Finished {
 /// a connection has failed or not. The faults are those of `run_workers` and `close_book`, never that of an accept.
 fn serve_and_close<
     K: Label + Send + Sync,
-    R: Threads + Wait + Clock + Sync,
+    R: Threads + Wait + Clock + Net + Sync,
     H: Chooser + Send + Drop,
 >(
     rt: &R,
     alloc: Global,
     shared: Shared<K>,
-    acceptor: &Acceptor<'_, R>,
-    plan: &Plan,
+    hub: &Hub<'_, R>,
+    stations: Vec<Station<'_, R>>,
     chooser: H,
 ) -> Result<Finished, Fault>
     ensures lawful { IfOk result (λ o. IsLawful (account_of o.closed)) }
@@ -296,8 +306,9 @@ fn serve_and_close<
     ensures settled { IfOk result (λ o. IsSettled o.closed.first o.closed.logs.items o.closed.entries.items) }
     ensures fault { IfErr result (λ f. IsStart f ⊎ IsClose f) }
 {
-    let (passes, served) = run_workers(rt, alloc, &shared, acceptor, plan, chooser)?;
+    let passes = run_workers(rt, alloc, &shared, hub, stations, chooser)?;
     let closed = close_book(shared, alloc, passes)?;
+    let served = hub.counts().came;
     Ok(Finished { served, closed })
 }
 
@@ -324,7 +335,7 @@ fn judge_accepts(has_failed: bool, outcome: Result<Finished, Fault>) -> Result<F
 /// do there, but for `Write`: nothing is written.
 pub fn serve_book<
     K: Label + Send + Sync,
-    R: Threads + Wait + Clock + Sync,
+    R: Threads + Wait + Clock + Net + Sync,
     H: Chooser + Send + Drop,
 >(
     rt: &R,
@@ -342,12 +353,16 @@ pub fn serve_book<
     ensures fault { IfErr result IsEnd }
 {
     let shared: Shared<K> = Shared::open(alloc, plan.config, plan.expected, 0, blanks)?;
-    let admission = admission_of(plan);
-    let Ok(acceptor) = Acceptor::new(rt, listener, admission, plan.periods, plan.timeouts) else {
+    let loops = workers_of(plan.workers);
+    let opened = Hub::open(rt, alloc, plan.limits, plan.periods, plan.sessions, loops);
+    let Ok((hub, polls)) = opened else {
         return Err(Fault::Read);
     };
-    let outcome = serve_and_close(rt, alloc, shared, &acceptor, plan, chooser);
-    judge_accepts(acceptor.has_failed(), outcome)
+    let Ok(stations) = make_stations(&hub, listener, polls) else {
+        return Err(Fault::Read);
+    };
+    let outcome = serve_and_close(rt, alloc, shared, &hub, stations, chooser);
+    judge_accepts(hub.counts().has_failed, outcome)
 }
 
 /// Writes how many connections were served. `Write` where that fails.
@@ -362,7 +377,7 @@ fn tell<W: Write>(writer: &mut W, served: u64) -> Result<(), Fault>
 }
 
 /// Serves by a plan as `serve_book` does, over a book of its own.
-fn serve_new<R: Threads + Wait + Clock + Sync, H: Chooser + Send + Drop>(
+fn serve_new<R: Threads + Wait + Clock + Net + Sync, H: Chooser + Send + Drop>(
     rt: &R,
     alloc: Global,
     listener: &TcpListener,
@@ -400,7 +415,7 @@ fn serve_new<R: Threads + Wait + Clock + Sync, H: Chooser + Send + Drop>(
 /// - `Write` where `served N` can't be written or flushed.
 ///
 /// In all cases but the last nothing is written.
-pub fn serve_by<R: Threads + Wait + Clock + Sync, H: Chooser + Send + Drop, W: Write>(
+pub fn serve_by<R: Threads + Wait + Clock + Net + Sync, H: Chooser + Send + Drop, W: Write>(
     rt: &R,
     alloc: Global,
     listener: &TcpListener,
@@ -459,7 +474,7 @@ fn flush<J: Sink>(journal: &mut J) -> Result<(), Fault>
 /// neither there nor of `served N`. `Write` comes also where a write or a flush of the journal failed, now or before: then a front of the
 /// text was written there, and nothing of `served N`. Where `Write` comes of `served N`, the text was written whole.
 pub fn serve_with_journal<
-    R: Threads + Wait + Clock + Sync,
+    R: Threads + Wait + Clock + Net + Sync,
     H: Chooser + Send + Drop,
     J: Sink,
     W: Write,

@@ -9,6 +9,9 @@ use Rattle.eu_http.specs.declared.exchange.Outcome.TheVariants.{Refused, Forbidd
 use Rattle.eu_session.specs.declared.faults.SessionFault.{SessionFault}
 use Rattle.eu_session.specs.declared.faults.SessionFault.TheVariants.{Read, Write, OutOfMemory}
 use Rattle.eu_model.specs.Chain.{Chain, Pairs}
+use Rattle.eu_session.specs.declared.talk.Turned.{Turned}
+use Rattle.eu_session.specs.declared.talk.Turned.TheVariants.{GoesOn, Ended}
+use Rattle.eu_session.specs.Talk.{Takes}
 use Rattle.eu_session.specs.Session.{Ends, Session, Streams, Standing, Turn, Step, ComesOf, DidNothing}
 
 module _ {D : Type 0} (asked : D → Ask → ℕ → Result Answer Fault → D → Type 0) (R : D → D → Type 0)
@@ -57,3 +60,10 @@ module _ {D : Type 0} (asked : D → Ask → ℕ → Result Answer Fault → D �
         on old.desk session.last.desk new.desk
         (turns_keep old session.last session.goes_on.turns session.goes_on.chain)
         (ends_keep session.n session.last _ (record s { before = session.held }) result session.ends)
+
+    -- a turn that stands apart
+    pub takes_keep : (n m : ℕ) (old new : Standing D C) (s : Streams) (ahead : List ℕ) (turned : Result Turned SessionFault)
+        → Takes asked tells n m old new s ahead turned → R old.desk new.desk
+    takes_keep n m old new s ahead (Ok GoesOn) takes = turns_keep old new takes.1.turns takes.1.chain
+    takes_keep n m old new s ahead (Ok (Ended k)) takes = ends_keep n old new s (Ok k) takes.1
+    takes_keep n m old new s ahead (Err fault) takes = ends_keep n old new s (Err fault) takes.2

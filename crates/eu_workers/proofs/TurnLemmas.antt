@@ -16,8 +16,10 @@ use Rattle.eu_peer.specs.Turns.{Parties, Turns}
 use Rattle.eu_peer.proofs.KeepLemmas.{turns_keep}
 use Rattle.eu_shared.specs.Seat.{PassAsks}
 use Rattle.eu_session.specs.declared.faults.SessionFault.{SessionFault}
-use Rattle.eu_session.specs.Session.{Session, Streams, Standing}
-use Rattle.eu_session.proofs.KeepLemmas.{session_keeps}
+use Rattle.eu_session.specs.declared.talk.Turned.{Turned}
+use Rattle.eu_session.specs.Session.{Streams, Standing}
+use Rattle.eu_session.specs.Talk.{Takes}
+use Rattle.eu_session.proofs.KeepLemmas.{takes_keep}
 use Rattle.eu_settle.specs.Settled.{from_first}
 use Rattle.eu_shared.specs.Passes.{PassAccount, trimmed}
 use Rattle.eu_shared.proofs.TrimLemmas.{from_nothing, from_first_on, from_later, trimmed_is}
@@ -138,14 +140,14 @@ takes_within n limit p q e takes few = record { within = (takes.within.0, omega 
 -- ---- by who asks for it: sessions, and turns for a peer, over whatever holds the pass
 
 module _ {D C : Type 0} (pass : D → PassAccount) (tells : C → ℕ → C → Type 0) where
-  pub asked_by_session : (old new : Standing D C) (s : Streams) (result : Result ℕ SessionFault)
-      → Session (λ s ask t r s'. PassAsks (pass s) ask t r (pass s')) tells old new s result → IsAsked (pass old.desk) (pass new.desk)
-  asked_by_session old new s result is =
-      session_keeps (λ s ask t r s'. PassAsks (pass s) ask t r (pass s')) (λ a b. IsAsked (pass a) (pass b))
+  pub asked_by_take : (n m : ℕ) (old new : Standing D C) (s : Streams) (ahead : List ℕ) (turned : Result Turned SessionFault)
+      → Takes (λ s ask t r s'. PassAsks (pass s) ask t r (pass s')) tells n m old new s ahead turned → IsAsked (pass old.desk) (pass new.desk)
+  asked_by_take n m old new s ahead turned is =
+      takes_keep (λ s ask t r s'. PassAsks (pass s) ask t r (pass s')) (λ a b. IsAsked (pass a) (pass b))
       (λ a b e. asked_nothing (pass a) (pass b) (ap pass e))
       (λ a b c. asked_more (pass a) (pass b) (pass c))
       (λ a ask t r b. asks (pass a) ask t r (pass b))
-      tells old new s result is
+      tells n m old new s ahead turned is
 
 pub asked_by_turn : {D P C : Type 0} (pass : D → PassAccount) (submits : P → List Task → Option (List ItemAnswer) → P → Type 0) (tells : C → ℕ → C → Type 0) (number : ℕ) (old new : Parties D P C) (result : Result Turn Fault)
     → Turns (λ s ask t r s'. PassAsks (pass s) ask t r (pass s')) submits tells number old result new → IsAsked (pass old.desk) (pass new.desk)

@@ -8,8 +8,10 @@ use crate::sessions::run_sessions;
 use crate::site::Site;
 use crate::timers::{run_bucket, run_evictor, run_threshold};
 use eu_clock::{Chooser, Clock};
-use eu_gate::{Gate, Incoming};
+use eu_gate::Gate;
+use eu_hall::Incoming;
 use eu_peer::Peer;
+use eu_session::Talk;
 use eu_shared::{Label, Pass};
 use std::mem;
 use std::sync::Wait;
@@ -107,7 +109,7 @@ fn number_all<K: Label, S: Drop, C: Drop, H: Drop, P: Drop>(workers: &mut [Worke
 }
 
 /// Does a work, turn after turn, to its end.
-fn take_turns<K: Label, R: Wait, G: Gate, S: Incoming, C: Clock, H: Chooser, P: Peer>(
+fn take_turns<K: Label, R: Wait, G: Gate, S: Incoming<Talk = Talk>, C: Clock, H: Chooser, P: Peer>(
     site: &Site<'_, K, R, G>,
     who: u32,
     work: &mut Work<S, H, P>,
@@ -133,7 +135,7 @@ fn run_worker<
     K: Label,
     R: Wait,
     G: Gate,
-    S: Incoming + Drop,
+    S: Incoming<Talk = Talk> + Drop,
     C: Clock + Drop,
     H: Chooser + Drop,
     P: Peer + Drop,
@@ -167,7 +169,7 @@ fn run_backwards<
     K: Label + Send + Sync,
     R: Threads + Wait + Sync,
     G: Gate + Sync,
-    S: Incoming + Send + Drop,
+    S: Incoming<Talk = Talk> + Send + Drop,
     C: Clock + Send + Drop,
     H: Chooser + Send + Drop,
     P: Peer + Send + Drop,
@@ -188,7 +190,7 @@ fn run_each<
     K: Label + Send + Sync,
     R: Threads + Wait + Sync,
     G: Gate + Sync,
-    S: Incoming + Send + Drop,
+    S: Incoming<Talk = Talk> + Send + Drop,
     C: Clock + Send + Drop,
     H: Chooser + Send + Drop,
     P: Peer + Send + Drop,
@@ -211,7 +213,7 @@ pub fn run_all<
     K: Label + Send + Sync,
     R: Threads + Wait + Sync,
     G: Gate + Sync,
-    S: Incoming + Send + Drop,
+    S: Incoming<Talk = Talk> + Send + Drop,
     C: Clock + Send + Drop,
     H: Chooser + Send + Drop,
     P: Peer + Send + Drop,

@@ -4,6 +4,7 @@
 mod all;
 mod ended;
 mod gated;
+mod long;
 mod replicator;
 mod sessions;
 mod site;
@@ -13,7 +14,8 @@ mod timers;
 
 pub use all::{Job, Work, Worker, run_all};
 pub use ended::Ended;
-pub use eu_gate::{Gate, Go, Incoming, Point};
+pub use eu_gate::{Gate, Go, Point};
+pub use eu_hall::{Guest, Happened, Incoming, Left, Phase, Unsent, Visit};
 pub use replicator::run_replicator;
 pub use sessions::run_sessions;
 pub use site::Site;

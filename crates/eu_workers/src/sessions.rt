@@ -1,68 +1,180 @@
-//! Workers that serve sessions.
+//! Workers that serve sessions, visit by visit.
 ghost use Rattle.std.specs.Prelude.{◌≡◌, ◌<◌, ◌⊎◌};
 ghost use Rattle.eu_workers.specs.Returned.{HasTurn, IsAsked, TakesTurns};
 
 use crate::ended::Ended;
 use crate::gated::{GatedSink, GatedSource};
+use crate::long::is_long;
 use crate::site::Site;
 use eu_clock::Clock;
-use eu_gate::{Gate, Go, Incoming, Point};
-use eu_session::{SessionFault, SessionRoom, serve_session};
+use eu_framing::{EMPTY_ROOM, Room};
+use eu_gate::{Gate, Go, Point};
+use eu_hall::{Guest, Happened, Incoming, Left, Phase, Sent, Visit};
+use eu_session::{SessionFault, Talk, Turned, take_turn};
 use eu_shared::{Label, Pass, Seat};
 use std::io::{Read, Write};
+use std::mem;
 use std::sync::Wait;
 
-/// Serves the session of one connection.
-fn serve<K: Label, R: Wait, G: Gate, C: Clock, I: Read, O: Write>(
+/// What a worker keeps from visit to visit, so that a connection that waits holds no memory for what is read of it.
+#[derive(Drop)]
+struct Workplace {
+    room: Room,
+    buffer: Vec<u8>,
+}
+
+/// Trades two buffers, if both are empty.
+fn lend(talk: &mut Talk, buffer: &mut Vec<u8>)
+    ensures { talk.new.buffer.items ≡ talk.old.buffer.items }
+{
+    if talk.buffer.is_empty() && buffer.is_empty() {
+        mem::swap(&mut talk.buffer, buffer);
+    }
+}
+
+/// What comes of one step of a visit.
+enum Step {
+    /// A request was answered, or the session has ended.
+    Answered,
+    /// The visit is over, and left the connection so.
+    Over(Left),
+}
+
+/// What is awaited of a peer, of whose session no more can be read now.
+fn phase_of(talk: &Talk) -> Phase {
+    if talk.buffer.is_empty() {
+        Phase::Idle
+    } else {
+        Phase::Asking
+    }
+}
+
+/// Takes one turn of the session of a connection.
+fn turn<K: Label, R: Wait, G: Gate, C: Clock, S: Read>(
     site: &Site<'_, K, R, G>,
     who: u32,
-    room: &mut SessionRoom,
+    room: &mut Room,
     seat: &mut Seat<'_, K, R>,
     clock: &mut C,
-    reader: &mut I,
-    writer: &mut O,
-) -> Result<u32, SessionFault>
+    guest: &mut Guest<S, Talk>,
+) -> Step
     ensures { IsAsked seat.old.pass seat.new.pass }
 {
-    let mut source = GatedSource::new(reader, site.gate, who);
-    let mut sink = GatedSink::new(writer, site.gate, who);
-    serve_session(
+    let mut source = GatedSource::new(&mut guest.socket, site.gate, who);
+    let mut sink = GatedSink::new(&mut guest.unsent, site.gate, who);
+    let turned = take_turn(
         site.alloc,
         site.routes,
         room,
+        &mut guest.talk,
         seat,
         clock,
         &mut source,
         &mut sink,
-    )
+    );
+    let waits = source.waits();
+    match turned {
+        Ok(Turned::GoesOn) => Step::Answered,
+        Err(SessionFault::Read) if waits => {
+            Step::Over(Left::Waits(phase_of(&guest.talk), Happened::Nothing))
+        }
+        Ok(Turned::Ended(_)) | Err(_) => {
+            guest.has_ended = true;
+            Step::Answered
+        }
+    }
 }
 
-/// A turn with a connection: serves its session, ends it, and trims the log of the pass. Tells what came of the session.
-fn turn<K: Label, R: Wait, G: Gate, S: Incoming, C: Clock>(
+/// Sends what is to be sent, and then takes one turn of the session of a connection, if it goes on.
+fn step<K: Label, R: Wait, G: Gate, C: Clock, S: Read + Write>(
     site: &Site<'_, K, R, G>,
     who: u32,
-    room: &mut SessionRoom,
+    room: &mut Room,
+    seat: &mut Seat<'_, K, R>,
+    clock: &mut C,
+    visit: &mut Visit<S, Talk>,
+) -> Step
+    ensures { IsAsked seat.old.pass seat.new.pass }
+{
+    let guest = &mut visit.guest;
+    let before = guest.unsent.len();
+    match guest.unsent.send(&mut guest.socket) {
+        Err(_) => return Step::Over(Left::Gone),
+        Ok(Sent::Waits) if guest.unsent.len() < before => {
+            return Step::Over(Left::Waits(Phase::Answering, Happened::Moved));
+        }
+        Ok(Sent::Waits) => return Step::Over(Left::Waits(Phase::Answering, Happened::Nothing)),
+        Ok(Sent::All) => {}
+    }
+    if guest.has_ended {
+        return Step::Over(Left::Waits(Phase::Lingering, Happened::Nothing));
+    }
+    if visit.leaves_long && is_long(guest.talk.buffer.as_slice()) {
+        return Step::Over(Left::Long);
+    }
+    turn(site, who, room, seat, clock, guest)
+}
+
+/// How a visit left a connection, at which a request was answered before.
+fn after_answers(left: Left) -> Left {
+    match left {
+        Left::Waits(phase, _) => Left::Waits(phase, Happened::Answered),
+        left => left,
+    }
+}
+
+/// Takes one turn after another of the session of a connection, each once the response before is sent, until a read or a write would
+/// wait, the session has ended, or it had its turns. Tells how that left the connection.
+fn serve<K: Label, R: Wait, G: Gate, C: Clock, S: Read + Write>(
+    site: &Site<'_, K, R, G>,
+    who: u32,
+    room: &mut Room,
+    seat: &mut Seat<'_, K, R>,
+    clock: &mut C,
+    visit: &mut Visit<S, Talk>,
+) -> Left
+    ensures { IsAsked seat.old.pass seat.new.pass }
+{
+    let mut has_answered = false;
+    for _turn in 0..visit.most_turns {
+        match step(site, who, room, seat, clock, visit) {
+            Step::Answered => has_answered = true,
+            Step::Over(left) if has_answered => return after_answers(left),
+            Step::Over(left) => return left,
+        }
+    }
+    Left::GoesOn
+}
+
+/// A turn of a worker: visits a connection, gives it back, and trims the log of the pass. Tells whether the connection goes on.
+fn visit<K: Label, R: Wait, G: Gate, S: Incoming<Talk = Talk>, C: Clock>(
+    site: &Site<'_, K, R, G>,
+    who: u32,
+    workplace: &mut Workplace,
     seat: &mut Seat<'_, K, R>,
     clock: &mut C,
     source: &mut S,
-    connection: (S::Reader, S::Writer),
-) -> Result<u32, SessionFault>
+    visit: Visit<S::Socket, Talk>,
+) -> Result<(), ()>
     ensures { HasTurn seat.old.pass seat.new.pass }
 {
-    let (mut reader, mut writer) = connection;
-    let served = serve(site, who, room, seat, clock, &mut reader, &mut writer);
-    source.end(reader, writer);
+    let mut visit = visit;
+    lend(&mut visit.guest.talk, &mut workplace.buffer);
+    let left = serve(site, who, &mut workplace.room, seat, clock, &mut visit);
+    lend(&mut visit.guest.talk, &mut workplace.buffer);
+    source.take_back(visit, left);
     seat.pass.trim();
-    served
+    if left == Left::Gone { Err(()) } else { Ok(()) }
 }
 
-/// Serves the sessions of one connection after the other, until there is none, the gate stops it or it had so many turns, and gives its
-/// pass back. `who` is the worker's number at the gate, 1 to 16.
+/// Visits one connection after the other, until there is none, the gate stops it or it had so many turns, and gives its pass back.
+/// `who` is the worker's number at the gate, 1 to 16.
 ///
-/// A turn passes the gate, takes the next connection, serves its session (`eu_session::serve_session`), ends the connection and trims
-/// the log of the pass (`Pass::trim`). Each read of the connection passes the gate first, and fails where that says `Stop`; and each
-/// response passes it before it is flushed. A session that ended by a fault is counted as refused, and the next one follows.
-pub fn run_sessions<K: Label, R: Wait, G: Gate, S: Incoming, C: Clock>(
+/// A turn passes the gate, takes the next connection for which there is something to do, sends what is to be sent of it, takes turns of
+/// its session (`eu_session::take_turn`), gives it back, and trims the log of the pass (`Pass::trim`). Each read of the connection passes
+/// the gate first, and fails where that says `Stop`; and each response passes it before it is flushed. A connection that has failed is
+/// counted as refused, and the next one follows.
+pub fn run_sessions<K: Label, R: Wait, G: Gate, S: Incoming<Talk = Talk>, C: Clock>(
     site: &Site<'_, K, R, G>,
     who: u32,
     pass: Pass<K>,
@@ -78,7 +190,10 @@ pub fn run_sessions<K: Label, R: Wait, G: Gate, S: Incoming, C: Clock>(
         shared: site.shared,
         rt: site.rt,
     };
-    let mut room = SessionRoom::new(site.alloc);
+    let mut workplace = Workplace {
+        room: EMPTY_ROOM,
+        buffer: Vec::new(site.alloc),
+    };
     let mut ended = Ended::default();
     for _turn in 0..limit {
         if site.gate.pass(who, Point::Turn) == Go::Stop {
@@ -87,8 +202,16 @@ pub fn run_sessions<K: Label, R: Wait, G: Gate, S: Incoming, C: Clock>(
         let Some(connection) = source.next() else {
             break;
         };
-        let served = turn(site, who, &mut room, &mut seat, clock, source, connection);
-        ended.count(&served);
+        let goes_on = visit(
+            site,
+            who,
+            &mut workplace,
+            &mut seat,
+            clock,
+            source,
+            connection,
+        );
+        ended.count(&goes_on);
     }
     let Seat {
         pass,

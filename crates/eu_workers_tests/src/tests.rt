@@ -10,3 +10,4 @@ mod timers;
 mod trims;
 mod turns;
 mod victims;
+mod visits;

@@ -1,7 +1,7 @@
-//! Connections as they are accepted, and timers by their pace.
+//! Timers by their pace.
 
-use eu_accept::{Acceptor, Admission, Connections, Pace, Timeouts};
-use eu_gate::{BUCKET, EVICTOR, Gate, Go, Incoming, Periods, Point, THRESHOLD};
+use eu_accept::Pace;
+use eu_gate::{BUCKET, EVICTOR, Gate, Go, Periods, Point, THRESHOLD};
 use std::io::ErrorKind;
 use std::net::{Net, TcpListener, TcpStream};
 use std::sync::Wait;
@@ -10,77 +10,6 @@ use std::test::Fail;
 use std::thread::Threads;
 use std::time::{Clock, Duration, Instant};
 use std::{io, thread};
-
-/// How long a connection waits for a read and for a write, and how much longer it may, in milliseconds: the system rounds short times up to its
-/// ticks. Either may be longer than the other, and both longer than those of a server. A time of 0 counts as 1: where it counted as none, no
-/// connection could be prepared, and each would be passed over.
-const TIMEOUTS: [(u64, u64, u64); 5] = [
-    (2_000, 3_000, 0),
-    (3_000, 2_000, 0),
-    (20_000, 30_000, 0),
-    (30_000, 20_000, 0),
-    (0, 0, 20),
-];
-
-/// Whether a time is so long, or longer by so much at most.
-fn is_near(time: Option<Duration>, ms: u64, more: u64) -> bool {
-    let least = Duration::from_millis(ms);
-    time.is_some_and(|time| time >= least
-        && time <= least.saturating_add(Duration::from_millis(more)))
-}
-
-/// Whether a connection sends each response at once, and waits so long for a read and for a write.
-fn is_prepared(stream: &TcpStream, timeouts: (u64, u64, u64)) -> io::Result<bool> {
-    let (read, write, more) = timeouts;
-    let waits = is_near(stream.read_timeout()?, read, more)
-        && is_near(stream.write_timeout()?, write, more);
-    Ok(waits && stream.nodelay()?)
-}
-
-/// The next connection of a listener, if it is prepared with such timeouts of a read and a write.
-fn next_prepared<R: Wait + Clock>(
-    rt: &R,
-    listener: &TcpListener,
-    read: u64,
-    write: u64,
-) -> io::Result<Option<(TcpStream, TcpStream)>> {
-    let timeouts = Timeouts {
-        read,
-        write,
-        ..Timeouts::of_server()
-    };
-    let periods = Periods::of_server(60_000);
-    let acceptor = Acceptor::new(rt, listener, Admission::new(1, 1), periods, timeouts)?;
-    let mut connections = Connections {
-        acceptor: &acceptor,
-    };
-    Ok(connections.next())
-}
-
-/// Whether both sides of a listener's next connection are prepared with such timeouts.
-fn prepares<R: Wait + Clock + Net<Listener = TcpListener, Stream = TcpStream>>(
-    rt: &R,
-    timeouts: (u64, u64, u64),
-) -> io::Result<bool> {
-    let listener = TcpListener::bind(rt, "127.0.0.1:0")?;
-    let client = TcpStream::connect(rt, listener.local_addr()?)?;
-    let next = next_prepared(rt, &listener, timeouts.0, timeouts.1)?;
-    drop(client);
-    match next {
-        Some((reader, writer)) => {
-            Ok(is_prepared(&reader, timeouts)? && is_prepared(&writer, timeouts)?)
-        }
-        None => Ok(false),
-    }
-}
-
-#[test]
-fn a_connection_is_prepared(rt: HostRuntime) -> Result<(), Fail> {
-    for timeouts in &TIMEOUTS {
-        assert!(rt; prepares(&rt, *timeouts)?, "{timeouts:?}");
-    }
-    Ok(())
-}
 
 #[test]
 fn timers_are_paced_until_the_sessions_end(rt: HostRuntime) -> Result<(), Fail> {

@@ -1,11 +1,12 @@
 //! Servers of a few sessions, with a client in the same process.
 use crate::tests::client::{Client, Step, Text};
 use crate::tests::journals::is_journal;
-use eu_accept::Timeouts;
+use eu_accept::Limits;
 use eu_base::{Config, Fault, Key};
 use eu_clock::FirstChooser;
 use eu_fixtures::{LAST_MISSING, REGISTRATION as INSTANCE, settings};
 use eu_gate::Periods;
+use eu_hall::Patience;
 use eu_server::{Finished, Plan, serve_book, serve_by, serve_with_journal};
 use eu_shared::Blanks;
 use eu_stream::Writing;
@@ -151,7 +152,7 @@ pub fn plays<R: Threads + Wait + Clock + Sync + Net<Listener = TcpListener, Stre
 
 /// For how many milliseconds a server waits for a read, for a write and for all that comes after the last response, and how many bytes of
 /// that it drops.
-pub type Waits = (u64, u64, u64, usize);
+pub type Waits = (u32, u32, u32, usize);
 
 pub const USUAL: Waits = (10_000, 1_000, 100, 65_536);
 
@@ -165,16 +166,22 @@ pub fn plan(sessions: u32, workers: u32, waits: Waits) -> Result<Plan, Fault> {
         config: settings()?,
         expected: 1,
         workers,
-        sessions,
+        sessions: u64::from(sessions),
         periods: Periods {
             evictor: 1,
             bucket: 1,
             threshold: 1,
         },
-        timeouts: Timeouts {
-            read,
-            write,
-            linger,
+        limits: Limits {
+            connections: 100,
+            bytes: 16_777_216,
+            patience: Patience {
+                idle: read,
+                request: read,
+                progress: write,
+                response: 60_000,
+                linger,
+            },
             linger_bytes,
         },
     })
@@ -512,7 +519,12 @@ const ORDINARY: [Ordinary; 3] = [
 #[test]
 fn a_server_has_the_settings_that_it_is_given(rt: HostRuntime) -> Result<(), Fail> {
     for (settings, expected, workers, sessions, steps) in &ORDINARY {
-        let plan = Plan::of_server(config(*settings)?, *expected, *workers, *sessions);
+        let plan = Plan::of_server(
+            config(*settings)?,
+            *expected,
+            *workers,
+            u64::from(*sessions),
+        );
         assert!(rt;
             plays(&rt, rt.alloc(), &plan, Way::Served, steps)?,
             "expects {expected}"

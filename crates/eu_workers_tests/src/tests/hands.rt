@@ -3,6 +3,7 @@ use eu_base::Fault;
 use eu_clock::{FirstChooser, ListClock};
 use eu_peer::Peer;
 use eu_routes::Routes;
+use eu_session::Talk;
 use eu_shared::{Label, Pass, Shared};
 use eu_workers::{Gate, Incoming, Job, Site, Work, Worker, run_all};
 use std::alloc::Global;
@@ -63,7 +64,7 @@ pub fn work_through<
     K: Label + Send + Sync,
     R: Threads + Wait + Sync,
     G: Gate + Sync,
-    S: Incoming + Send + Drop,
+    S: Incoming<Talk = Talk> + Send + Drop,
     P: Peer + Send + Drop,
 >(
     rt: &R,

@@ -4,13 +4,15 @@ ghost use Rattle.eu_shared.specs.Shares.{HasNames, HasParts};
 
 use crate::tests::hands::{push, push_timers, work_through};
 use crate::tests::servers::registers;
+use crate::tests::visits::{Sides, visit};
 use eu_base::{Fault, Task};
 use eu_clock::{FirstChooser, ListClock};
 use eu_fixtures::settings;
 use eu_model::Command;
 use eu_peer::{ItemAnswer, Lost, Peer};
+use eu_session::Talk;
 use eu_shared::{Blanks, Label, PARTS, Pass, Shared};
-use eu_workers::{Ended, Gate, Go, Incoming, Point, Work, Worker};
+use eu_workers::{Ended, Gate, Go, Incoming, Left, Point, Visit, Work, Worker};
 use std::alloc::Global;
 use std::io::{self, ErrorKind, Write};
 use std::marker::Brand;
@@ -21,14 +23,14 @@ use std::thread::Threads;
 
 const LISTING: &[u8] = b"GET /eureka/apps/ HTTP/1.1\r\nHost: x\r\n\r\n";
 
-/// A gate that says `Stop` at one point, and counts who passes each, and the flushes that came before it was passed for them.
+/// A gate that says `Stop` at one point, and counts who passes each, and the writes that came before it was passed for them.
 #[derive(Drop)]
 struct Counting<'a> {
     stops: Option<Point>,
     turns: AtomicU64,
     reads: AtomicU64,
     replies: AtomicU64,
-    flushes: &'a AtomicU64,
+    writes: &'a AtomicU64,
     early: AtomicU64,
 }
 
@@ -36,11 +38,11 @@ struct Counting<'a> {
 fn digit(who: u32) -> u64 {
     match who {
         1 => 1,
-        17 => 10,
-        18 => 100,
-        19 => 1_000,
-        20 => 10_000,
-        27 => 100_000,
+        20 => 10,
+        21 => 100,
+        22 => 1_000,
+        23 => 10_000,
+        30 => 100_000,
         _ => 1_000_000,
     }
 }
@@ -59,8 +61,8 @@ impl Gate for Counting<'_> {
     fn pass(&self, who: u32, point: Point) -> Go {
         self.count(point).fetch_add(digit(who), Ordering::SeqCst);
         if point == Point::Replied {
-            let flushes = self.flushes.load(Ordering::SeqCst);
-            self.early.fetch_add(flushes, Ordering::SeqCst);
+            let writes = self.writes.load(Ordering::SeqCst);
+            self.early.fetch_add(writes, Ordering::SeqCst);
         }
         if self.stops == Some(point) {
             Go::Stop
@@ -70,13 +72,12 @@ impl Gate for Counting<'_> {
     }
 }
 
-/// A writer that keeps what it is given until it is flushed, or that is broken.
+/// A writer that keeps what it is given, or that is broken.
 #[derive(Drop)]
 struct Keeping<'a> {
     kept: Vec<u8>,
-    is_flushed: bool,
     is_broken: bool,
-    flushes: &'a AtomicU64,
+    writes: &'a AtomicU64,
 }
 
 impl Write for Keeping<'_> {
@@ -84,14 +85,12 @@ impl Write for Keeping<'_> {
         if self.is_broken {
             return Err(io::Error::from(ErrorKind::BrokenPipe));
         }
+        self.writes.fetch_add(1, Ordering::SeqCst);
         self.kept.extend_from_slice(bytes)?;
-        self.is_flushed = false;
         Ok(bytes.len())
     }
 
     fn flush(&mut self) -> io::Result<()> {
-        self.flushes.fetch_add(1, Ordering::SeqCst);
-        self.is_flushed = true;
         Ok(())
     }
 }
@@ -99,25 +98,31 @@ impl Write for Keeping<'_> {
 /// One connection, on which a listing is asked for; counts of those that were taken, of those that ended, and of those that were answered.
 #[derive(Drop)]
 struct Once<'a> {
-    connection: Option<(&'static [u8], Keeping<'a>)>,
+    connection: Option<Visit<Sides<&'static [u8], Keeping<'a>>, Talk>>,
     taken: &'a AtomicU64,
     ended: &'a AtomicU64,
     answered: &'a AtomicU64,
 }
 
 impl<'a> Incoming for Once<'a> {
-    type Reader = &'static [u8];
+    type Socket = Sides<&'static [u8], Keeping<'a>>;
 
-    type Writer = Keeping<'a>;
+    type Talk = Talk;
 
-    fn next(&mut self) -> Option<(&'static [u8], Keeping<'a>)> {
+    fn next(&mut self) -> Option<Visit<Sides<&'static [u8], Keeping<'a>>, Talk>> {
         self.taken.fetch_add(1, Ordering::SeqCst);
         self.connection.take()
     }
 
-    fn end(&mut self, _reader: &'static [u8], writer: Keeping<'a>) {
+    fn take_back(&mut self, visit: Visit<Sides<&'static [u8], Keeping<'a>>, Talk>, _left: Left) {
         self.ended.fetch_add(1, Ordering::SeqCst);
-        if writer.is_flushed && writer.kept.starts_with(b"HTTP/1.1 200 OK") {
+        if visit
+            .guest
+            .socket
+            .writer
+            .kept
+            .starts_with(b"HTTP/1.1 200 OK")
+        {
             self.answered.fetch_add(1, Ordering::SeqCst);
         }
     }
@@ -146,7 +151,7 @@ struct Counts {
     taken: AtomicU64,
     ended: AtomicU64,
     answered: AtomicU64,
-    flushes: AtomicU64,
+    writes: AtomicU64,
     sent: AtomicU64,
 }
 
@@ -209,12 +214,15 @@ fn push_replicators<'a, K: Label, R: Wait>(
 fn connection(alloc: Global, counts: &Counts, is_broken: bool) -> Once<'_> {
     let writer = Keeping {
         kept: Vec::new(alloc),
-        is_flushed: false,
         is_broken,
-        flushes: &counts.flushes,
+        writes: &counts.writes,
+    };
+    let sides = Sides {
+        reader: LISTING,
+        writer,
     };
     Once {
-        connection: Some((LISTING, writer)),
+        connection: Some(visit(alloc, sides, 8)),
         taken: &counts.taken,
         ended: &counts.ended,
         answered: &counts.answered,
@@ -346,7 +354,7 @@ fn work_after<K: Label + Send + Sync, R: Threads + Wait + Sync>(
         taken: AtomicU64::new(0),
         ended: AtomicU64::new(0),
         answered: AtomicU64::new(0),
-        flushes: AtomicU64::new(0),
+        writes: AtomicU64::new(0),
         sent: AtomicU64::new(0),
     };
     let gate = Counting {
@@ -354,7 +362,7 @@ fn work_after<K: Label + Send + Sync, R: Threads + Wait + Sync>(
         turns: AtomicU64::new(0),
         reads: AtomicU64::new(0),
         replies: AtomicU64::new(0),
-        flushes: &counts.flushes,
+        writes: &counts.writes,
         early: AtomicU64::new(0),
     };
     work(rt, alloc, shared, &gate, &counts, trouble.is_broken)
@@ -381,7 +389,7 @@ fn ran<R: Threads + Wait + Sync>(rt: &R, alloc: Global, trouble: Trouble) -> Res
 }
 
 /// What they do where nothing stops them: each passes the gate before its turn, the session before each of its two reads, of which the
-/// second finds the end, and once before its response is flushed, before which no flush came.
+/// second finds the end, and once before its response is sent, before which no write came.
 const ALL: Told = Told {
     turns: 111_111,
     reads: 2,

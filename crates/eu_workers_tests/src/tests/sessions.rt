@@ -3,13 +3,15 @@ ghost use Rattle.std.specs.Prelude.{◌≡◌};
 ghost use Rattle.eu_shared.specs.Shares.{HasNames, HasParts};
 
 use crate::tests::hands::{push, push_timers, work_through};
+use crate::tests::visits::{Sides, visit};
 use eu_base::{Fault, Task};
 use eu_clock::{FirstChooser, ListClock};
 use eu_fixtures::{REGISTERED, settings};
 use eu_peer::{ItemAnswer, Lost, Peer};
+use eu_session::Talk;
 use eu_settle::{Closed, settle};
 use eu_shared::{Blanks, Label, PARTS, Pass, Shared, close};
-use eu_workers::{Ended, Gate, Go, Incoming, Point, Work, Worker};
+use eu_workers::{Ended, Gate, Go, Incoming, Left, Point, Visit, Work, Worker};
 use std::alloc::Global;
 use std::io::{self, Read};
 use std::marker::Brand;
@@ -97,22 +99,22 @@ impl Read for Pieces {
 /// One connection, whose answers are to be these; a count of those that were.
 #[derive(Drop)]
 struct Once<'a> {
-    connection: Option<(Pieces, Vec<u8>)>,
+    connection: Option<Visit<Sides<Pieces, Vec<u8>>, Talk>>,
     answer: &'static str,
     answered: &'a AtomicU64,
 }
 
 impl Incoming for Once<'_> {
-    type Reader = Pieces;
+    type Socket = Sides<Pieces, Vec<u8>>;
 
-    type Writer = Vec<u8>;
+    type Talk = Talk;
 
-    fn next(&mut self) -> Option<(Pieces, Vec<u8>)> {
+    fn next(&mut self) -> Option<Visit<Sides<Pieces, Vec<u8>>, Talk>> {
         self.connection.take()
     }
 
-    fn end(&mut self, _reader: Pieces, writer: Vec<u8>) {
-        if writer.as_slice() == self.answer.as_bytes() {
+    fn take_back(&mut self, visit: Visit<Sides<Pieces, Vec<u8>>, Talk>, _left: Left) {
+        if visit.guest.socket.writer.as_slice() == self.answer.as_bytes() {
             self.answered.fetch_add(1, Ordering::SeqCst);
         }
     }
@@ -129,9 +131,13 @@ fn serving<'a>(
         first: first.as_bytes(),
         second: second.as_bytes(),
     };
+    let sides = Sides {
+        reader: pieces,
+        writer: Vec::new(alloc),
+    };
     Work::Sessions {
         source: Once {
-            connection: Some((pieces, Vec::new(alloc))),
+            connection: Some(visit(alloc, sides, 8)),
             answer,
             answered,
         },

@@ -4,16 +4,18 @@ ghost use Rattle.eu_shared.specs.Shares.{HasNames, HasParts};
 
 use crate::tests::replicas::server;
 use crate::tests::servers::{clock, registers};
+use crate::tests::visits::{Sides, visit};
 use eu_base::{Config, Fault};
 use eu_book::Book;
 use eu_clock::{FirstChooser, ListClock};
 use eu_fixtures::{RENEWAL, settings};
 use eu_in_process::InProcess;
 use eu_routes::Routes;
+use eu_session::Talk;
 use eu_shared::{Blanks, Label, PARTS, Pass, Shared};
 use eu_workers::{
-    Ended, Gate, Go, Incoming, Point, Site, run_bucket, run_evictor, run_replicator, run_sessions,
-    run_threshold,
+    Ended, Gate, Go, Incoming, Point, Site, Visit, run_bucket, run_evictor, run_replicator,
+    run_sessions, run_threshold,
 };
 use std::alloc::Global;
 use std::marker::Brand;
@@ -114,18 +116,28 @@ struct Renewing<'a, K: Label, R: Wait> {
 }
 
 impl<K: Label, R: Wait> Incoming for Renewing<'_, K, R> {
-    type Reader = &'static [u8];
+    type Socket = Sides<&'static [u8], Vec<u8>>;
 
-    type Writer = Vec<u8>;
+    type Talk = Talk;
 
-    fn next(&mut self) -> Option<(&'static [u8], Vec<u8>)> {
+    fn next(&mut self) -> Option<Visit<Sides<&'static [u8], Vec<u8>>, Talk>> {
         self.other
             .checkpoint(self.rt, self.shared, self.alloc)
             .ok()?;
-        Some((RENEWAL.as_bytes(), Vec::new(self.alloc)))
+        let sides = Sides {
+            reader: RENEWAL.as_bytes(),
+            writer: Vec::new(self.alloc),
+        };
+        Some(visit(self.alloc, sides, 8))
     }
 
-    fn end(&mut self, _reader: &'static [u8], _writer: Vec<u8>) {}
+    fn take_back(
+        &mut self,
+        visit: Visit<Sides<&'static [u8], Vec<u8>>, Talk>,
+        _left: eu_workers::Left,
+    ) {
+        drop(visit);
+    }
 }
 
 /// What sessions over these connections leave.

@@ -1,5 +1,9 @@
-use Rattle.eu_workers.proofs.TurnLemmas.{asked_by_session}
+use Rattle.std.proofs.Common.{refl}
+use Rattle.eu_workers.proofs.TurnLemmas.{asked_more, asked_nothing}
 use Rattle.eu_workers.proofs.sessions.serve.Goals as goal
 
-pub returns : goal.returns
-returns g c = asked_by_session (λ s. s.pass) _ _ _ _ _ c.serve_session.ensures.session
+pub loop-turn-init : goal.loop-turn-init
+loop-turn-init g c = record { asked = asked_nothing _ _ refl }
+
+pub loop-turn-preserved : goal.loop-turn-preserved
+loop-turn-preserved g c = record { asked = asked_more _ _ _ c.loop-turn.invariant.asked c.step.ensures }

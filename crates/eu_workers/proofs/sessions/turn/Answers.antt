@@ -1,5 +1,5 @@
-use Rattle.eu_workers.proofs.TurnLemmas.{trims}
+use Rattle.eu_workers.proofs.TurnLemmas.{asked_by_take}
 use Rattle.eu_workers.proofs.sessions.turn.Goals as goal
 
 pub returns : goal.returns
-returns g c = (_, c.serve-served.ensures, trims _ _ c.trim.ensures)
+returns g c = asked_by_take (λ s. s.pass) _ _ _ _ _ _ _ _ c.take_turn.ensures.turn

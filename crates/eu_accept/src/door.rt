@@ -1,0 +1,155 @@
+//! The door of a server, at which connections are accepted.
+use crate::hub::Hub;
+use crate::mail::Mail;
+use mio::net::{TcpListener, TcpStream};
+use mio::{Events, Interest, Poll, Token};
+use std::io;
+use std::io::{ErrorKind, Write};
+use std::net::{self, Net, Shutdown};
+use std::sync::Wait;
+use std::time::{Clock, Duration};
+
+/// What a connection is told for which there is no room (RFC 9110, section 15.6.4).
+const FULL: &str =
+    "HTTP/1.1 503 Service Unavailable\r\nContent-Length: 0\r\nRetry-After: 30\r\nConnection: close\r\n\r\n";
+
+/// How long the door waits before it tries again what may have failed for want of descriptors, in milliseconds.
+const TICK_MS: u64 = 250;
+
+/// What an accept came to.
+enum Accepted {
+    /// A connection.
+    One(TcpStream),
+    /// None waits, or none can be accepted now.
+    Later,
+    /// It has failed for good.
+    Failed,
+}
+
+/// Accepts the connections of a server, and deals them to its loops in turn.
+#[derive(Drop)]
+pub struct Door<'a, R: Wait + Clock> {
+    hub: &'a Hub<'a, R>,
+    listener: TcpListener,
+    poll: Poll,
+    events: Events,
+    next: usize,
+}
+
+/// The errno of a process that has no descriptor left, and of a system that has none (accept(2) of Linux).
+const NO_DESCRIPTOR: [i32; 2] = [24, 23];
+
+/// Whether an accept that failed so is tried again (accept(2) of Linux, "Error handling").
+fn is_passing(error: &io::Error) -> bool {
+    match error.kind() {
+        ErrorKind::WouldBlock
+        | ErrorKind::ConnectionAborted
+        | ErrorKind::NetworkDown
+        | ErrorKind::NetworkUnreachable
+        | ErrorKind::HostUnreachable
+        | ErrorKind::Interrupted => true,
+        _ => match error.raw_os_error() {
+            Some(number) => NO_DESCRIPTOR.contains(&number),
+            None => false,
+        },
+    }
+}
+
+impl<'a, R: Wait + Clock> Door<'a, R> {
+    /// The door at a listener, which waits no more from now on. An error is the system's.
+    pub fn new(
+        hub: &'a Hub<'a, R>,
+        net: &impl Net,
+        listener: &net::TcpListener,
+    ) -> io::Result<Door<'a, R>> {
+        let listener = listener.try_clone()?;
+        listener.set_nonblocking(true)?;
+        let mut listener = TcpListener::from_std(listener);
+        let poll = Poll::new(net)?;
+        poll.registry()
+            .register(&mut listener, Token(0), Interest::READABLE)?;
+        Ok(Door {
+            hub,
+            listener,
+            poll,
+            events: Events::with_capacity(hub.alloc, 16)?,
+            next: 0,
+        })
+    }
+
+    /// Accepts one connection.
+    fn accept(&self) -> Accepted {
+        match self.listener.accept() {
+            Ok((stream, _)) => Accepted::One(stream),
+            Err(error) if is_passing(&error) => Accepted::Later,
+            Err(_) => Accepted::Failed,
+        }
+    }
+
+    /// Whether there is room for one more, which is counted.
+    fn admits(&self) -> bool {
+        let mut admission = self.hub.admission.lock(self.hub.rt);
+        let has_room = admission.here < self.hub.limits.connections as u64;
+        admission.admit();
+        has_room
+    }
+
+    /// Deals a connection to the next loop, or refuses it.
+    fn deal(&mut self, stream: TcpStream) {
+        let mut stream = stream;
+        let _ = stream.set_nodelay(true);
+        if !self.admits() {
+            let _ = stream.write(FULL.as_bytes());
+            let _ = stream.shutdown(Shutdown::Write);
+            self.hub.let_out();
+            return;
+        }
+        let count = self.hub.boxes.len().max(1);
+        let number = self.next % count;
+        self.next = (number + 1) % count;
+        let Some(mailbox) = self.hub.boxes.get(number) else {
+            return;
+        };
+        if mailbox.put(self.hub.rt, Mail::New(stream)).is_err() {
+            self.hub.let_out();
+        }
+    }
+
+    /// Whether a further connection is wanted.
+    fn is_open(&self) -> bool {
+        self.hub.admission.lock(self.hub.rt).left > 0
+    }
+
+    /// Accepts what waits. An error where accepting has failed for good.
+    fn accept_all(&mut self) -> Result<(), ()> {
+        'accepts: while self.is_open() {
+            match self.accept() {
+                Accepted::One(stream) => self.deal(stream),
+                Accepted::Later => return Ok(()),
+                Accepted::Failed => return Err(()),
+            }
+        }
+        Ok(())
+    }
+
+    /// Waits for connections, and accepts them.
+    fn round(&mut self) -> Result<(), ()> {
+        let time = Duration::from_millis(TICK_MS);
+        if self.poll.poll(&mut self.events, Some(time)).is_err() {
+            return Err(());
+        }
+        self.accept_all()
+    }
+
+    /// Accepts connections until as many came as are wanted, or accepting has failed for good.
+    pub(crate) fn run(&mut self) {
+        let mut has_failed = false;
+        for _ in self.hub.rt.forever() {
+            if has_failed || !self.is_open() {
+                break;
+            }
+            has_failed = self.round().is_err();
+        }
+        self.hub.close_door(has_failed);
+    }
+}

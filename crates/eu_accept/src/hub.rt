@@ -1,0 +1,128 @@
+//! What the threads of a server share beside the book.
+ghost use Rattle.std.specs.Prelude.{◌≡◌};
+ghost use Rattle.eu_accept.specs.Limits.{server_limits};
+
+use crate::admission::Admission;
+use crate::loops::WAKER;
+use crate::mail::Mailbox;
+use crate::pace::Pace;
+use crate::pool::Pool;
+use eu_gate::Periods;
+use eu_hall::{PATIENCE, Patience};
+use mio::{Poll, Waker};
+use std::alloc::Global;
+use std::io;
+use std::net::Net;
+use std::sync::{Mutex, Wait};
+use std::time::Clock;
+
+/// How many connections a server has, and how long it waits for them.
+#[derive(Clone, Copy, Debug, PartialEq, Eq)]
+pub struct Limits {
+    /// The most connections at once.
+    pub connections: usize,
+    /// The most bytes that are kept of connections which wait, in each loop.
+    pub bytes: usize,
+    /// How long a peer is awaited.
+    pub patience: Patience,
+    /// The most bytes that are read and dropped behind a session.
+    pub linger_bytes: usize,
+}
+
+impl Limits {
+    /// Those of a server: 10,000 connections, 64 MiB for each loop.
+    pub fn of_server() -> Limits
+        ensures { result ≡ server_limits }
+    {
+        Limits {
+            connections: 10_000,
+            bytes: 67_108_864,
+            patience: PATIENCE,
+            linger_bytes: 65_536,
+        }
+    }
+}
+
+/// What the door, the loops and the pool of a server share.
+#[derive(Drop)]
+pub struct Hub<'a, R: Wait + Clock> {
+    /// The leave to wait.
+    pub rt: &'a R,
+    /// Where memory comes from.
+    pub alloc: Global,
+    /// How many connections there are, and for how long.
+    pub limits: Limits,
+    /// The mailbox of each loop.
+    pub boxes: Vec<Mailbox>,
+    /// Connections whose next request takes long.
+    pub pool: Pool,
+    /// What is counted.
+    pub admission: Mutex<Admission>,
+    /// The gate of the workers.
+    pub pace: Pace<'a, R>,
+}
+
+impl<'a, R: Wait + Clock + Net> Hub<'a, R> {
+    /// What the threads of a server share that begins now, has so many loops and takes so many connections; and what each loop polls with.
+    /// An error is the system's or the clock's.
+    pub fn open(
+        rt: &'a R,
+        alloc: Global,
+        limits: Limits,
+        periods: Periods,
+        sessions: u64,
+        loops: u32,
+    ) -> io::Result<(Hub<'a, R>, Vec<Poll>)> {
+        let mut polls = Vec::with_capacity(alloc, loops as usize)?;
+        let mut boxes = Vec::with_capacity(alloc, loops as usize)?;
+        for _ in 0..loops {
+            let poll = Poll::new(rt)?;
+            let waker = Waker::new(poll.registry(), WAKER)?;
+            boxes.push(Mailbox::new(alloc, limits.connections, waker)?)?;
+            polls.push(poll)?;
+        }
+        let hub = Hub {
+            rt,
+            alloc,
+            limits,
+            boxes,
+            pool: Pool::new(alloc, limits.connections)?,
+            admission: Mutex::new(Admission::new(sessions, loops)),
+            pace: Pace::new(rt, periods)?,
+        };
+        Ok((hub, polls))
+    }
+}
+
+impl<'a, R: Wait + Clock> Hub<'a, R> {
+    /// What was counted so far.
+    pub fn counts(&self) -> Admission {
+        *self.admission.lock(self.rt)
+    }
+
+    /// Notes that no more connections are accepted, and wakes all loops.
+    pub(crate) fn close_door(&self, has_failed: bool) {
+        {
+            let mut admission = self.admission.lock(self.rt);
+            admission.is_closed = true;
+            admission.has_failed = has_failed;
+        }
+        for mailbox in &self.boxes {
+            mailbox.wake();
+        }
+    }
+
+    /// Counts a connection out.
+    pub(crate) fn let_out(&self) {
+        self.admission.lock(self.rt).let_out();
+    }
+
+    /// Counts a loop out; the last one ends the pool and the timers.
+    pub(crate) fn end_loop(&self) {
+        let is_last = self.admission.lock(self.rt).end_loop();
+        if is_last {
+            self.pool.close(self.rt);
+            self.pace.end();
+        }
+    }
+}

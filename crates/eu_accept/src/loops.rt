@@ -1,0 +1,349 @@
+//! A loop of a server: it polls its connections, and calls those for which there is something to do.
+use crate::hub::Hub;
+use crate::mail::Mail;
+use eu_hall::{Awaited, Guest, Hall, Happened, Left, Phase, Unsent, Visit};
+use eu_session::Talk;
+use mio::net::TcpStream;
+use mio::{Events, Interest, Poll, Token};
+use std::alloc::{AllocError, Global};
+use std::collections::VecDeque;
+use std::io::{ErrorKind, Read, Write};
+use std::net::Shutdown;
+use std::sync::Wait;
+use std::time::{Clock, Duration, Instant};
+use std::{io, mem};
+
+/// The token of a loop's waker.
+pub const WAKER: Token = Token(usize::MAX);
+
+/// How often a loop looks for connections that are late, in milliseconds.
+const SWEEP_MS: u64 = 250;
+
+/// The most events of a poll.
+const MOST_EVENTS: usize = 1_024;
+
+/// The most turns that a session has before others have theirs.
+const MOST_TURNS: u32 = 8;
+
+/// The bytes that are dropped at once.
+const PIECE: usize = 4_096;
+
+/// What a connection is told whose request is too slow (RFC 9110, section 15.5.9).
+const SLOW: &str = "HTTP/1.1 408 Request Timeout\r\nContent-Length: 0\r\nConnection: close\r\n\r\n";
+
+/// A connection.
+type Connection = Guest<TcpStream, Talk>;
+
+/// A loop of a server. It alone has its connections, but for those that are away at a worker.
+#[derive(Drop)]
+pub struct Loop<'a, R: Wait + Clock> {
+    hub: &'a Hub<'a, R>,
+    number: usize,
+    poll: Poll,
+    events: Events,
+    hall: Hall<Connection>,
+    ready: VecDeque<usize>,
+    again: Vec<usize>,
+    mail: Vec<Mail>,
+    began: Instant,
+    swept: u64,
+}
+
+/// What has come of one that has come.
+fn guest(alloc: Global, socket: TcpStream) -> Connection {
+    Guest {
+        socket,
+        talk: Talk::new(alloc),
+        unsent: Unsent::new(alloc),
+        has_ended: false,
+        dropped: 0,
+    }
+}
+
+/// Reads what has come and drops it. Tells whether more may come.
+fn drop_what_came(guest: &mut Connection, most: usize) -> bool {
+    let mut piece = [0u8; PIECE];
+    'pieces: while guest.dropped < most {
+        match guest.socket.read(&mut piece) {
+            Ok(count) if count > 0 => guest.dropped = guest.dropped.saturating_add(count),
+            Ok(_) => return false,
+            Err(error) => return error.kind() == ErrorKind::WouldBlock,
+        }
+    }
+    false
+}
+
+impl<'a, R: Wait + Clock> Loop<'a, R> {
+    /// The loop of that number, which polls so.
+    pub fn new(hub: &'a Hub<'a, R>, number: usize, poll: Poll) -> io::Result<Loop<'a, R>> {
+        let most = hub.limits.connections;
+        Ok(Loop {
+            hub,
+            number,
+            poll,
+            events: Events::with_capacity(hub.alloc, MOST_EVENTS)?,
+            hall: Hall::new(hub.alloc, most, hub.limits.bytes)?,
+            ready: VecDeque::with_capacity(hub.alloc, most.saturating_add(MOST_EVENTS))?,
+            again: Vec::new(hub.alloc),
+            mail: Vec::with_capacity(hub.alloc, most)?,
+            began: Instant::now(hub.rt)?,
+            swept: 0,
+        })
+    }
+
+    /// The milliseconds since the loop began; as before where the clock can't be read.
+    fn now(&self) -> u64 {
+        match self.began.elapsed(self.hub.rt) {
+            Ok(time) => u64::try_from(time.as_millis()).unwrap_or(u64::MAX),
+            Err(_) => self.swept,
+        }
+    }
+
+    /// Frees the place of a connection, and closes what stands there.
+    fn leave(&mut self, key: usize) {
+        if self.hall.leave(key) {
+            self.hub.let_out();
+        }
+    }
+
+    /// Puts a connection in its place again, of whose peer this is awaited now. One that is late, or would hold too much, is closed.
+    fn park(&mut self, key: usize, guest: Connection, awaited: Awaited) {
+        let mut guest = guest;
+        if guest.talk.buffer.is_empty() {
+            guest.talk.buffer = Vec::new(self.hub.alloc);
+        }
+        let bytes = guest
+            .talk
+            .buffer
+            .capacity()
+            .saturating_add(guest.unsent.memory());
+        if self.hall.come_back(key, guest, awaited, bytes).is_err() {
+            self.leave(key);
+        }
+    }
+
+    /// Lets what comes behind a session pass, until the peer closes, the time is up, or enough has come.
+    fn linger(&mut self, key: usize, guest: Connection, awaited: Awaited) {
+        let mut guest = guest;
+        if drop_what_came(&mut guest, self.hub.limits.linger_bytes) {
+            self.park(key, guest, awaited);
+        } else {
+            drop(guest);
+            self.leave(key);
+        }
+    }
+
+    /// Ends what was written of a connection whose session is over, and lingers (RFC 9112, section 9.6).
+    fn begin_lingering(&mut self, visit: Visit<TcpStream, Talk>) {
+        let Visit {
+            key,
+            guest,
+            awaited,
+            ..
+        } = visit;
+        if guest.socket.shutdown(Shutdown::Write).is_err() {
+            drop(guest);
+            self.leave(key);
+            return;
+        }
+        let patience = self.hub.limits.patience;
+        let awaited = awaited.next(patience, Phase::Lingering, Happened::Nothing, self.now());
+        self.linger(key, guest, awaited);
+    }
+
+    /// Parks a connection after a visit.
+    fn park_after(&mut self, visit: Visit<TcpStream, Talk>, phase: Phase, happened: Happened) {
+        let Visit {
+            key,
+            guest,
+            awaited,
+            ..
+        } = visit;
+        let awaited = awaited.next(self.hub.limits.patience, phase, happened, self.now());
+        self.park(key, guest, awaited);
+    }
+
+    /// Takes a connection back after a visit, which left it so.
+    pub(crate) fn take_back(&mut self, visit: Visit<TcpStream, Talk>, left: Left) {
+        let key = visit.key;
+        match left {
+            Left::Waits(Phase::Lingering, _) => self.begin_lingering(visit),
+            Left::Waits(phase, happened) => self.park_after(visit, phase, happened),
+            Left::GoesOn => {
+                let phase = visit.awaited.phase;
+                self.park_after(visit, phase, Happened::Answered);
+                let _ = self.again.push(key);
+            }
+            Left::Long => {
+                if self
+                    .hub
+                    .pool
+                    .put(self.hub.rt, (self.number, visit))
+                    .is_err()
+                {
+                    self.leave(key);
+                }
+            }
+            Left::Gone => {
+                drop(visit);
+                self.leave(key);
+            }
+        }
+    }
+
+    /// The next connection for which there is something to do.
+    fn next_ready(&mut self) -> Option<Visit<TcpStream, Talk>> {
+        'ready: while let Some(key) = self.ready.pop_front() {
+            let Some((guest, awaited)) = self.hall.call(key) else {
+                continue;
+            };
+            if awaited.phase == Phase::Lingering {
+                self.linger(key, guest, awaited);
+                continue;
+            }
+            return Some(Visit {
+                key,
+                guest,
+                awaited,
+                most_turns: MOST_TURNS,
+                leaves_long: true,
+            });
+        }
+        None
+    }
+
+    /// Gives a connection a place, and has it polled. An error where that fails; the connection is closed then.
+    fn enter(&mut self, socket: TcpStream) -> io::Result<()> {
+        let awaited = Awaited::begin(self.hub.limits.patience, Phase::Idle, self.now());
+        let Ok(key) = self.hall.enter(guest(self.hub.alloc, socket), awaited) else {
+            self.hub.let_out();
+            return Ok(());
+        };
+        let Some((mut guest, awaited)) = self.hall.call(key) else {
+            return Ok(());
+        };
+        let interest = Interest::READABLE.add(Interest::WRITABLE);
+        let registered = self
+            .poll
+            .registry()
+            .register(&mut guest.socket, Token(key), interest);
+        if registered.is_err() {
+            drop(guest);
+            self.leave(key);
+            return registered;
+        }
+        self.park(key, guest, awaited);
+        Ok(())
+    }
+
+    /// Takes what others handed in.
+    fn take_mail(&mut self) {
+        let mut mail = mem::replace(&mut self.mail, Vec::new(self.hub.alloc));
+        if let Some(mailbox) = self.hub.boxes.get(self.number) {
+            mailbox.take(self.hub.rt, &mut mail);
+        }
+        mail.reverse();
+        'mail: while let Some(one) = mail.pop() {
+            match one {
+                Mail::New(socket) => {
+                    let _ = self.enter(socket);
+                }
+                Mail::Back(visit, left) => {
+                    let key = visit.key;
+                    self.take_back(visit, left);
+                    let _ = self.ready.push_back(key);
+                }
+            }
+        }
+        self.mail = mail;
+    }
+
+    /// Gives up a connection that is late. One whose request isn't whole is told so.
+    fn give_up(&mut self, key: usize) {
+        if let Some((mut guest, awaited)) = self.hall.call(key) {
+            if awaited.phase == Phase::Asking {
+                let _ = guest.socket.write(SLOW.as_bytes());
+            }
+            drop(guest);
+        }
+        self.leave(key);
+    }
+
+    /// Gives up all that are late.
+    fn sweep(&mut self, now: u64) {
+        let mut from = 0;
+        'sweep: while let Some(key) = self.hall.late(from, now, false) {
+            self.give_up(key);
+            from = key.saturating_add(1);
+        }
+        self.swept = now;
+    }
+
+    /// How long a poll waits: not at all where some go on at once, else until the next sweep.
+    fn time(&self) -> Duration {
+        if !self.again.is_empty() {
+            return Duration::from_millis(0);
+        }
+        let since = self.now().saturating_sub(self.swept);
+        Duration::from_millis(SWEEP_MS.saturating_sub(since))
+    }
+
+    /// Notes for which connections something has come, and tells whether the loop was woken.
+    fn note_events(&mut self) -> Result<bool, AllocError> {
+        let mut is_woken = false;
+        for event in &self.events {
+            if event.token() == WAKER {
+                is_woken = true;
+            } else {
+                self.ready.push_back(event.token().0)?;
+            }
+        }
+        Ok(is_woken)
+    }
+
+    /// Waits until there is something to do, or the next sweep is due.
+    fn round(&mut self) -> io::Result<()> {
+        let time = self.time();
+        self.poll.poll(&mut self.events, Some(time))?;
+        let is_woken = self.note_events()?;
+        'again: while let Some(key) = self.again.pop() {
+            self.ready.push_back(key)?;
+        }
+        if is_woken {
+            self.take_mail();
+        }
+        let now = self.now();
+        if now.saturating_sub(self.swept) >= SWEEP_MS {
+            self.sweep(now);
+        }
+        Ok(())
+    }
+
+    /// Whether all have left, and no more will come.
+    fn is_over(&mut self) -> bool {
+        if !self.hall.is_empty() || !self.hub.counts().is_closed {
+            return false;
+        }
+        self.take_mail();
+        self.hall.is_empty()
+    }
+
+    /// The next connection for which there is something to do; none once all have left and no more will come.
+    pub(crate) fn next(&mut self) -> Option<Visit<TcpStream, Talk>> {
+        for _ in self.hub.rt.forever() {
+            let visit = self.next_ready();
+            if visit.is_some() {
+                return visit;
+            }
+            if self.is_over() {
+                break;
+            }
+            if self.round().is_err() {
+                self.hub.close_door(true);
+                break;
+            }
+        }
+        self.hub.end_loop();
+        None
+    }
+}

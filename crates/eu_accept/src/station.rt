@@ -1,0 +1,83 @@
+//! Where a worker of a server gets its connections from.
+use crate::door::Door;
+use crate::hub::Hub;
+use crate::loops::Loop;
+use crate::mail::Mail;
+use eu_hall::{Incoming, Left, Visit};
+use eu_session::Talk;
+use mio::net::TcpStream;
+use std::sync::Wait;
+use std::time::Clock;
+
+/// A thread of the pool, which has at most one connection, and the number of its loop.
+#[derive(Drop)]
+pub struct Hand<'a, R: Wait + Clock> {
+    hub: &'a Hub<'a, R>,
+    number: usize,
+}
+
+impl<'a, R: Wait + Clock> Hand<'a, R> {
+    /// One that has no connection.
+    pub fn new(hub: &'a Hub<'a, R>) -> Hand<'a, R> {
+        Hand { hub, number: 0 }
+    }
+
+    fn next(&mut self) -> Option<Visit<TcpStream, Talk>> {
+        let (number, visit) = self.hub.pool.next(self.hub.rt)?;
+        self.number = number;
+        Some(Visit {
+            most_turns: 1,
+            leaves_long: false,
+            ..visit
+        })
+    }
+
+    fn take_back(&mut self, visit: Visit<TcpStream, Talk>, left: Left) {
+        if let Some(mailbox) = self.hub.boxes.get(self.number) {
+            let _ = mailbox.put(self.hub.rt, Mail::Back(visit, left));
+        }
+    }
+}
+
+/// What a worker of a server's sessions does.
+#[derive(Drop)]
+pub enum Station<'a, R: Wait + Clock> {
+    /// Accepts connections, and visits none.
+    Door(Door<'a, R>),
+    /// Visits the connections of a loop.
+    Loop(Loop<'a, R>),
+    /// Visits connections whose next request takes long.
+    Pool(Hand<'a, R>),
+}
+
+impl<'a, R: Wait + Clock> Station<'a, R> {
+    /// Whether it visits connections, so that its worker asks the book.
+    pub fn visits(&self) -> bool {
+        !matches!(self, Station::Door(_))
+    }
+}
+
+impl<'a, R: Wait + Clock> Incoming for Station<'a, R> {
+    type Socket = TcpStream;
+
+    type Talk = Talk;
+
+    fn next(&mut self) -> Option<Visit<TcpStream, Talk>> {
+        match self {
+            Station::Door(door) => {
+                door.run();
+                None
+            }
+            Station::Loop(one) => one.next(),
+            Station::Pool(hand) => hand.next(),
+        }
+    }
+
+    fn take_back(&mut self, visit: Visit<TcpStream, Talk>, left: Left) {
+        match self {
+            Station::Door(_) => drop(visit),
+            Station::Loop(one) => one.take_back(visit, left),
+            Station::Pool(hand) => hand.take_back(visit, left),
+        }
+    }
+}

@@ -1,0 +1,68 @@
+//! A connection, as it goes from its place to a worker and back.
+ghost use Rattle.std.specs.Prelude.{◌≡◌, None};
+
+use crate::phase::{Awaited, Happened, Phase};
+use crate::unsent::Unsent;
+use std::io::{Read, Write};
+
+/// A connection: its socket, its session, and what is to be sent of it.
+#[derive(Drop)]
+pub struct Guest<S, T> {
+    /// Its socket, whose reads and writes never wait.
+    pub socket: S,
+    /// Its session, between two turns.
+    pub talk: T,
+    /// The responses that are still to be sent.
+    pub unsent: Unsent,
+    /// Its session has ended: what is unsent is sent, and nothing more is read of it.
+    pub has_ended: bool,
+    /// How many bytes were read and dropped behind its session.
+    pub dropped: usize,
+}
+
+/// A visit of a connection at a worker.
+#[derive(Drop)]
+pub struct Visit<S, T> {
+    /// The key of its place.
+    pub key: usize,
+    /// The connection.
+    pub guest: Guest<S, T>,
+    /// What was awaited of its peer.
+    pub awaited: Awaited,
+    /// The most turns that its session may have now.
+    pub most_turns: u32,
+    /// Whether a request that takes long is left to others.
+    pub leaves_long: bool,
+}
+
+/// How a visit left a connection.
+#[derive(Clone, Copy, Debug, PartialEq, Eq)]
+pub enum Left {
+    /// Its peer is awaited, and this happened at the visit.
+    Waits(Phase, Happened),
+    /// It had all its turns, and there may be more to do at once.
+    GoesOn,
+    /// Its next request is for a worker that takes long ones.
+    Long,
+    /// It has failed, and is to be closed.
+    Gone,
+}
+
+/// Where the connections come from that a worker visits.
+pub trait Incoming {
+    // What holds where no more will come. Nothing is to be told of it but where a caller wants that.
+    ghost ended: { Self → Type 0 } = { λ _. Unit {0} };
+
+    /// The socket of a connection.
+    type Socket: Read + Write;
+
+    /// The session of a connection.
+    type Talk;
+
+    /// The next connection for which there is something to do, or none where no more will come. It may take as long as it wants.
+    fn next(&mut self) -> Option<Visit<Self::Socket, Self::Talk>>
+        ensures { result ≡ None → ended self.new };
+
+    /// Takes a connection back after a visit, which left it so.
+    fn take_back(&mut self, visit: Visit<Self::Socket, Self::Talk>, left: Left);
+}

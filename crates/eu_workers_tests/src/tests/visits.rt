@@ -1,0 +1,47 @@
+//! Connections as a worker visits them, over what a test reads and writes.
+use eu_hall::{Awaited, Guest, PATIENCE, Phase, Unsent, Visit};
+use eu_session::Talk;
+use std::alloc::Global;
+use std::io::{self, Read, Write};
+
+/// The two sides of a connection.
+#[derive(Drop)]
+pub struct Sides<R, W> {
+    /// What is read from.
+    pub reader: R,
+    /// What is written to.
+    pub writer: W,
+}
+
+impl<R: Read, W> Read for Sides<R, W> {
+    fn read(&mut self, buffer: &mut [u8]) -> io::Result<usize> {
+        self.reader.read(buffer)
+    }
+}
+
+impl<R, W: Write> Write for Sides<R, W> {
+    fn write(&mut self, bytes: &[u8]) -> io::Result<usize> {
+        self.writer.write(bytes)
+    }
+
+    fn flush(&mut self) -> io::Result<()> {
+        self.writer.flush()
+    }
+}
+
+/// A visit of a connection that has just come, with so many turns.
+pub fn visit<S>(alloc: Global, socket: S, most_turns: u32) -> Visit<S, Talk> {
+    Visit {
+        key: 0,
+        guest: Guest {
+            socket,
+            talk: Talk::new(alloc),
+            unsent: Unsent::new(alloc),
+            has_ended: false,
+            dropped: 0,
+        },
+        awaited: Awaited::begin(PATIENCE, Phase::Idle, 0),
+        most_turns,
+        leaves_long: false,
+    }
+}

@@ -103,7 +103,7 @@ head_more : {b b' : List ℕ} (head : Head) → Longer b b' → FindsHead (Some 
 head_more {b = b} {b' = b'} head x f = (
   f.0,
   λ more. subst (λ (t : List ℕ). HasHead t f.0 (drop head.len b' ++ more)) (sym (ap (λ (t : List ℕ). t ++ more) x.grown ∙ append_assoc b x.more more))
-  (subst (λ (t : List ℕ). HasHead (b ++ (x.more ++ more)) f.0 t) (sym (ap (λ (t : List ℕ). t ++ more) (grown_behind head.len f.3 x) ∙ append_assoc (drop head.len b) x.more more)) (f.1 (x.more ++ more))),
+      (subst (λ (t : List ℕ). HasHead (b ++ (x.more ++ more)) f.0 t) (sym (ap (λ (t : List ℕ). t ++ more) (grown_behind head.len f.3 x) ∙ append_assoc (drop head.len b) x.more more)) (f.1 (x.more ++ more))),
   f.2,
   omega (arith, f.3, longer_length x),
   f.4,

@@ -339,5 +339,8 @@ pub fn read_chunked<R: Source>(
     let len = take_chunks(reader, buffer, piece, walk, start)?;
     let behind = walk.at + len;
     let trailer = find_trailer(reader, buffer, piece, behind, MAX_RAW - (behind - start))?;
-    Ok((mem::replace(&mut walk.body, Vec::new(alloc)), behind + trailer))
+    Ok((
+        mem::replace(&mut walk.body, Vec::new(alloc)),
+        behind + trailer,
+    ))
 }

@@ -1,6 +1,8 @@
 use eu_base::Fault;
 use eu_fixtures::Parts;
-use eu_framing::{EMPTY_ROOM, Inbox, MAX_FIELDS, MAX_HEAD, MAX_RAW, MAX_TRAILER, Request, read_request};
+use eu_framing::{
+    EMPTY_ROOM, Inbox, MAX_FIELDS, MAX_HEAD, MAX_RAW, MAX_TRAILER, Request, read_request,
+};
 use eu_stream::Source;
 use std::alloc::{AllocError, Global};
 

@@ -95,9 +95,11 @@ fn are_the_three(alloc: Global, text: Result<Vec<u8>, AllocError>) -> Result<boo
     let mut drip = Drip::new(&text);
     let mut inbox = Inbox::new(alloc);
     let [first, second, third] = &THREE;
-    Ok(is_next_at(alloc, &mut drip, &mut inbox, first, TWO_MORE.len())
-        && is_next_at(alloc, &mut drip, &mut inbox, second, 44)
-        && is_next_at(alloc, &mut drip, &mut inbox, third, 0))
+    Ok(
+        is_next_at(alloc, &mut drip, &mut inbox, first, TWO_MORE.len())
+            && is_next_at(alloc, &mut drip, &mut inbox, second, 44)
+            && is_next_at(alloc, &mut drip, &mut inbox, third, 0),
+    )
 }
 
 #[test]
@@ -110,7 +112,10 @@ fn requests_in_drips_are_answered_at_their_last_byte(rt: HostRuntime) {
 /// Texts that are answered at their last byte, with the body, or the fault.
 const ANSWERED: [(&[u8], Result<&[u8], Fault>); 12] = [
     (b"\r\nGET / HTTP/1.1\nHost: x\r\n\n", Ok(b"")),
-    (b"PUT / HTTP/1.1\r\nHost: x\r\nContent-Length: 3\r\n\r\nabc", Ok(b"abc")),
+    (
+        b"PUT / HTTP/1.1\r\nHost: x\r\nContent-Length: 3\r\n\r\nabc",
+        Ok(b"abc"),
+    ),
     (
         b"PUT / HTTP/1.1\nHost: x\nTransfer-Encoding: chunked\n\n1;a\r\na\r\n2\r\nbc\r\n0\r\nend: x\r\n\r\n",
         Ok(b"abc"),
@@ -120,7 +125,10 @@ const ANSWERED: [(&[u8], Result<&[u8], Fault>); 12] = [
         Ok(b"a\nb"),
     ),
     (b"GET / HTTP/1.1\r\n\r\n", Err(Fault::BadHead)),
-    (b"PUT / HTTP/1.1\r\nHost: x\r\nContent-Length: x\r\n\r\n", Err(Fault::BadLength)),
+    (
+        b"PUT / HTTP/1.1\r\nHost: x\r\nContent-Length: x\r\n\r\n",
+        Err(Fault::BadLength),
+    ),
     (
         b"PUT / HTTP/1.1\r\nHost: x\r\nContent-Length: 1048577\r\n\r\n",
         Err(Fault::BodyTooLong),
@@ -148,10 +156,7 @@ const ANSWERED: [(&[u8], Result<&[u8], Fault>); 12] = [
 ];
 
 /// Whether an answer is that body, or that fault.
-fn is_answer(
-    answer: Result<Option<Request>, Fault>,
-    wanted: &Result<&[u8], Fault>,
-) -> bool {
+fn is_answer(answer: Result<Option<Request>, Fault>, wanted: &Result<&[u8], Fault>) -> bool {
     match (answer, wanted) {
         (Ok(Some(request)), Ok(body)) => request.body.as_slice() == *body,
         (Err(fault), Err(wanted)) => fault == *wanted,

@@ -65,6 +65,6 @@ returns-clause-step g c =
     let some : 0 < size = omega arith in
     let long : start + len + size + 2 ≤ length c.take_data.new.buffer.items = omega (arith, c.in_ok-take_data.ensures.inside, c.take_data.new.buffer.ok) in (
       subst (λ (t : List ℕ). TakesChunk start c.args.room c.take_data.new.buffer.items t c.take_data.new.body.items (len + size + 2)) same
-      (chunk_taken c.args.room start b _ grows.more held _ len size within c.in_ok-len.ensures.line some few grows.grown c.in_ok-take_data.ensures.data_ long c.in_ok-take_data.ensures.fits),
+          (chunk_taken c.args.room start b _ grows.more held _ len size within c.in_ok-len.ensures.line some few grows.grown c.in_ok-take_data.ensures.data_ long c.in_ok-take_data.ensures.fits),
       omega arith,
     )

@@ -4,7 +4,7 @@ ghost use Rattle.eu_framing.specs.Message.{path_of, query_of};
 ghost use Rattle.eu_routes.specs.Table.{route_of};
 
 use eu_base::Fault;
-use eu_framing::{EMPTY_ROOM, Request, read_request};
+use eu_framing::{EMPTY_ROOM, Inbox, Request, read_request};
 use eu_routes::Routes;
 use std::alloc::Global;
 
@@ -27,11 +27,11 @@ fn has_route(alloc: Global, routes: &Routes, request: &Request) -> bool
 /// How many requests of the bytes have a route. The faults are those of `read_request`.
 fn count_once(alloc: Global, routes: &Routes, bytes: &[u8]) -> Result<u64, Fault> {
     let mut reader = bytes;
-    let mut buffer = Vec::new(alloc);
+    let mut inbox = Inbox::new(alloc);
     let mut room = EMPTY_ROOM;
     let mut routed = 0u64;
     'requests: for _request in 0..u64::MAX {
-        match read_request(alloc, &mut reader, &mut buffer, &mut room)? {
+        match read_request(alloc, &mut reader, &mut inbox, &mut room)? {
             None => break,
             Some(request) if has_route(alloc, routes, &request) => routed = routed.saturating_add(
                 1,

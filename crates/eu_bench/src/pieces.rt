@@ -2,7 +2,7 @@
 ghost use Rattle.std.specs.Prelude.{◌≡◌, ◌<◌, Some, false, OnOk};
 
 use eu_base::Fault;
-use eu_framing::{EMPTY_ROOM, read_request};
+use eu_framing::{EMPTY_ROOM, Inbox, read_request};
 use eu_stream::{ReadFault, Source};
 use std::alloc::Global;
 
@@ -53,11 +53,11 @@ pub fn count_requests<R: Source>(alloc: Global, reader: &mut R) -> Result<Totals
     ensures sound { OnOk result (R.failed reader.new ≡ R.failed reader.old) }
     ensures same_stream { R.stream reader.new ≡ R.stream reader.old }
 {
-    let mut buffer = Vec::new(alloc);
+    let mut inbox = Inbox::new(alloc);
     let mut room = EMPTY_ROOM;
     let mut bytes = 0u64;
     'requests: for requests in 0..u64::MAX {
-        match read_request(alloc, reader, &mut buffer, &mut room)? {
+        match read_request(alloc, reader, &mut inbox, &mut room)? {
             None => return Ok(Totals { requests, bytes }),
             Some(request) => bytes = bytes.saturating_add(request.body.len() as u64),
         }

@@ -12,3 +12,4 @@ pub mod TrailerLawLemmas
 pub mod ChunkLawLemmas
 pub mod LawLemmas
 pub mod ScanLemmas
+pub mod WalkLemmas

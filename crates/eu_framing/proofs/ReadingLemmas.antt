@@ -3,7 +3,7 @@ use Rattle.std.proofs.Common.{Result, Ok, Err, IfErr, OnOk, ◌≡◌, ℕ, ◌�
 use Rattle.std.specs.Io.KnownBytes.{Keeps, IsAtEnd}
 use Rattle.eu_base.specs.declared.faults.Fault.{Fault}
 use Rattle.eu_framing.specs.Message.{pending, OfBytes, Between}
-use Rattle.eu_framing.specs.Reading.{Grows, Halts, Fails, IsCutBy, Comes, Blames}
+use Rattle.eu_framing.specs.Reading.{Grows, Halts, Fails, IsCutBy, Comes, Blames, Longer}
 
 keeps_refl : (a : Option (List ℕ)) → Keeps a a
 keeps_refl None = tt
@@ -112,3 +112,17 @@ grows_length {a = a} {b = b} x = omega (arith, ap length x.grown, length-append 
 pub on_ok : {A P : Type 0} (r : Result A Fault) → P → OnOk r P
 on_ok (Ok x) p = p
 on_ok (Err fault) p = tt
+
+-- The buffer has more behind it.
+
+pub longer_same : (a b : List ℕ) → b ≡ a → Longer a b
+longer_same a b e = record { more = []; grown = e ∙ sym (append-nil a) }
+
+pub longer_more : {a b c : List ℕ} → Longer a b → Longer b c → Longer a c
+longer_more {a = a} x y = record {
+  more = x.more ++ y.more;
+  grown = y.grown ∙ ap (λ (t : List ℕ). t ++ y.more) x.grown ∙ append_assoc a x.more y.more;
+}
+
+pub longer_grows : {l m : Option (List ℕ)} {f g : Bool} {a b : List ℕ} → Grows l f a m g b → Longer a b
+longer_grows x = record { more = x.more; grown = x.grown }

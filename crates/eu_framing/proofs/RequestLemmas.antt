@@ -16,7 +16,7 @@ use Rattle.eu_framing.specs.declared.request.Request.{Request}
 use Rattle.eu_framing.specs.Message.{pending, OfBytes, max_head, max_fields, HasHead, IsFault, ReadsBody, BreaksBody, FindsNext, Interrupts}
 use Rattle.eu_framing.specs.Reading.{Blames}
 use Rattle.eu_framing.specs.Steps.{HasHeadAt}
-use Rattle.eu_framing.specs.HeadSteps.{GivesHead, FindsHead}
+use Rattle.eu_framing.specs.HeadSteps.{GivesHead, FindsHead, Makes}
 use Rattle.eu_framing.proofs.BodyLemmas.{behind}
 use Rattle.eu_framing.proofs.ChunkLemmas.{window_rest}
 use Rattle.eu_framing.proofs.ReadingLemmas.{of_bytes}
@@ -61,14 +61,6 @@ head_later b b' grown more n h e within has =
 pub body_broken : (b more : List ℕ) (head : Head) (fault : Fault) → FindsHead (Some head) b → BreaksBody head.framing (drop head.len (b ++ more)) fault → IsFault (b ++ more) fault
 body_broken b more head fault x bad =
     inr (x.0, drop head.len (b ++ more), rw (behind head.len b more x.3) (x.1 more), inr (head.framing, x.2.framing, bad))
-
--- what is made of the head and the body
-pub record Makes (request : Request) (head : Head) : Type 0 where
-  pub method : request.method ≡ head.method
-  pub target : request.target ≡ head.target
-  pub minor : request.minor ≡ head.minor
-  pub closes : request.closes ≡ head.closes
-  pub replicated : request.replicated ≡ head.replicated
 
 pub next_whole : (b b' grown more rest : List ℕ) (head : Head) (request : Request) → b' ≡ b ++ grown → FindsHead (Some head) b → Makes request head → ReadsBody head.framing (drop head.len (b' ++ more)) request.body.items rest → FindsNext (Some request) (b' ++ more) rest
 next_whole b b' grown more rest head request e x makes reads =

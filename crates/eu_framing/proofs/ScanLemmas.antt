@@ -278,6 +278,15 @@ line_more b b' more n e none seen l rest reads =
     (λ (long : length print ≤ length b). absurd (none l (take (length b - length print) rest) (reads.0, front_back b more print rest (sym e ∙ reads.1) long)))
     (cases_lt (length b) (length print))
 
+-- what was looked through stays so
+pub line_stays : (b b' more : List ℕ) (n : ℕ) → b' ≡ b ++ more → LineEndsAfter n b → n ≤ length b → LineEndsAfter n b'
+line_stays b b' more n e after seen l rest reads =
+    let print = print_chunk_line l in
+    ⊎_elim
+    (λ (far : length b < length print). omega (arith, far, seen))
+    (λ (long : length print ≤ length b). after l (take (length b - length print) rest) (reads.0, front_back b more print rest (sym e ∙ reads.1) long))
+    (cases_lt (length b) (length print))
+
 pub line_start : (text : List ℕ) (n : ℕ) → n ≡ 0 → LineEndsAfter n text
 line_start text n e l rest reads = omega (arith, e, ap length (line_cut l), length-append (front_of_line l) (10 ∷ []))
 

@@ -85,7 +85,7 @@ trailer_at room start len b more within x =
     }
 
 -- a chunk line stands in a longer buffer
-finds_line_more : (room at : ℕ) (b b' more : List ℕ) (found : ℕ × ℕ) → at ≤ length b → b' ≡ b ++ more → FindsLine room (drop at b) found → FindsLine room (drop at b') found
+pub finds_line_more : (room at : ℕ) (b b' more : List ℕ) (found : ℕ × ℕ) → at ≤ length b → b' ≡ b ++ more → FindsLine room (drop at b) found → FindsLine room (drop at b') found
 finds_line_more room at b b' more found within e x =
     let line = line_at room at b more found within x in
     rw e (x.0, subst (HasLine room (drop at (b ++ more)) x.0) (sym (drop-drop found.0 at (b ++ more))) line, x.2, x.3)

@@ -7,6 +7,7 @@ use Rattle.httparse.specs.declared.spans.RequestSpans.{RequestSpans}
 use Rattle.eu_base.specs.declared.faults.Fault.{Fault}
 use Rattle.eu_base.specs.declared.faults.Fault.TheVariants as faults
 use Rattle.eu_framing.specs.declared.request.Head.{Head}
+use Rattle.eu_framing.specs.declared.request.Request.{Request}
 use Rattle.eu_framing.specs.Fields.{closes, is_replicated}
 use Rattle.eu_framing.specs.Message.{max_head, headers_of, framed, HasHead, IsEnd}
 
@@ -30,3 +31,11 @@ FindsHead None buffer = IsEnd buffer
 FindsHead (Some head) buffer =
     (h : RequestHead) × ((more : List ℕ) → HasHead (buffer ++ more) h (drop head.len buffer ++ more)) × IsHeadOf h head
     × (head.len ≤ length buffer) × (head.len ≤ max_head)
+
+-- what is made of the head and the body
+pub record Makes (request : Request) (head : Head) : Type 0 where
+  pub method : request.method ≡ head.method
+  pub target : request.target ≡ head.target
+  pub minor : request.minor ≡ head.minor
+  pub closes : request.closes ≡ head.closes
+  pub replicated : request.replicated ≡ head.replicated

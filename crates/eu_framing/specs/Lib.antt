@@ -3,6 +3,7 @@ pub mod Chunks
 pub mod Message
 pub mod Reading
 pub mod Steps
+pub mod Walking
 pub mod HeadSteps
 pub mod ChunkSteps
 pub mod Said

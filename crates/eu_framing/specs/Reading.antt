@@ -39,3 +39,8 @@ IsCutBy P bytes = IsEnd bytes ⊎ ((fault : Fault) × P bytes fault)
 -- a fault comes from outside, or it is that of the buffer and the bytes that come behind it
 abbrev pub Blames : Bool → Option (List ℕ) → List ℕ → Option (List ℕ) → List ℕ → Fault → (List ℕ → Fault → Type 0) → Type 0
 Blames failed left buffer left' buffer' fault P = Fails failed left buffer left' buffer' fault (IsCutBy P) ⊎ Comes left buffer (λ bytes. P bytes fault)
+
+-- the buffer has what it had, and more behind it
+pub record Longer (buffer buffer' : List ℕ) : Type 0 where
+  pub more : List ℕ
+  pub grown : buffer' ≡ buffer ++ more

@@ -2,7 +2,7 @@
 ghost use Rattle.std.specs.Prelude.{◌≡◌, ◌≢◌, ◌≤◌, ◌<◌, ◌+◌, ℕ, List, Ok, true, false, length, drop, take, IfOk, IfErr, OnOk, OnErr, vec_len};
 ghost use Rattle.std.specs.Io.KnownBytes.{IsAtEnd, Keeps};
 ghost use Rattle.eu_framing.specs.Message.{pending};
-ghost use Rattle.eu_framing.specs.Reading.{Grows, Fails};
+ghost use Rattle.eu_framing.specs.Reading.{Grows, Fails, Longer};
 
 use crate::MAX_FIELDS;
 use eu_base::Fault;
@@ -41,6 +41,7 @@ pub fn fill<R: Source>(
     ensures end { IfOk result (λ n. n ≡ 0 → IsAtEnd (R.remaining reader.new)) }
     ensures fault { IfErr result (λ fault. Fails (R.failed reader.new) (R.remaining reader.old) buffer.old.items (R.remaining reader.new) buffer.new.items fault (λ bytes. bytes ≡ buffer.old.items)) }
     ensures kept { OnErr result (Keeps (pending buffer.old.items (R.remaining reader.old)) (pending buffer.new.items (R.remaining reader.new))) }
+    ensures longer { Longer buffer.old.items buffer.new.items }
     ensures told { IfErr result (λ fault. fault ≢ Fault.Read → R.failed reader.new ≡ R.failed reader.old) }
     ensures same_stream { R.stream reader.new ≡ R.stream reader.old }
 {
@@ -69,6 +70,7 @@ pub fn fill_to<R: Source>(
     ensures end { result ≡ Ok false → IsAtEnd (R.remaining reader.new) }
     ensures fault { IfErr result (λ fault. Fails (R.failed reader.new) (R.remaining reader.old) buffer.old.items (R.remaining reader.new) buffer.new.items fault (λ bytes. length bytes < wanted)) }
     ensures kept { OnErr result (Keeps (pending buffer.old.items (R.remaining reader.old)) (pending buffer.new.items (R.remaining reader.new))) }
+    ensures longer { Longer buffer.old.items buffer.new.items }
     ensures told { IfErr result (λ fault. fault ≢ Fault.Read → R.failed reader.new ≡ R.failed reader.old) }
     ensures same_stream { R.stream reader.new ≡ R.stream reader.old }
 {

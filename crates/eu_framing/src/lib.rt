@@ -11,13 +11,16 @@ mod buffer;
 mod chunks;
 mod fields;
 mod head;
+mod inbox;
 mod law;
 mod lists;
 mod request;
 mod scan;
 mod trailer;
+mod walk;
 
 pub use buffer::{EMPTY_ROOM, Room};
+pub use inbox::Inbox;
 pub use law::one_request_at_most;
 pub use request::{Request, read_request};
 

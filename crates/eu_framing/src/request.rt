@@ -4,16 +4,19 @@ ghost use Rattle.std.specs.Option.{MatchOption};
 ghost use Rattle.std.specs.Io.KnownBytes.{IsAtEnd, Keeps};
 ghost use Rattle.httparse.specs.Spans.{IsRequestWithin, IsRequestOf};
 ghost use Rattle.eu_framing.specs.Fields.{IsWithin};
-ghost use Rattle.eu_framing.specs.Message.{IsFault, max_head, FindsNext, Interrupts, path_of, query_of, pending, Between, OfBytes};
+ghost use Rattle.eu_framing.specs.Message.{IsEnd, IsFault, max_head, FindsNext, Interrupts, path_of, query_of, pending, Between, OfBytes};
 ghost use Rattle.eu_framing.specs.Reading.{Grows, Blames};
 ghost use Rattle.eu_framing.specs.Steps.{HasHeadAt};
-ghost use Rattle.eu_framing.specs.HeadSteps.{GivesHead, FindsHead};
+ghost use Rattle.eu_framing.specs.HeadSteps.{GivesHead, FindsHead, Makes};
+ghost use Rattle.eu_framing.specs.Walking.{IsBegun};
 
 use crate::MAX_HEAD;
 use crate::body::read_body;
 use crate::buffer::{Room, drop_front, window};
 use crate::fields::{Framing, find_closes, find_framing, find_replicated};
 use crate::head::find_head;
+use crate::inbox::Inbox;
+use crate::walk::Walk;
 use eu_base::Fault;
 use eu_stream::Source;
 use httparse::spans::{HeaderSpan, RequestSpans};
@@ -51,7 +54,7 @@ impl Request {
 }
 
 /// What a head says.
-#[derive(Drop)]
+#[derive(Debug, Drop)]
 pub struct Head {
     method: String,
     target: String,
@@ -61,6 +64,30 @@ pub struct Head {
     framing: Framing,
     /// So many bytes it has.
     len: usize,
+}
+
+impl Head {
+    /// The request of that head and body.
+    fn with_body(self, body: Vec<u8>) -> Request
+        ensures head { Makes result self }
+        ensures body { result.body ≡ body }
+    {
+        Request {
+            method: self.method,
+            target: self.target,
+            minor: self.minor,
+            closes: self.closes,
+            replicated: self.replicated,
+            body,
+        }
+    }
+}
+
+/// A request whose head is whole, and how far its body was gone through.
+#[derive(Debug, Drop)]
+pub struct Begun {
+    head: Head,
+    walk: Walk,
 }
 
 /// A text of these bytes.
@@ -124,9 +151,73 @@ fn next_head<R: Source>(
     }
 }
 
+/// The request that was begun, or the next one once its head is whole; none at the end.
+///
+/// The faults are those of the head and its fields, and those of `fill`.
+fn begin<R: Source>(
+    alloc: Global,
+    reader: &mut R,
+    buffer: &mut Vec<u8>,
+    waiting: Option<Begun>,
+    room: &mut Room,
+) -> Result<Option<Begun>, Fault>
+    requires { IfSome waiting (IsBegun buffer.old.items) }
+    ensures grows { OnOk result (Grows (R.remaining reader.old) (R.failed reader.old) buffer.old.items (R.remaining reader.new) (R.failed reader.new) buffer.new.items) }
+    ensures found { IfOk result (λ found. IfSome found (IsBegun buffer.new.items)) }
+    ensures end { IfOk result (λ found. MatchOption found (IsEnd buffer.new.items × IsAtEnd (R.remaining reader.new)) (λ _. Unit {0})) }
+    ensures fault { IfErr result (λ fault. Blames (R.failed reader.new) (R.remaining reader.old) buffer.old.items (R.remaining reader.new) buffer.new.items fault IsFault) }
+    ensures kept { OnErr result (Keeps (pending buffer.old.items (R.remaining reader.old)) (pending buffer.new.items (R.remaining reader.new))) }
+    ensures told { IfErr result (λ fault. fault ≢ Fault.Read → R.failed reader.new ≡ R.failed reader.old) }
+    ensures same_stream { R.stream reader.new ≡ R.stream reader.old }
+{
+    match waiting {
+        Some(begun) => Ok(Some(begun)),
+        None => match next_head(alloc, reader, buffer, room)? {
+            Some(head) => {
+                let walk = Walk::new(alloc, head.len);
+                Ok(Some(Begun { head, walk }))
+            }
+            None => Ok(None),
+        },
+    }
+}
+
+/// What `read_request` takes, from the bytes of an inbox and how far it went through them.
+fn take_request<R: Source>(
+    alloc: Global,
+    reader: &mut R,
+    buffer: &mut Vec<u8>,
+    waiting: &mut Option<Begun>,
+    room: &mut Room,
+) -> Result<Option<Request>, Fault>
+    requires { IfSome waiting.old (IsBegun buffer.old.items) }
+    ensures waiting { IfSome waiting.new (IsBegun buffer.new.items) }
+    ensures found { IfOk result (λ next. Between (pending buffer.old.items (R.remaining reader.old)) (pending buffer.new.items (R.remaining reader.new)) (FindsNext next)) }
+    ensures fault { IfErr result (λ fault. Interrupts (R.failed reader.new) (pending buffer.old.items (R.remaining reader.old)) (pending buffer.new.items (R.remaining reader.new)) buffer.new.items fault ⊎ OfBytes (pending buffer.old.items (R.remaining reader.old)) (λ bytes. IsFault bytes fault)) }
+    ensures kept { OnErr result (Keeps (pending buffer.old.items (R.remaining reader.old)) (pending buffer.new.items (R.remaining reader.new))) }
+    ensures sound { OnOk result (R.failed reader.new ≡ R.failed reader.old) }
+    ensures told { IfErr result (λ fault. fault ≢ Fault.Read → R.failed reader.new ≡ R.failed reader.old) }
+    ensures same_stream { R.stream reader.new ≡ R.stream reader.old }
+{
+    let Some(mut begun) = begin(alloc, reader, buffer, waiting.take(), room)? else {
+        return Ok(None);
+    };
+    let (piece, len, framing) = (&mut room.piece, begun.head.len, begun.head.framing);
+    match read_body(alloc, reader, buffer, piece, &mut begun.walk, len, framing) {
+        Ok((body, used)) => {
+            drop_front(buffer, used);
+            Ok(Some(begun.head.with_body(body)))
+        }
+        Err(fault) => {
+            *waiting = Some(begun);
+            Err(fault)
+        }
+    }
+}
+
 /// Takes the next request from what was read before and the reader: none at the end.
 ///
-/// `buffer` holds bytes that were read and not yet used; they come first. Those that the request doesn't use are left in it, so
+/// `inbox` holds bytes that were read and not yet used; they come first. Those that the request doesn't use are left in it, so
 /// the next call goes on with them. Where there is no request, it is as it was, with what was read behind it. No byte behind
 /// the request is waited for. What `room` holds doesn't matter.
 ///
@@ -144,35 +235,20 @@ fn next_head<R: Source>(
 ///   `MAX_TRAILER` bytes or has more than `MAX_FIELDS` fields, or the bytes end inside a chunked body.
 /// - `OutOfMemory`: there was no memory. `Read`: a read failed.
 ///
-/// After a fault no byte is lost: the buffer has what it had, with what was read behind it. After `Read` that begins with no whole
-/// request.
+/// After a fault no byte is lost: the inbox has what it had, with what was read behind it. After `Read` that begins with no whole
+/// request, and the next call goes on where this one stopped, in time in proportion to the bytes that came.
 pub fn read_request<R: Source>(
     alloc: Global,
     reader: &mut R,
-    buffer: &mut Vec<u8>,
+    inbox: &mut Inbox,
     room: &mut Room,
 ) -> Result<Option<Request>, Fault>
-    ensures found { IfOk result (λ next. Between (pending buffer.old.items (R.remaining reader.old)) (pending buffer.new.items (R.remaining reader.new)) (FindsNext next)) }
-    ensures fault { IfErr result (λ fault. Interrupts (R.failed reader.new) (pending buffer.old.items (R.remaining reader.old)) (pending buffer.new.items (R.remaining reader.new)) buffer.new.items fault ⊎ OfBytes (pending buffer.old.items (R.remaining reader.old)) (λ bytes. IsFault bytes fault)) }
-    ensures kept { OnErr result (Keeps (pending buffer.old.items (R.remaining reader.old)) (pending buffer.new.items (R.remaining reader.new))) }
+    ensures found { IfOk result (λ next. Between (pending inbox.old (R.remaining reader.old)) (pending inbox.new (R.remaining reader.new)) (FindsNext next)) }
+    ensures fault { IfErr result (λ fault. Interrupts (R.failed reader.new) (pending inbox.old (R.remaining reader.old)) (pending inbox.new (R.remaining reader.new)) inbox.new fault ⊎ OfBytes (pending inbox.old (R.remaining reader.old)) (λ bytes. IsFault bytes fault)) }
+    ensures kept { OnErr result (Keeps (pending inbox.old (R.remaining reader.old)) (pending inbox.new (R.remaining reader.new))) }
     ensures sound { OnOk result (R.failed reader.new ≡ R.failed reader.old) }
     ensures told { IfErr result (λ fault. fault ≢ Fault.Read → R.failed reader.new ≡ R.failed reader.old) }
     ensures same_stream { R.stream reader.new ≡ R.stream reader.old }
 {
-    match next_head(alloc, reader, buffer, room)? {
-        None => Ok(None),
-        Some(head) => {
-            let piece = &mut room.piece;
-            let (body, used) = read_body(alloc, reader, buffer, piece, head.len, head.framing)?;
-            drop_front(buffer, used);
-            Ok(Some(Request {
-                method: head.method,
-                target: head.target,
-                minor: head.minor,
-                closes: head.closes,
-                replicated: head.replicated,
-                body,
-            }))
-        }
-    }
+    take_request(alloc, reader, &mut inbox.bytes, &mut inbox.begun, room)
 }

@@ -5,7 +5,7 @@ ghost use Rattle.httparse.specs.Grammar.{HasNoSection, MayBecomeSection};
 ghost use Rattle.std.specs.Io.KnownBytes.{Keeps};
 ghost use Rattle.eu_framing.specs.Chunks.{IsTrailerFault, trailer_room};
 ghost use Rattle.eu_framing.specs.Message.{max_fields, pending};
-ghost use Rattle.eu_framing.specs.Reading.{Grows, Blames};
+ghost use Rattle.eu_framing.specs.Reading.{Grows, Blames, Longer};
 ghost use Rattle.eu_framing.specs.Scanning.{IsAt, TrailerEndsAfter};
 ghost use Rattle.eu_framing.specs.ChunkSteps.{FindsTrailer, lines_in, long_trailer_fault};
 
@@ -135,6 +135,7 @@ pub fn find_trailer<R: Source>(
     ensures inside { IfOk result (λ len. start + len ≤ vec_len buffer.new) }
     ensures fault { IfErr result (λ fault. Blames (R.failed reader.new) (R.remaining reader.old) buffer.old.items (R.remaining reader.new) buffer.new.items fault (λ bytes f. IsTrailerFault room (drop start bytes) f)) }
     ensures kept { OnErr result (Keeps (pending buffer.old.items (R.remaining reader.old)) (pending buffer.new.items (R.remaining reader.new))) }
+    ensures longer { Longer buffer.old.items buffer.new.items }
     ensures told { IfErr result (λ fault. fault ≢ Fault.Read → R.failed reader.new ≡ R.failed reader.old) }
     ensures same_stream { R.stream reader.new ≡ R.stream reader.old }
 {

@@ -4,6 +4,7 @@ mod batches;
 mod framing;
 mod instances;
 mod memory;
+mod pieces;
 mod request_memory;
 mod responses;
 mod routes;

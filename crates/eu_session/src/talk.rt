@@ -7,20 +7,17 @@ ghost use Rattle.eu_session.specs.Talk.{PartsCarry, PartsEnd, PartsEndOver, Part
 use crate::turn::{answer_request, refuse};
 use crate::{MAX_REQUESTS, SessionFault};
 use eu_clock::Clock;
-use eu_framing::{Request, Room, read_request};
+use eu_framing::{Inbox, Request, Room, read_request};
 use eu_model::Desk;
 use eu_routes::Routes;
 use eu_stream::{Sink, Source};
 use std::alloc::Global;
 
-/// The most bytes of memory that a buffer keeps from session to session.
-const MOST_KEPT: usize = 65_536;
-
 /// A session between two turns. It is a value: whoever has it can take the next turn.
 #[derive(Debug, Drop)]
 pub struct Talk {
     /// The bytes that were read and not yet used.
-    pub buffer: Vec<u8>,
+    pub inbox: Inbox,
     /// How many requests were answered.
     pub served: u32,
     ghost few: { served < 100 },
@@ -38,24 +35,21 @@ pub enum Turned {
 impl Talk {
     /// A session that begins: nothing was read of it, and nothing answered.
     pub fn new(alloc: Global) -> Talk
-        ensures buffer { result.buffer.items ≡ [] }
+        ensures inbox { result.inbox ≡ [] }
         ensures served { result.served ≡ 0 }
     {
         Talk {
-            buffer: Vec::new(alloc),
+            inbox: Inbox::new(alloc),
             served: 0,
         }
     }
 
-    /// Begins another session in its place, and keeps the memory of the buffer, up to 64 KiB. Takes none.
+    /// Begins another session in its place, and keeps the memory of the inbox, up to 64 KiB. Takes none.
     pub fn begin_anew(&mut self, alloc: Global)
-        ensures buffer { self.new.buffer.items ≡ [] }
+        ensures inbox { self.new.inbox ≡ [] }
         ensures served { self.new.served ≡ 0 }
     {
-        if self.buffer.capacity() > MOST_KEPT {
-            self.buffer = Vec::new(alloc);
-        }
-        self.buffer.clear();
+        self.inbox.begin_anew(alloc);
         self.served = 0;
     }
 }
@@ -86,10 +80,10 @@ pub fn take_turn<D: Desk, C: Clock, R: Source, W: Sink>(
     writer: &mut W,
 ) -> Result<Turned, SessionFault>
     ensures turn { Takes D.asked C.tells talk.old.served talk.new.served
-        (record { left = pending talk.old.buffer.items (R.remaining reader.old); desk = desk.old; clock = clock.old })
-        (record { left = pending talk.new.buffer.items (R.remaining reader.new); desk = desk.new; clock = clock.new })
+        (record { left = pending talk.old.inbox (R.remaining reader.old); desk = desk.old; clock = clock.old })
+        (record { left = pending talk.new.inbox (R.remaining reader.new); desk = desk.new; clock = clock.new })
         (record { before = W.contents writer.old; after = W.contents writer.new; reader_failed = R.failed reader.new; writer_failed = W.failed writer.new })
-        talk.new.buffer.items result }
+        talk.new.inbox result }
     ensures sound_reader { OnOk result (R.failed reader.new ≡ R.failed reader.old) }
     ensures sound_writer { OnOk result (W.failed writer.new ≡ W.failed writer.old) }
     ensures told_reader { IfErr result (λ fault. fault ≢ SessionFault.Read → R.failed reader.new ≡ R.failed reader.old) }
@@ -98,7 +92,7 @@ pub fn take_turn<D: Desk, C: Clock, R: Source, W: Sink>(
     ensures same_writer { W.stream writer.new ≡ W.stream writer.old }
 {
     let served = talk.served;
-    let request = match read_request(alloc, reader, &mut talk.buffer, room) {
+    let request = match read_request(alloc, reader, &mut talk.inbox, room) {
         Ok(Some(request)) => request,
         Ok(None) => return Ok(Turned::Ended(served)),
         Err(fault) => {

@@ -1,7 +1,7 @@
 //! Requests whose lines end with a bare LF: each is answered at its last byte, and no later.
 use crate::tests::rows::{Way, first_wrong, word_of};
 use eu_fixtures::{Parts, Torn};
-use eu_framing::{EMPTY_ROOM, read_request};
+use eu_framing::{EMPTY_ROOM, Inbox, read_request};
 use eu_stream::Source;
 use std::alloc::Global;
 use std::io::ErrorKind;
@@ -38,9 +38,9 @@ const TRAILERS: [&str; 7] = [
 
 /// The word for the fault of the first request of a reader, or for none.
 fn word_by<R: Source>(alloc: Global, reader: &mut R) -> &'static str {
-    let mut buffer = Vec::new(alloc);
+    let mut inbox = Inbox::new(alloc);
     let mut room = EMPTY_ROOM;
-    match read_request(alloc, reader, &mut buffer, &mut room) {
+    match read_request(alloc, reader, &mut inbox, &mut room) {
         Err(fault) => word_of(fault),
         _ => "taken",
     }

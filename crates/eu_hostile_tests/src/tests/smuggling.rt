@@ -6,7 +6,7 @@ use crate::tests::tables::{
 };
 use eu_base::Fault;
 use eu_fixtures::{Brittle, LAST_MISSING, MISSING, Torn, push_each};
-use eu_framing::{EMPTY_ROOM, Request, Room, read_request};
+use eu_framing::{EMPTY_ROOM, Inbox, Request, Room, read_request};
 use eu_stream::Source;
 use std::alloc::{AllocError, Global};
 use std::io::ErrorKind;
@@ -44,11 +44,11 @@ fn add_request(made: &mut Made, request: &Request) -> Result<(), AllocError> {
 fn add_next<R: Source>(
     alloc: Global,
     reader: &mut R,
-    buffer: &mut Vec<u8>,
+    inbox: &mut Inbox,
     room: &mut Room,
     made: &mut Made,
 ) -> Result<bool, AllocError> {
-    match read_request(alloc, reader, buffer, room) {
+    match read_request(alloc, reader, inbox, room) {
         Ok(Some(request)) => {
             let closes = request.closes;
             let added = add_request(made, &request);
@@ -74,10 +74,10 @@ fn made_of<R: Source>(alloc: Global, reader: &mut R) -> Result<Made, AllocError>
         words: String::new(alloc),
         responses: String::new(alloc),
     };
-    let mut buffer = Vec::new(alloc);
+    let mut inbox = Inbox::new(alloc);
     let mut room = EMPTY_ROOM;
     for _ in 0..9 {
-        if !add_next(alloc, reader, &mut buffer, &mut room, &mut made)? {
+        if !add_next(alloc, reader, &mut inbox, &mut room, &mut made)? {
             break;
         }
     }

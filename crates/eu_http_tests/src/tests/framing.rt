@@ -1,13 +1,15 @@
 use eu_base::Fault;
 use eu_fixtures::Parts;
-use eu_framing::{EMPTY_ROOM, MAX_FIELDS, MAX_HEAD, MAX_RAW, MAX_TRAILER, Request, read_request};
+use eu_framing::{
+    EMPTY_ROOM, Inbox, MAX_FIELDS, MAX_HEAD, MAX_RAW, MAX_TRAILER, Request, read_request,
+};
 use eu_stream::Source;
 use std::alloc::{AllocError, Global};
 
 const INSTANCE: &[u8] =
     b"{\"instance\":{\"instanceId\":\"i1\",\"hostName\":\"h\",\"app\":\"a\",\"ipAddr\":\"10.0.0.1\",\"status\":\"UP\",\"lastDirtyTimestamp\":\"5\",\"dataCenterInfo\":{\"name\":\"MyOwn\"}}}";
 
-const TWO_MORE: &[u8] =
+pub const TWO_MORE: &[u8] =
     b"GET /eureka/apps/A/i1 HTTP/1.1\r\nHost: x\r\n\r\nGET /eureka/apps/delta HTTP/1.1\r\nHost: x\r\n\r\n";
 
 /// Writes these parts, one after another.
@@ -51,13 +53,13 @@ pub fn is_request(request: &Request, method: &str, target: &str, body: &[u8]) ->
 fn is_next<R: Source>(
     alloc: Global,
     reader: &mut R,
-    buffer: &mut Vec<u8>,
+    inbox: &mut Inbox,
     method: &str,
     target: &str,
     body: &[u8],
 ) -> bool {
     let mut room = EMPTY_ROOM;
-    match read_request(alloc, reader, buffer, &mut room) {
+    match read_request(alloc, reader, inbox, &mut room) {
         Ok(Some(request)) => is_request(&request, method, target, body),
         _ => false,
     }
@@ -71,9 +73,9 @@ pub const THREE: [(&str, &str, &[u8]); 3] = [
 ];
 
 /// Whether the next requests are the three.
-fn are_next<R: Source>(alloc: Global, reader: &mut R, buffer: &mut Vec<u8>) -> bool {
+fn are_next<R: Source>(alloc: Global, reader: &mut R, inbox: &mut Inbox) -> bool {
     for (method, target, body) in &THREE {
-        if !is_next(alloc, reader, buffer, method, target, body) {
+        if !is_next(alloc, reader, inbox, method, target, body) {
             return false;
         }
     }
@@ -81,22 +83,22 @@ fn are_next<R: Source>(alloc: Global, reader: &mut R, buffer: &mut Vec<u8>) -> b
 }
 
 /// Whether no request is left.
-fn is_end<R: Source>(alloc: Global, reader: &mut R, buffer: &mut Vec<u8>) -> bool {
+fn is_end<R: Source>(alloc: Global, reader: &mut R, inbox: &mut Inbox) -> bool {
     let mut room = EMPTY_ROOM;
-    matches!(read_request(alloc, reader, buffer, &mut room), Ok(None))
+    matches!(read_request(alloc, reader, inbox, &mut room), Ok(None))
 }
 
 /// Whether the reader gives the three requests, and then the end.
 fn are_the_three<R: Source + Drop>(alloc: Global, mut reader: R) -> bool {
-    let mut buffer = Vec::new(alloc);
-    are_next(alloc, &mut reader, &mut buffer) && is_end(alloc, &mut reader, &mut buffer)
+    let mut inbox = Inbox::new(alloc);
+    are_next(alloc, &mut reader, &mut inbox) && is_end(alloc, &mut reader, &mut inbox)
 }
 
 /// The fault that the first request of a reader has.
 fn fault_of<R: Source + Drop>(alloc: Global, mut reader: R) -> Option<Fault> {
-    let mut buffer = Vec::new(alloc);
+    let mut inbox = Inbox::new(alloc);
     let mut room = EMPTY_ROOM;
-    match read_request(alloc, &mut reader, &mut buffer, &mut room) {
+    match read_request(alloc, &mut reader, &mut inbox, &mut room) {
         Err(fault) => Some(fault),
         _ => None,
     }
@@ -269,9 +271,9 @@ const PIECES: [(&[u8], &[u8], &str); 4] = [
 ];
 
 /// Whether the next request has that body.
-fn has_body<R: Source>(alloc: Global, reader: &mut R, buffer: &mut Vec<u8>, body: &str) -> bool {
+fn has_body<R: Source>(alloc: Global, reader: &mut R, inbox: &mut Inbox, body: &str) -> bool {
     let mut room = EMPTY_ROOM;
-    match read_request(alloc, reader, buffer, &mut room) {
+    match read_request(alloc, reader, inbox, &mut room) {
         Ok(Some(request)) => request.body.as_slice() == body.as_bytes(),
         _ => false,
     }
@@ -280,9 +282,9 @@ fn has_body<R: Source>(alloc: Global, reader: &mut R, buffer: &mut Vec<u8>, body
 /// Whether two pieces are a request with that body, and no more is read for it.
 fn is_read_alone(alloc: Global, first: &[u8], second: &[u8], body: &str) -> bool {
     let mut reader = Parts::failing(first, second);
-    let mut buffer = Vec::new(alloc);
-    has_body(alloc, &mut reader, &mut buffer, body)
-        && buffer.is_empty()
+    let mut inbox = Inbox::new(alloc);
+    has_body(alloc, &mut reader, &mut inbox, body)
+        && inbox.as_slice().is_empty()
         && fault_of(alloc, reader) == Some(Fault::Read)
 }
 
@@ -296,9 +298,9 @@ fn no_byte_behind_a_request_is_waited_for(rt: HostRuntime) {
 /// What the fields say of the connection and the sender.
 fn says(alloc: Global, text: &[u8]) -> Option<(u8, bool, bool)> {
     let mut reader = text;
-    let mut buffer = Vec::new(alloc);
+    let mut inbox = Inbox::new(alloc);
     let mut room = EMPTY_ROOM;
-    match read_request(alloc, &mut reader, &mut buffer, &mut room) {
+    match read_request(alloc, &mut reader, &mut inbox, &mut room) {
         Ok(Some(request)) => Some((request.minor, request.closes, request.replicated)),
         _ => None,
     }
@@ -349,8 +351,8 @@ fn fields_tell_of_the_connection(rt: HostRuntime) {
 /// Whether the bytes end before a request.
 fn ends(alloc: Global, text: &[u8]) -> bool {
     let mut reader = text;
-    let mut buffer = Vec::new(alloc);
-    is_end(alloc, &mut reader, &mut buffer)
+    let mut inbox = Inbox::new(alloc);
+    is_end(alloc, &mut reader, &mut inbox)
 }
 
 /// Targets, with the path and the query of each.
@@ -369,9 +371,9 @@ fn is_for(request: &Request, path: &str, query: &str) -> bool {
 /// Whether the request of a text has that path and that query.
 fn asks_for(alloc: Global, text: &str, path: &str, query: &str) -> bool {
     let mut reader = Parts::ending(text.as_bytes(), b"");
-    let mut buffer = Vec::new(alloc);
+    let mut inbox = Inbox::new(alloc);
     let mut room = EMPTY_ROOM;
-    match read_request(alloc, &mut reader, &mut buffer, &mut room) {
+    match read_request(alloc, &mut reader, &mut inbox, &mut room) {
         Ok(Some(request)) => is_for(&request, path, query),
         _ => false,
     }
@@ -435,7 +437,7 @@ fn heads_are_taken_up_to_their_limits(rt: HostRuntime) {
 }
 
 /// A chunked request with so many chunks of one byte each.
-fn chunks_of(alloc: Global, count: usize) -> Result<Vec<u8>, AllocError> {
+pub fn chunks_of(alloc: Global, count: usize) -> Result<Vec<u8>, AllocError> {
     let head = b"PUT / HTTP/1.1\r\nHost: x\r\nTransfer-Encoding: chunked\r\n\r\n";
     let mut text = Vec::from_slice(alloc, head.as_slice())?;
     push_times(&mut text, b"1\r\na\r\n", count)?;

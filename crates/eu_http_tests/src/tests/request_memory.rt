@@ -3,7 +3,7 @@ use crate::tests::framing::{FAULTS, THREE, is_request, with_chunks, with_length}
 use crate::tests::routes::{ROWS, words};
 use eu_base::Fault;
 use eu_fixtures::are_so;
-use eu_framing::{EMPTY_ROOM, Request, read_request};
+use eu_framing::{EMPTY_ROOM, Inbox, Request, read_request};
 use eu_routes::Routes;
 use std::alloc::{AllocError, Global};
 
@@ -18,15 +18,15 @@ fn is_that(request: Option<Request>, method: &str, target: &str, body: &[u8]) ->
 /// Whether a reader of its own gives the three requests, and then the end.
 fn are_read(alloc: Global, text: &[u8]) -> Result<bool, Fault> {
     let mut reader = text;
-    let mut buffer = Vec::new(alloc);
+    let mut inbox = Inbox::new(alloc);
     let mut room = EMPTY_ROOM;
     for (method, target, body) in &THREE {
-        let request = read_request(alloc, &mut reader, &mut buffer, &mut room)?;
+        let request = read_request(alloc, &mut reader, &mut inbox, &mut room)?;
         if !is_that(request, method, target, body) {
             return Ok(false);
         }
     }
-    let end = read_request(alloc, &mut reader, &mut buffer, &mut room)?;
+    let end = read_request(alloc, &mut reader, &mut inbox, &mut room)?;
     Ok(end.is_none())
 }
 
@@ -52,9 +52,9 @@ fn memory_request(rt: HostRuntime) {
 /// Whether a text has that fault.
 fn is_refused(alloc: Global, text: &[u8], wanted: Fault) -> Result<bool, Fault> {
     let mut reader = text;
-    let mut buffer = Vec::new(alloc);
+    let mut inbox = Inbox::new(alloc);
     let mut room = EMPTY_ROOM;
-    match read_request(alloc, &mut reader, &mut buffer, &mut room) {
+    match read_request(alloc, &mut reader, &mut inbox, &mut room) {
         Err(Fault::OutOfMemory) => Err(Fault::OutOfMemory),
         Err(fault) => Ok(fault == wanted),
         Ok(request) => {

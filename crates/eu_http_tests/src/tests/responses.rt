@@ -1,7 +1,7 @@
 //! Requests as clients send them, and responses byte for byte.
 use eu_base::{App, Config, Fault, Instance, Key, Keys, SharedInstance, Stamp, Status};
 use eu_fixtures::{MISSING, REGISTRATION, moment, push_each};
-use eu_framing::{EMPTY_ROOM, Request, read_request};
+use eu_framing::{EMPTY_ROOM, Inbox, Request, read_request};
 use eu_http::{Asked, Outcome, Wanted, answer, answer_without_memory, asks};
 use eu_json::read_instance;
 use eu_model::{
@@ -54,9 +54,9 @@ fn sent(alloc: Global, line: &str, field: &str, body: &[u8]) -> Result<Vec<u8>, 
 fn request(alloc: Global, line: &str, field: &str, body: &[u8]) -> Result<Request, Fault> {
     let bytes = sent(alloc, line, field, body)?;
     let mut reader = bytes.as_slice();
-    let mut buffer = Vec::new(alloc);
+    let mut inbox = Inbox::new(alloc);
     let mut room = EMPTY_ROOM;
-    read_request(alloc, &mut reader, &mut buffer, &mut room)?.ok_or(Fault::BadHead)
+    read_request(alloc, &mut reader, &mut inbox, &mut room)?.ok_or(Fault::BadHead)
 }
 
 /// Writes a key behind a word.

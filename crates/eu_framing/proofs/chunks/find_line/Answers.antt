@@ -3,11 +3,12 @@ use Rattle.std.proofs.lemmas.List.{length-drop}
 use Rattle.eu_base.specs.declared.faults.Fault.TheVariants as faults
 use Rattle.httparse.specs.Grammar.{HasNoChunkLine}
 use Rattle.eu_framing.proofs.BodyLemmas.{behind}
-use Rattle.eu_framing.proofs.ScanLemmas.{line_start, line_more, line_stops, whole_window}
+use Rattle.eu_framing.proofs.ScanLemmas.{line_more, line_stops, whole_window}
 use Rattle.std.proofs.lemmas.Result.{err_from_is_err_and}
 use Rattle.eu_framing.specs.Chunks.{IsLineFault}
 use Rattle.eu_framing.proofs.ChunkLemmas.{line_so_inside}
 use Rattle.eu_framing.proofs.ReadingLemmas.{grows_none, grows_more, grows_length, on_ok, blames_fill, blames_now, blames_so_now, blames_so_end}
+use Rattle.eu_framing.proofs.WalkLemmas.{seen_all}
 use Rattle.eu_framing.proofs.chunks.find_line.Goals as goal
 
 pub returns-in_err-found-clause-fault : goal.returns-in_err-found-clause-fault
@@ -32,11 +33,11 @@ returns-then-branch-eq0-clause-grows g c = on_ok c.last_line.result (grows_more 
 
 pub reads-init : goal.reads-init
 reads-init g c = record {
-  within = c.requires.within;
-  seen = c.requires.within;
+  within = omega (arith, c.requires.seen.from, c.requires.seen.within, c.args.buffer.now.ok);
+  seen = omega (arith, c.requires.seen.within, c.args.buffer.now.ok);
   grows = grows_none _ _ _;
-  from = omega arith;
-  behind = line_start (drop c.args.start c.args.buffer.now.items) (c.args.start - c.args.start) (omega arith);
+  from = c.requires.seen.from;
+  behind = c.requires.seen.behind;
   same_stream = refl;
 }
 
@@ -60,9 +61,25 @@ reads-preserved g c =
     let grown : drop c.args.start c.fill.new.buffer.items ≡ text ++ grows.more = ap (drop c.args.start) grows.grown ∙ behind c.args.start b grows.more within in
     record {
       within = omega (arith, within, c.fill.new.buffer.ok, grows_length grows);
-      seen = omega (arith, c.len-seen.ensures, c.reads.buffer.ok, c.fill.new.buffer.ok, grows_length grows);
+      seen = omega (arith, c.len-in-reads.ensures, c.reads.buffer.ok, c.fill.new.buffer.ok, grows_length grows);
       grows = grows_more c.reads.invariant.grows grows;
-      from = omega (arith, c.len-seen.ensures, c.reads.invariant.within);
-      behind = line_more text (drop c.args.start c.fill.new.buffer.items) grows.more (c.len-seen.result - c.args.start) grown (whole_window c.args.room text HasNoChunkLine short (rw c.in-None.is at none)) (omega (arith, c.len-seen.ensures, c.reads.buffer.ok, length-drop c.args.start b));
+      from = omega (arith, c.len-in-reads.ensures, c.reads.invariant.within);
+      behind = line_more text (drop c.args.start c.fill.new.buffer.items) grows.more (c.len-in-reads.result - c.args.start) grown (whole_window c.args.room text HasNoChunkLine short (rw c.in-None.is at none)) (omega (arith, c.len-in-reads.ensures, c.reads.buffer.ok, length-drop c.args.start b));
       same_stream = c.fill.ensures.same_stream ∙ c.reads.invariant.same_stream;
     }
+
+pub returns-in_err-fill-clause-seen : goal.returns-in_err-fill-clause-seen
+returns-in_err-fill-clause-seen g c =
+    let b = c.reads.buffer.items in
+    let text = drop c.args.start b in
+    let short : length text < c.args.room = omega (arith, c.reads-test.true, c.reads.buffer.ok, c.reads.invariant.within, length-drop c.args.start b) in
+    let none = (rw c.deref.ensures.value at c.in_ok-found.ensures.none) c.reads.invariant.from c.reads.invariant.behind in
+    seen_all c.args.start c.len-in-reads.result (omega (arith, c.len-in-reads.ensures, c.reads.buffer.ok)) (omega (arith, c.reads.invariant.within, c.reads.buffer.ok)) (whole_window c.args.room text HasNoChunkLine short (rw c.in-None.is at none)) c.fill.ensures.longer
+
+pub returns-then-branch-eq0-clause-seen : goal.returns-then-branch-eq0-clause-seen
+returns-then-branch-eq0-clause-seen g c =
+    let b = c.reads.buffer.items in
+    let text = drop c.args.start b in
+    let short : length text < c.args.room = omega (arith, c.reads-test.true, c.reads.buffer.ok, c.reads.invariant.within, length-drop c.args.start b) in
+    let none = (rw c.deref.ensures.value at c.in_ok-found.ensures.none) c.reads.invariant.from c.reads.invariant.behind in
+    seen_all c.args.start c.len-in-reads.result (omega (arith, c.len-in-reads.ensures, c.reads.buffer.ok)) (omega (arith, c.reads.invariant.within, c.reads.buffer.ok)) (whole_window c.args.room text HasNoChunkLine short (rw c.in-None.is at none)) c.fill.ensures.longer

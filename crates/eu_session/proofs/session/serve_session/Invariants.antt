@@ -7,7 +7,7 @@ abbrev pub invariant-turns : goal.invariant-turns
 invariant-turns g l = record {
   goes_on : Part (Step g.D.Desk.asked g.C.Clock.tells) 0 l.room.talk.served
       (record { left = g.R.Source.remaining l.initial.reader; desk = l.initial.desk; clock = l.initial.clock })
-      (record { left = pending l.room.talk.buffer.items (g.R.Source.remaining l.reader); desk = l.desk; clock = l.clock })
+      (record { left = pending l.room.talk.inbox (g.R.Source.remaining l.reader); desk = l.desk; clock = l.clock })
       (g.W.Sink.contents l.initial.writer) (g.W.Sink.contents l.writer);
   sound_reader : g.R.Source.failed l.reader ≡ g.R.Source.failed l.initial.reader;
   sound_writer : g.W.Sink.failed l.writer ≡ g.W.Sink.failed l.initial.writer;

@@ -109,12 +109,10 @@ impl<'a, R: Wait + Clock> Loop<'a, R> {
     /// Puts a connection in its place again, of whose peer this is awaited now. One that is late, or would hold too much, is closed.
     fn park(&mut self, key: usize, guest: Connection, awaited: Awaited) {
         let mut guest = guest;
-        if guest.talk.buffer.is_empty() {
-            guest.talk.buffer = Vec::new(self.hub.alloc);
-        }
+        guest.talk.inbox.release(self.hub.alloc);
         let bytes = guest
             .talk
-            .buffer
+            .inbox
             .capacity()
             .saturating_add(guest.unsent.memory());
         if self.hall.come_back(key, guest, awaited, bytes).is_err() {

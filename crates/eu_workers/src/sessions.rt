@@ -7,7 +7,7 @@ use crate::gated::{GatedSink, GatedSource};
 use crate::long::is_long;
 use crate::site::Site;
 use eu_clock::Clock;
-use eu_framing::{EMPTY_ROOM, Room};
+use eu_framing::{EMPTY_ROOM, Inbox, Room};
 use eu_gate::{Gate, Go, Point};
 use eu_hall::{Guest, Happened, Incoming, Left, Phase, Sent, Visit};
 use eu_session::{SessionFault, Talk, Turned, take_turn};
@@ -20,15 +20,15 @@ use std::sync::Wait;
 #[derive(Drop)]
 struct Workplace {
     room: Room,
-    buffer: Vec<u8>,
+    inbox: Inbox,
 }
 
-/// Trades two buffers, if both are empty.
-fn lend(talk: &mut Talk, buffer: &mut Vec<u8>)
-    ensures { talk.new.buffer.items ≡ talk.old.buffer.items }
+/// Trades the memory of two inboxes, if neither holds a byte.
+fn lend(talk: &mut Talk, inbox: &mut Inbox)
+    ensures { talk.new.inbox ≡ talk.old.inbox }
 {
-    if talk.buffer.is_empty() && buffer.is_empty() {
-        mem::swap(&mut talk.buffer, buffer);
+    if talk.inbox.as_slice().is_empty() && inbox.as_slice().is_empty() {
+        mem::swap(&mut talk.inbox, inbox);
     }
 }
 
@@ -42,7 +42,7 @@ enum Step {
 
 /// What is awaited of a peer, of whose session no more can be read now.
 fn phase_of(talk: &Talk) -> Phase {
-    if talk.buffer.is_empty() {
+    if talk.inbox.as_slice().is_empty() {
         Phase::Idle
     } else {
         Phase::Asking
@@ -109,7 +109,7 @@ fn step<K: Label, R: Wait, G: Gate, C: Clock, S: Read + Write>(
     if guest.has_ended {
         return Step::Over(Left::Waits(Phase::Lingering, Happened::Nothing));
     }
-    if visit.leaves_long && is_long(guest.talk.buffer.as_slice()) {
+    if visit.leaves_long && is_long(guest.talk.inbox.as_slice()) {
         return Step::Over(Left::Long);
     }
     turn(site, who, room, seat, clock, guest)
@@ -159,9 +159,9 @@ fn visit<K: Label, R: Wait, G: Gate, S: Incoming<Talk = Talk>, C: Clock>(
     ensures { HasTurn seat.old.pass seat.new.pass }
 {
     let mut visit = visit;
-    lend(&mut visit.guest.talk, &mut workplace.buffer);
+    lend(&mut visit.guest.talk, &mut workplace.inbox);
     let left = serve(site, who, &mut workplace.room, seat, clock, &mut visit);
-    lend(&mut visit.guest.talk, &mut workplace.buffer);
+    lend(&mut visit.guest.talk, &mut workplace.inbox);
     source.take_back(visit, left);
     seat.pass.trim();
     if left == Left::Gone { Err(()) } else { Ok(()) }
@@ -192,7 +192,7 @@ pub fn run_sessions<K: Label, R: Wait, G: Gate, S: Incoming<Talk = Talk>, C: Clo
     };
     let mut workplace = Workplace {
         room: EMPTY_ROOM,
-        buffer: Vec::new(site.alloc),
+        inbox: Inbox::new(site.alloc),
     };
     let mut ended = Ended::default();
     for _turn in 0..limit {

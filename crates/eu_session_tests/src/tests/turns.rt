@@ -75,7 +75,7 @@ fn turns_follow_one_another(rt: HostRuntime) -> Result<(), Fail> {
     assert!(rt; talking.turn(&mut reader) == Ok(Turned::Ended(2)));
     let both = joined(alloc, &[ANSWER, LAST_ANSWER])?;
     assert!(rt; talking.out.as_slice() == both.as_bytes());
-    assert!(rt; talking.talk.buffer.as_slice() == b"rest".as_slice());
+    assert!(rt; talking.talk.inbox.as_slice() == b"rest".as_slice());
     Ok(())
 }
 
@@ -85,10 +85,10 @@ fn a_turn_that_waits_is_taken_again(rt: HostRuntime) -> Result<(), Fail> {
     let (begun, rest) = RENEWAL.as_bytes().split_at(30);
     let mut reader = Parts::failing(begun, b"");
     assert!(rt; talking.turn(&mut reader) == Err(SessionFault::Read));
-    assert!(rt; talking.out.is_empty() && talking.talk.buffer.as_slice() == begun);
+    assert!(rt; talking.out.is_empty() && talking.talk.inbox.as_slice() == begun);
     let mut reader = Parts::failing(rest, b"");
     assert!(rt; talking.turn(&mut reader) == Ok(Turned::GoesOn));
-    assert!(rt; talking.talk.served == 1 && talking.talk.buffer.is_empty());
+    assert!(rt; talking.talk.served == 1 && talking.talk.inbox.as_slice().is_empty());
     assert!(rt; talking.out.as_slice() == ANSWER.as_bytes());
     Ok(())
 }

@@ -1,31 +1,35 @@
 //! How many connections came, and how many are open.
-ghost use Rattle.std.specs.Prelude.{◌≡◌, ◌+◌, ◌-◌, ◌<◌, ◌≤◌, ◌==◌, ◌&&◌, ◌||◌, not, false, true, min};
+ghost use Rattle.std.specs.Prelude.{◌≡◌, ◌+◌, ◌-◌, ◌<◌, ◌↔◌, ◌×◌, ◌||◌, not, false, true, min};
+ghost use Rattle.eu_accept.specs.Admissions.{admitted, refused, let_out, loop_ended};
 
 /// How many connections a server still takes, how many are open, and how many of its loops work.
 #[derive(Clone, Copy, Debug, PartialEq, Eq)]
 pub struct Admission {
     /// How many are still to be accepted.
     pub left: u64,
-    /// How many have come, those that were refused included.
+    /// How many have come, without those that were refused.
     pub came: u64,
+    /// How many were refused, because as many were open as may be.
+    pub refused: u64,
     /// How many are open.
     pub here: u64,
     /// How many loops have not ended.
     pub loops: u32,
     /// No more are accepted.
     pub is_closed: bool,
-    /// Accepting one has failed for good.
+    /// Accepting one, or polling, has failed for good.
     pub has_failed: bool,
 }
 
 impl Admission {
     /// That of a server which takes so many connections and has so many loops.
     pub fn new(sessions: u64, loops: u32) -> Admission
-        ensures { result ≡ record { left = sessions; came = 0; here = 0; loops = loops; is_closed = false; has_failed = false } }
+        ensures { result ≡ record { left = sessions; came = 0; refused = 0; here = 0; loops = loops; is_closed = false; has_failed = false } }
     {
         Admission {
             left: sessions,
             came: 0,
+            refused: 0,
             here: 0,
             loops,
             is_closed: false,
@@ -33,20 +37,49 @@ impl Admission {
         }
     }
 
-    /// Counts one that has come.
-    pub fn admit(&mut self) {
+    /// Whether a further connection is wanted.
+    pub fn is_open(&self) -> bool
+        ensures { (result ≡ true) ↔ ((0 < self.now.left) × (self.now.is_closed ≡ false)) }
+    {
+        self.left > 0 && !self.is_closed
+    }
+
+    /// Lets one in that has come, where fewer than `most` are open, and else refuses it. Tells which, and counts it.
+    pub fn admit(&mut self, most: u64) -> bool
+        ensures has_room { (result ≡ true) ↔ (self.old.here < most) }
+        ensures admitted { result ≡ true → self.new ≡ admitted self.old }
+        ensures refused { result ≡ false → self.new ≡ refused self.old }
+    {
+        if self.here >= most {
+            self.refused = self.refused.saturating_add(1);
+            return false;
+        }
         self.left = self.left.saturating_sub(1);
         self.came = self.came.saturating_add(1);
         self.here = self.here.saturating_add(1);
+        true
     }
 
-    /// Counts one out.
-    pub fn let_out(&mut self) {
+    /// Counts one out that was let in.
+    pub fn let_out(&mut self)
+        ensures { self.new ≡ let_out self.old }
+    {
         self.here = self.here.saturating_sub(1);
     }
 
+    /// Notes that no more are accepted, and whether that is because something has failed. What has failed before stays noted.
+    pub fn close(&mut self, has_failed: bool)
+        ensures { self.new ≡ record self.old { is_closed = true; has_failed = self.old.has_failed || has_failed } }
+    {
+        self.is_closed = true;
+        self.has_failed = self.has_failed || has_failed;
+    }
+
     /// Counts a loop out, and tells whether it was the last one.
-    pub fn end_loop(&mut self) -> bool {
+    pub fn end_loop(&mut self) -> bool
+        ensures loops { self.new ≡ loop_ended self.old }
+        ensures last { (result ≡ true) ↔ (self.new.loops ≡ 0) }
+    {
         self.loops = self.loops.saturating_sub(1);
         self.loops == 0
     }

@@ -55,6 +55,13 @@ fn is_passing(error: &io::Error) -> bool {
     }
 }
 
+/// Tells a connection that there is no room for it, and closes it.
+fn refuse(stream: TcpStream) {
+    let mut stream = stream;
+    let _ = stream.write(FULL.as_bytes());
+    let _ = stream.shutdown(Shutdown::Write);
+}
+
 impl<'a, R: Wait + Clock> Door<'a, R> {
     /// The door at a listener, which waits no more from now on. An error is the system's.
     pub fn new(
@@ -86,24 +93,13 @@ impl<'a, R: Wait + Clock> Door<'a, R> {
         }
     }
 
-    /// Whether there is room for one more, which is counted.
-    fn admits(&self) -> bool {
-        let mut admission = self.hub.admission.lock(self.hub.rt);
-        let has_room = admission.here < self.hub.limits.connections as u64;
-        admission.admit();
-        has_room
-    }
-
     /// Deals a connection to the next loop, or refuses it.
     fn deal(&mut self, stream: TcpStream) {
-        let mut stream = stream;
-        let _ = stream.set_nodelay(true);
-        if !self.admits() {
-            let _ = stream.write(FULL.as_bytes());
-            let _ = stream.shutdown(Shutdown::Write);
-            self.hub.let_out();
+        if !self.hub.admit() {
+            refuse(stream);
             return;
         }
+        let _ = stream.set_nodelay(true);
         let count = self.hub.boxes.len().max(1);
         let number = self.next % count;
         self.next = (number + 1) % count;
@@ -117,7 +113,7 @@ impl<'a, R: Wait + Clock> Door<'a, R> {
 
     /// Whether a further connection is wanted.
     fn is_open(&self) -> bool {
-        self.hub.admission.lock(self.hub.rt).left > 0
+        self.hub.counts().is_open()
     }
 
     /// Accepts what waits. An error where accepting has failed for good.

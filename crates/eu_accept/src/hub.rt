@@ -102,14 +102,16 @@ impl<'a, R: Wait + Clock> Hub<'a, R> {
 
     /// Notes that no more connections are accepted, and wakes all loops.
     pub(crate) fn close_door(&self, has_failed: bool) {
-        {
-            let mut admission = self.admission.lock(self.rt);
-            admission.is_closed = true;
-            admission.has_failed = has_failed;
-        }
+        self.admission.lock(self.rt).close(has_failed);
         for mailbox in &self.boxes {
             mailbox.wake();
         }
+    }
+
+    /// Whether a connection that has come is let in, which is counted.
+    pub(crate) fn admit(&self) -> bool {
+        let most = self.limits.connections as u64;
+        self.admission.lock(self.rt).admit(most)
     }
 
     /// Counts a connection out.

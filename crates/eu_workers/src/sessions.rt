@@ -33,7 +33,7 @@ fn lend(talk: &mut Talk, inbox: &mut Inbox)
 }
 
 /// What comes of one step of a visit.
-enum Step {
+enum Progress {
     /// A request was answered, or the session has ended.
     Answered,
     /// The visit is over, and left the connection so.
@@ -57,7 +57,7 @@ fn turn<K: Label, R: Wait, G: Gate, C: Clock, S: Read>(
     seat: &mut Seat<'_, K, R>,
     clock: &mut C,
     guest: &mut Guest<S, Talk>,
-) -> Step
+) -> Progress
     ensures { IsAsked seat.old.pass seat.new.pass }
 {
     let mut source = GatedSource::new(&mut guest.socket, site.gate, who);
@@ -74,13 +74,13 @@ fn turn<K: Label, R: Wait, G: Gate, C: Clock, S: Read>(
     );
     let waits = source.waits();
     match turned {
-        Ok(Turned::GoesOn) => Step::Answered,
+        Ok(Turned::GoesOn) => Progress::Answered,
         Err(SessionFault::Read) if waits => {
-            Step::Over(Left::Waits(phase_of(&guest.talk), Happened::Nothing))
+            Progress::Over(Left::Waits(phase_of(&guest.talk), Happened::Nothing))
         }
         Ok(Turned::Ended(_)) | Err(_) => {
             guest.has_ended = true;
-            Step::Answered
+            Progress::Answered
         }
     }
 }
@@ -93,24 +93,24 @@ fn step<K: Label, R: Wait, G: Gate, C: Clock, S: Read + Write>(
     seat: &mut Seat<'_, K, R>,
     clock: &mut C,
     visit: &mut Visit<S, Talk>,
-) -> Step
+) -> Progress
     ensures { IsAsked seat.old.pass seat.new.pass }
 {
     let guest = &mut visit.guest;
     let before = guest.unsent.len();
     match guest.unsent.send(&mut guest.socket) {
-        Err(_) => return Step::Over(Left::Gone),
+        Err(_) => return Progress::Over(Left::Gone),
         Ok(Sent::Waits) if guest.unsent.len() < before => {
-            return Step::Over(Left::Waits(Phase::Answering, Happened::Moved));
+            return Progress::Over(Left::Waits(Phase::Answering, Happened::Moved));
         }
-        Ok(Sent::Waits) => return Step::Over(Left::Waits(Phase::Answering, Happened::Nothing)),
+        Ok(Sent::Waits) => return Progress::Over(Left::Waits(Phase::Answering, Happened::Nothing)),
         Ok(Sent::All) => {}
     }
     if guest.has_ended {
-        return Step::Over(Left::Waits(Phase::Lingering, Happened::Nothing));
+        return Progress::Over(Left::Waits(Phase::Lingering, Happened::Nothing));
     }
     if visit.leaves_long && is_long(guest.talk.inbox.as_slice()) {
-        return Step::Over(Left::Long);
+        return Progress::Over(Left::Long);
     }
     turn(site, who, room, seat, clock, guest)
 }
@@ -138,9 +138,9 @@ fn serve<K: Label, R: Wait, G: Gate, C: Clock, S: Read + Write>(
     let mut has_answered = false;
     for _turn in 0..visit.most_turns {
         match step(site, who, room, seat, clock, visit) {
-            Step::Answered => has_answered = true,
-            Step::Over(left) if has_answered => return after_answers(left),
-            Step::Over(left) => return left,
+            Progress::Answered => has_answered = true,
+            Progress::Over(left) if has_answered => return after_answers(left),
+            Progress::Over(left) => return left,
         }
     }
     Left::GoesOn

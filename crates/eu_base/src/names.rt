@@ -207,6 +207,7 @@ impl App {
     /// The application of that name, with ASCII letters upper-cased.
     ///
     /// `Empty` where the name has no byte, `TooLong` where it has more than 255, `OutOfMemory`.
+    #[inline(always)]
     pub fn read(alloc: Global, text: &str) -> Result<App, Fault>
         ensures value { IfOk result (λ a. a ≡ str_to_ascii_uppercase text.now) }
         ensures empty { (result ≡ Err Fault.Empty) ↔ (text.now ≡ []) }

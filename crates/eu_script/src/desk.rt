@@ -190,9 +190,7 @@ fn answer_command<C: Chooser>(
 {
     let settled = settled_line(&command);
     let answer = book.apply(alloc, PASS, command, moment, chooser);
-    let printed = print_answer(out, settled, &answer);
-    drop(answer);
-    printed
+    print_answer(out, settled, &answer)
 }
 
 /// What a command prints that ends a flight; nothing for any other.

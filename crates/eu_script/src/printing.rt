@@ -13,6 +13,7 @@ use std::alloc::{AllocError, Global};
 
 /// Prints the line of a reply: its HTTP status and, of a conflict, the held instance's status, overridden status and stamp.
 /// `settled` is what is printed where a batch is in flight no more.
+#[inline(always)]
 pub fn print_reply(out: &mut String, settled: &str, reply: &Reply) -> Result<(), AllocError>
     ensures { OnOk result (string_bytes out.new ≡ string_bytes out.old ++ reply_text settled.now reply.now) }
 {

@@ -63,6 +63,7 @@ impl Taking {
 
 /// Takes the lease of a place out of the table, its deadline out of their index, and counts it no more. The last one gets its place. Takes
 /// no memory.
+#[inline(always)]
 pub(crate) fn take_out(
     table: &mut IndexMap<Key, HeldLease>,
     index: &mut Deadlines,

@@ -192,6 +192,7 @@ fn register_line(alloc: Global, words: &mut Words<'_>) -> Result<Line, LineError
 }
 
 /// An instance, else `Bad`; `OutOfMemory`. Its stamp is the moment where `-` stands for it; its host is its id.
+#[inline(always)]
 #[tactic(auto, unfolding(crate::specs::Lines::newcomer_at))]
 fn instance_at(
     alloc: Global,

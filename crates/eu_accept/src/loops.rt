@@ -34,6 +34,13 @@ const SLOW: &str = "HTTP/1.1 408 Request Timeout\r\nContent-Length: 0\r\nConnect
 /// A connection.
 type Connection = Guest<TcpStream, Talk>;
 
+/// A connection that is to be visited.
+#[derive(Clone, Copy, Debug)]
+struct Call {
+    key: usize,
+    leaves_long: bool,
+}
+
 /// A loop of a server. It alone has its connections, but for those that are away at a worker.
 #[derive(Drop)]
 pub struct Loop<'a, R: Wait + Clock> {
@@ -42,7 +49,7 @@ pub struct Loop<'a, R: Wait + Clock> {
     poll: Poll,
     events: Events,
     hall: Hall<Connection>,
-    ready: VecDeque<usize>,
+    ready: VecDeque<Call>,
     again: Vec<usize>,
     mail: Vec<Mail>,
     began: Instant,
@@ -191,20 +198,20 @@ impl<'a, R: Wait + Clock> Loop<'a, R> {
 
     /// The next connection for which there is something to do.
     fn next_ready(&mut self) -> Option<Visit<TcpStream, Talk>> {
-        'ready: while let Some(key) = self.ready.pop_front() {
-            let Some((guest, awaited)) = self.hall.call(key) else {
+        'ready: while let Some(call) = self.ready.pop_front() {
+            let Some((guest, awaited)) = self.hall.call(call.key) else {
                 continue;
             };
             if awaited.phase == Phase::Lingering {
-                self.linger(key, guest, awaited);
+                self.linger(call.key, guest, awaited);
                 continue;
             }
             return Some(Visit {
-                key,
+                key: call.key,
                 guest,
                 awaited,
                 most_turns: MOST_TURNS,
-                leaves_long: true,
+                leaves_long: call.leaves_long,
             });
         }
         None
@@ -247,9 +254,12 @@ impl<'a, R: Wait + Clock> Loop<'a, R> {
                     let _ = self.enter(socket);
                 }
                 Mail::Back(visit, left) => {
-                    let key = visit.key;
+                    let call = Call {
+                        key: visit.key,
+                        leaves_long: left == Left::GoesOn,
+                    };
                     self.take_back(visit, left);
-                    let _ = self.ready.push_back(key);
+                    let _ = self.ready.push_back(call);
                 }
             }
         }
@@ -293,7 +303,10 @@ impl<'a, R: Wait + Clock> Loop<'a, R> {
             if event.token() == WAKER {
                 is_woken = true;
             } else {
-                self.ready.push_back(event.token().0)?;
+                self.ready.push_back(Call {
+                    key: event.token().0,
+                    leaves_long: true,
+                })?;
             }
         }
         Ok(is_woken)
@@ -305,7 +318,10 @@ impl<'a, R: Wait + Clock> Loop<'a, R> {
         self.poll.poll(&mut self.events, Some(time))?;
         let is_woken = self.note_events()?;
         'again: while let Some(key) = self.again.pop() {
-            self.ready.push_back(key)?;
+            self.ready.push_back(Call {
+                key,
+                leaves_long: true,
+            })?;
         }
         if is_woken {
             self.take_mail();

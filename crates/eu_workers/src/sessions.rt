@@ -75,17 +75,39 @@ fn turn<K: Label, R: Wait, G: Gate, C: Clock, S: Read>(
     let waits = source.waits();
     match turned {
         Ok(Turned::GoesOn) => Progress::Answered,
-        Err(SessionFault::Read) if waits => {
-            Progress::Over(Left::Waits(phase_of(&guest.talk), Happened::Nothing))
-        }
-        Ok(Turned::Ended(_)) | Err(_) => {
+        Ok(Turned::Ended(_)) => {
             guest.has_ended = true;
             Progress::Answered
         }
+        Err(SessionFault::Read) if waits => {
+            Progress::Over(Left::Waits(phase_of(&guest.talk), Happened::Nothing))
+        }
+        Err(_) => Progress::Over(Left::Gone),
     }
 }
 
-/// Sends what is to be sent, and then takes one turn of the session of a connection, if it goes on.
+/// How a visit left a connection, at which a request was answered before.
+fn after_answers(left: Left) -> Left {
+    match left {
+        Left::Waits(phase, _) => Left::Waits(phase, Happened::Answered),
+        left => left,
+    }
+}
+
+/// Sends what is to be sent. Tells how that leaves the connection where not all is sent.
+fn send<S: Write>(guest: &mut Guest<S, Talk>) -> Option<Left> {
+    let before = guest.unsent.len();
+    match guest.unsent.send(&mut guest.socket) {
+        Ok(Sent::All) => None,
+        Ok(Sent::Waits) if guest.unsent.len() < before => {
+            Some(Left::Waits(Phase::Answering, Happened::Moved))
+        }
+        Ok(Sent::Waits) => Some(Left::Waits(Phase::Answering, Happened::Nothing)),
+        Err(_) => Some(Left::Gone),
+    }
+}
+
+/// Takes one turn of the session of a connection, of which all is sent, if the session goes on and its next request isn't left to others; and sends the response.
 fn step<K: Label, R: Wait, G: Gate, C: Clock, S: Read + Write>(
     site: &Site<'_, K, R, G>,
     who: u32,
@@ -97,34 +119,23 @@ fn step<K: Label, R: Wait, G: Gate, C: Clock, S: Read + Write>(
     ensures { IsAsked seat.old.pass seat.new.pass }
 {
     let guest = &mut visit.guest;
-    let before = guest.unsent.len();
-    match guest.unsent.send(&mut guest.socket) {
-        Err(_) => return Progress::Over(Left::Gone),
-        Ok(Sent::Waits) if guest.unsent.len() < before => {
-            return Progress::Over(Left::Waits(Phase::Answering, Happened::Moved));
-        }
-        Ok(Sent::Waits) => return Progress::Over(Left::Waits(Phase::Answering, Happened::Nothing)),
-        Ok(Sent::All) => {}
-    }
     if guest.has_ended {
         return Progress::Over(Left::Waits(Phase::Lingering, Happened::Nothing));
     }
     if visit.leaves_long && is_long(guest.talk.inbox.as_slice()) {
         return Progress::Over(Left::Long);
     }
-    turn(site, who, room, seat, clock, guest)
-}
-
-/// How a visit left a connection, at which a request was answered before.
-fn after_answers(left: Left) -> Left {
-    match left {
-        Left::Waits(phase, _) => Left::Waits(phase, Happened::Answered),
-        left => left,
+    match turn(site, who, room, seat, clock, guest) {
+        Progress::Answered => match send(guest) {
+            Some(left) => Progress::Over(after_answers(left)),
+            None => Progress::Answered,
+        },
+        over => over,
     }
 }
 
-/// Takes one turn after another of the session of a connection, each once the response before is sent, until a read or a write would
-/// wait, the session has ended, or it had its turns. Tells how that left the connection.
+/// Sends what is to be sent of a connection, and then takes one turn of its session after another, each once the response before is sent, until a
+/// read or a write would wait, the session has ended, or it had its turns. Tells how that left the connection.
 fn serve<K: Label, R: Wait, G: Gate, C: Clock, S: Read + Write>(
     site: &Site<'_, K, R, G>,
     who: u32,
@@ -135,6 +146,9 @@ fn serve<K: Label, R: Wait, G: Gate, C: Clock, S: Read + Write>(
 ) -> Left
     ensures { IsAsked seat.old.pass seat.new.pass }
 {
+    if let Some(left) = send(&mut visit.guest) {
+        return left;
+    }
     let mut has_answered = false;
     for _turn in 0..visit.most_turns {
         match step(site, who, room, seat, clock, visit) {

@@ -8,7 +8,7 @@ use eu_server::{Plan, serve_by, serve_with_journal};
 use eu_stream::{Discarding, Sink, Writing};
 use std::alloc::Global;
 use std::io::{ErrorKind, Write};
-use std::net::TcpListener;
+use std::net::{Net, TcpListener};
 use std::sync::Wait;
 use std::test::Fail;
 use std::thread::Threads;
@@ -72,7 +72,7 @@ fn served_that_is_not_flushed_is_a_failed_write(rt: HostRuntime) -> Result<(), F
 }
 
 /// How the run of an ordinary server of no session ends, which leaves its journal there, and writes there what it served.
-fn ended<R: Threads + Wait + Clock + Sync, J: Sink, W: Write>(
+fn ended<R: Threads + Wait + Clock + Net + Sync, J: Sink, W: Write>(
     rt: &R,
     alloc: Global,
     listener: &TcpListener,

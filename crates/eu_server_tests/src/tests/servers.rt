@@ -31,7 +31,7 @@ pub enum Way {
 }
 
 /// Whether a server by a plan writes how many connections it is to serve.
-fn serves<R: Threads + Wait + Clock + Sync>(
+fn serves<R: Threads + Wait + Clock + Net + Sync>(
     rt: &R,
     alloc: Global,
     listener: &TcpListener,
@@ -44,7 +44,7 @@ fn serves<R: Threads + Wait + Clock + Sync>(
 }
 
 /// Whether a server by a plan of one session writes so, and leaves its journal.
-fn leaves_journal<R: Threads + Wait + Clock + Sync>(
+fn leaves_journal<R: Threads + Wait + Clock + Net + Sync>(
     rt: &R,
     alloc: Global,
     listener: &TcpListener,
@@ -84,7 +84,7 @@ fn is_of_one_client(outcome: &Finished) -> bool {
 }
 
 /// Whether a server by a plan hands back such a book.
-fn hands_back<R: Threads + Wait + Clock + Sync>(
+fn hands_back<R: Threads + Wait + Clock + Net + Sync>(
     rt: &R,
     alloc: Global,
     listener: &TcpListener,
@@ -104,7 +104,7 @@ fn hands_back<R: Threads + Wait + Clock + Sync>(
 }
 
 /// Whether a server by a plan leaves what it is to.
-fn leaves<R: Threads + Wait + Clock + Sync>(
+fn leaves<R: Threads + Wait + Clock + Net + Sync>(
     rt: &R,
     alloc: Global,
     listener: &TcpListener,

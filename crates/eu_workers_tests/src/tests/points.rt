@@ -469,7 +469,6 @@ fn a_write_that_fails_is_refused(rt: HostRuntime) -> Result<(), Fail> {
     let told = ran(&rt, rt.alloc(), broken)?;
     let failed = Told {
         reads: 1,
-        replies: 0,
         answered: 0,
         all: Ended {
             turns: 6,

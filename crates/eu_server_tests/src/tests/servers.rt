@@ -10,9 +10,11 @@ use eu_hall::Patience;
 use eu_server::{Finished, Plan, serve_book, serve_by, serve_with_journal};
 use eu_shared::Blanks;
 use eu_stream::Writing;
+use libc::net::{SHUT_RDWR, shutdown};
 use std::alloc::Global;
 use std::marker::Brand;
 use std::net::{Net, TcpListener, TcpStream};
+use std::os::fd::AsRawFd;
 use std::sync::Wait;
 use std::test::Fail;
 use std::thread::Threads;
@@ -70,7 +72,8 @@ fn is_of_the_client(key: &Key) -> bool {
     key.app.as_str() == "A" && key.id.as_str() == "i1"
 }
 
-/// Whether a book was served to a client that registered A/i1. Two workers and three timers have a log each, and a server has no peers.
+/// Whether a book was served to a client that registered A/i1. Two loops, the door, the two threads of the pool and three timers have a log each, and a
+/// server has no peers.
 fn is_of_one_client(outcome: &Finished) -> bool {
     let closed = &outcome.closed;
     let leases = closed.end.leases.as_slice();
@@ -79,7 +82,7 @@ fn is_of_one_client(outcome: &Finished) -> bool {
         None => false,
     };
     let is_whole = outcome.served == 1 && closed.first == 0 && closed.totals.added == 1;
-    let has_logs = closed.logs.len() == 5 && closed.end.queues.as_slice().is_empty();
+    let has_logs = closed.logs.len() == 8 && closed.end.queues.as_slice().is_empty();
     is_held && leases.len() == 1 && is_whole && has_logs
 }
 
@@ -429,7 +432,12 @@ fn a_client_that_keeps_its_connection_is_left(rt: HostRuntime) -> Result<(), Fai
     Ok(())
 }
 
-/// Whether a server ends whose listener waits for no connection, and serves the one that there is before.
+/// Ends a listener: whoever accepts there is told that it listens no more (shutdown(2), accept(2) of Linux).
+fn end(listener: &TcpListener) {
+    let _ = shutdown(listener.as_raw_fd(), SHUT_RDWR);
+}
+
+/// Whether a server of two connections ends whose listener has ended once one was served.
 fn ends<R: Threads + Wait + Clock + Sync + Net<Listener = TcpListener, Stream = TcpStream>>(
     rt: &R,
     alloc: Global,
@@ -437,19 +445,16 @@ fn ends<R: Threads + Wait + Clock + Sync + Net<Listener = TcpListener, Stream = 
     plan: &Plan,
 ) -> io::Result<bool> {
     let mut client = Client::new(rt, alloc, listener.local_addr()?)?;
-    let connected = client.first_wrong(&[Step::Connect(1)]);
-    listener.set_nonblocking(true)?;
-    let steps = [Step::Send(0, REGISTRATION), Step::Read(0, REGISTERED)];
-    let (left, wrong) = beside(
+    let (left, wrong) = thread::join(
         rt,
-        alloc,
-        listener,
-        plan,
-        Way::Served,
-        &mut client,
-        steps.as_slice(),
+        || leaves(rt, alloc, listener, plan, Way::Served),
+        || {
+            let wrong = client.first_wrong(&[Step::Ask(1, REGISTRATION, REGISTERED)]);
+            end(listener);
+            wrong
+        },
     );
-    Ok(left == Err(Fault::Read) && connected.is_none() && wrong.is_none())
+    Ok(left == Err(Fault::Read) && wrong.is_none())
 }
 
 #[test]

@@ -484,7 +484,7 @@ const PAGE_OF_NOBODY: &str =
 type Ordinary = (Settings, u32, u32, u32, &'static [Step<'static>]);
 
 const ORDINARY: [Ordinary; 3] = [
-    // Sixteen at once: a silent client is waited for longer than the other one waits here.
+    // Fifteen silent clients are waited for longer than the other one waits here.
     (
         (true, 85, 30, 60_000),
         1,
@@ -497,7 +497,7 @@ const ORDINARY: [Ordinary; 3] = [
             Step::Leave(15),
         ],
     ),
-    // One waits for as long as another one, which says nothing, is connected.
+    // None waits for another one, which says nothing.
     (
         (false, 50, 20, 1_000),
         70_007,
@@ -506,9 +506,9 @@ const ORDINARY: [Ordinary; 3] = [
         &[
             Step::Connect(2),
             Step::Send(1, LOOK),
-            Step::Silence(1),
-            Step::Leave(1),
             Step::Read(1, PAGE),
+            Step::Within(8_000),
+            Step::Leave(1),
         ],
     ),
     // Nobody is counted anew within the first quarter of an hour.

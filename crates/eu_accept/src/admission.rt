@@ -1,6 +1,20 @@
 //! How many connections came, and how many are open.
-ghost use Rattle.std.specs.Prelude.{◌≡◌, ◌+◌, ◌-◌, ◌<◌, ◌↔◌, ◌×◌, ◌||◌, not, false, true, min};
-ghost use Rattle.eu_accept.specs.Admissions.{admitted, refused, let_out, loop_ended};
+ghost use Rattle.std.specs.Prelude.{◌≡◌, ◌<◌, ◌↔◌, ◌×◌, ◌||◌, false, true};
+ghost use Rattle.eu_accept.specs.Admissions.{entry_of, let_in, let_out, loop_ended};
+
+/// How many are let in beyond the most, only to be told that there is no room for them.
+pub const SPARE: u64 = 64;
+
+/// Whether a connection that has come is let in.
+#[derive(Clone, Copy, Debug, PartialEq, Eq)]
+pub enum Entry {
+    /// It is.
+    Admitted,
+    /// It is let in to be told that there is no room for it.
+    Refused,
+    /// It isn't, and is to be closed.
+    Dropped,
+}
 
 /// How many connections a server still takes, how many are open, and how many of its loops work.
 #[derive(Clone, Copy, Debug, PartialEq, Eq)]
@@ -9,9 +23,9 @@ pub struct Admission {
     pub left: u64,
     /// How many have come, without those that were refused.
     pub came: u64,
-    /// How many were refused, because as many were open as may be.
+    /// How many were refused or dropped, because as many were open as may be.
     pub refused: u64,
-    /// How many are open.
+    /// How many are open, those that are refused included.
     pub here: u64,
     /// How many loops have not ended.
     pub loops: u32,
@@ -44,23 +58,42 @@ impl Admission {
         self.left > 0 && !self.is_closed
     }
 
-    /// Lets one in that has come, where fewer than `most` are open, and else refuses it. Tells which, and counts it.
-    pub fn admit(&mut self, most: u64) -> bool
-        ensures has_room { (result ≡ true) ↔ (self.old.here < most) }
-        ensures admitted { result ≡ true → self.new ≡ admitted self.old }
-        ensures refused { result ≡ false → self.new ≡ refused self.old }
+    /// What becomes of one that has come: where fewer than `most` are open it is admitted; where fewer than `SPARE` more are, it is refused; else
+    /// it is dropped.
+    fn entry(&self, most: u64) -> Entry
+        ensures { result ≡ entry_of most self.now }
     {
-        if self.here >= most {
-            self.refused = self.refused.saturating_add(1);
-            return false;
+        if self.here < most {
+            Entry::Admitted
+        } else if self.here < most.saturating_add(SPARE) {
+            Entry::Refused
+        } else {
+            Entry::Dropped
         }
-        self.left = self.left.saturating_sub(1);
-        self.came = self.came.saturating_add(1);
-        self.here = self.here.saturating_add(1);
-        true
     }
 
-    /// Counts one out that was let in.
+    /// Counts one that has come, where `most` are to be open at most, and tells what becomes of it.
+    pub fn admit(&mut self, most: u64) -> Entry
+        ensures entry { result ≡ entry_of most self.old }
+        ensures counted { self.new ≡ let_in (entry_of most self.old) self.old }
+    {
+        let entry = self.entry(most);
+        match entry {
+            Entry::Admitted => {
+                self.left = self.left.saturating_sub(1);
+                self.came = self.came.saturating_add(1);
+                self.here = self.here.saturating_add(1);
+            }
+            Entry::Refused => {
+                self.refused = self.refused.saturating_add(1);
+                self.here = self.here.saturating_add(1);
+            }
+            Entry::Dropped => self.refused = self.refused.saturating_add(1),
+        }
+        entry
+    }
+
+    /// Counts one out that was let in, admitted or refused.
     pub fn let_out(&mut self)
         ensures { self.new ≡ let_out self.old }
     {

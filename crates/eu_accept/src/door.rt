@@ -1,17 +1,14 @@
 //! The door of a server, at which connections are accepted.
+use crate::admission::Entry;
 use crate::hub::Hub;
 use crate::mail::Mail;
 use mio::net::{TcpListener, TcpStream};
 use mio::{Events, Interest, Poll, Token};
 use std::io;
-use std::io::{ErrorKind, Write};
-use std::net::{self, Net, Shutdown};
+use std::io::ErrorKind;
+use std::net::{self, Net};
 use std::sync::Wait;
 use std::time::{Clock, Duration};
-
-/// What a connection is told for which there is no room (RFC 9110, section 15.6.4).
-const FULL: &str =
-    "HTTP/1.1 503 Service Unavailable\r\nContent-Length: 0\r\nRetry-After: 30\r\nConnection: close\r\n\r\n";
 
 /// How long the door waits before it tries again what may have failed for want of descriptors, in milliseconds.
 const TICK_MS: u64 = 250;
@@ -55,13 +52,6 @@ fn is_passing(error: &io::Error) -> bool {
     }
 }
 
-/// Tells a connection that there is no room for it, and closes it.
-fn refuse(stream: TcpStream) {
-    let mut stream = stream;
-    let _ = stream.write(FULL.as_bytes());
-    let _ = stream.shutdown(Shutdown::Write);
-}
-
 impl<'a, R: Wait + Clock> Door<'a, R> {
     /// The door at a listener, which waits no more from now on. An error is the system's.
     pub fn new(
@@ -93,20 +83,21 @@ impl<'a, R: Wait + Clock> Door<'a, R> {
         }
     }
 
-    /// Deals a connection to the next loop, or refuses it.
+    /// Deals a connection to the next loop, which serves it or tells it that there is no room; or drops it.
     fn deal(&mut self, stream: TcpStream) {
-        if !self.hub.admit() {
-            refuse(stream);
-            return;
-        }
         let _ = stream.set_nodelay(true);
+        let mail = match self.hub.admit() {
+            Entry::Admitted => Mail::New(stream),
+            Entry::Refused => Mail::Refused(stream),
+            Entry::Dropped => return,
+        };
         let count = self.hub.boxes.len().max(1);
         let number = self.next % count;
         self.next = (number + 1) % count;
         let Some(mailbox) = self.hub.boxes.get(number) else {
             return;
         };
-        if mailbox.put(self.hub.rt, Mail::New(stream)).is_err() {
+        if mailbox.put(self.hub.rt, mail).is_err() {
             self.hub.let_out();
         }
     }

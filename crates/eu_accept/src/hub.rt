@@ -2,7 +2,7 @@
 ghost use Rattle.std.specs.Prelude.{◌≡◌};
 ghost use Rattle.eu_accept.specs.Limits.{server_limits};
 
-use crate::admission::Admission;
+use crate::admission::{Admission, Entry, SPARE};
 use crate::loops::WAKER;
 use crate::mail::Mailbox;
 use crate::pace::Pace;
@@ -30,6 +30,11 @@ pub struct Limits {
 }
 
 impl Limits {
+    /// How many places a loop has: one for each connection, and those of the ones that are refused.
+    pub(crate) fn places(&self) -> usize {
+        self.connections.saturating_add(SPARE as usize)
+    }
+
     /// Those of a server: 10,000 connections, 64 MiB for each loop.
     pub fn of_server() -> Limits
         ensures { result ≡ server_limits }
@@ -78,7 +83,7 @@ impl<'a, R: Wait + Clock + Net> Hub<'a, R> {
         for _ in 0..loops {
             let poll = Poll::new(rt)?;
             let waker = Waker::new(poll.registry(), WAKER)?;
-            boxes.push(Mailbox::new(alloc, limits.connections, waker)?)?;
+            boxes.push(Mailbox::new(alloc, limits.places(), waker)?)?;
             polls.push(poll)?;
         }
         let hub = Hub {
@@ -86,7 +91,7 @@ impl<'a, R: Wait + Clock + Net> Hub<'a, R> {
             alloc,
             limits,
             boxes,
-            pool: Pool::new(alloc, limits.connections)?,
+            pool: Pool::new(alloc, limits.places())?,
             admission: Mutex::new(Admission::new(sessions, loops)),
             pace: Pace::new(rt, periods)?,
         };
@@ -108,8 +113,8 @@ impl<'a, R: Wait + Clock> Hub<'a, R> {
         }
     }
 
-    /// Whether a connection that has come is let in, which is counted.
-    pub(crate) fn admit(&self) -> bool {
+    /// Counts a connection that has come, and tells what becomes of it.
+    pub(crate) fn admit(&self) -> Entry {
         let most = self.limits.connections as u64;
         self.admission.lock(self.rt).admit(most)
     }

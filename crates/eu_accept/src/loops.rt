@@ -3,6 +3,7 @@ use crate::hub::Hub;
 use crate::mail::Mail;
 use eu_hall::{Awaited, Guest, Hall, Happened, Left, Phase, Unsent, Visit};
 use eu_session::Talk;
+use eu_stream::write_whole;
 use mio::net::TcpStream;
 use mio::{Events, Interest, Poll, Token};
 use std::alloc::{AllocError, Global};
@@ -31,6 +32,10 @@ const PIECE: usize = 4_096;
 /// What a connection is told whose request is too slow (RFC 9110, section 15.5.9).
 const SLOW: &str = "HTTP/1.1 408 Request Timeout\r\nContent-Length: 0\r\nConnection: close\r\n\r\n";
 
+/// What a connection is told for which there is no room (RFC 9110, section 15.6.4).
+const FULL: &str =
+    "HTTP/1.1 503 Service Unavailable\r\nContent-Length: 0\r\nRetry-After: 30\r\nConnection: close\r\n\r\n";
+
 /// A connection.
 type Connection = Guest<TcpStream, Talk>;
 
@@ -56,7 +61,7 @@ pub struct Loop<'a, R: Wait + Clock> {
     swept: u64,
 }
 
-/// What has come of one that has come.
+/// A connection that has just come, and whose session begins.
 fn guest(alloc: Global, socket: TcpStream) -> Connection {
     Guest {
         socket,
@@ -65,6 +70,14 @@ fn guest(alloc: Global, socket: TcpStream) -> Connection {
         has_ended: false,
         dropped: 0,
     }
+}
+
+/// One for which there is no room: its session is over, and that is to be sent. None where no memory is left for it.
+fn refused(alloc: Global, socket: TcpStream) -> Option<Connection> {
+    let mut guest = guest(alloc, socket);
+    guest.has_ended = true;
+    write_whole(&mut guest.unsent, FULL.as_bytes()).ok()?;
+    Some(guest)
 }
 
 /// Reads what has come and drops it. Tells whether more may come.
@@ -83,7 +96,7 @@ fn drop_what_came(guest: &mut Connection, most: usize) -> bool {
 impl<'a, R: Wait + Clock> Loop<'a, R> {
     /// The loop of that number, which polls so.
     pub fn new(hub: &'a Hub<'a, R>, number: usize, poll: Poll) -> io::Result<Loop<'a, R>> {
-        let most = hub.limits.connections;
+        let most = hub.limits.places();
         Ok(Loop {
             hub,
             number,
@@ -217,28 +230,48 @@ impl<'a, R: Wait + Clock> Loop<'a, R> {
         None
     }
 
-    /// Gives a connection a place, and has it polled. An error where that fails; the connection is closed then.
-    fn enter(&mut self, socket: TcpStream) -> io::Result<()> {
+    /// Has a connection polled under the key of its place.
+    fn register(&self, guest: &mut Connection, key: usize) -> io::Result<()> {
+        let interest = Interest::READABLE.add(Interest::WRITABLE);
+        let registry = self.poll.registry();
+        registry.register(&mut guest.socket, Token(key), interest)
+    }
+
+    /// Gives a connection a place, and has it polled, which tells at once what has come of it. It is closed where that fails.
+    fn enter(&mut self, guest: Connection) {
         let awaited = Awaited::begin(self.hub.limits.patience, Phase::Idle, self.now());
-        let Ok(key) = self.hall.enter(guest(self.hub.alloc, socket), awaited) else {
+        let Ok(key) = self.hall.enter(guest, awaited) else {
             self.hub.let_out();
-            return Ok(());
+            return;
         };
         let Some((mut guest, awaited)) = self.hall.call(key) else {
-            return Ok(());
+            return;
         };
-        let interest = Interest::READABLE.add(Interest::WRITABLE);
-        let registered = self
-            .poll
-            .registry()
-            .register(&mut guest.socket, Token(key), interest);
-        if registered.is_err() {
+        if self.register(&mut guest, key).is_ok() {
+            self.park(key, guest, awaited);
+        } else {
             drop(guest);
             self.leave(key);
-            return registered;
         }
-        self.park(key, guest, awaited);
-        Ok(())
+    }
+
+    /// Takes one mail.
+    fn take_one(&mut self, mail: Mail) {
+        match mail {
+            Mail::New(socket) => self.enter(guest(self.hub.alloc, socket)),
+            Mail::Refused(socket) => match refused(self.hub.alloc, socket) {
+                Some(guest) => self.enter(guest),
+                None => self.hub.let_out(),
+            },
+            Mail::Back(visit, left) => {
+                let call = Call {
+                    key: visit.key,
+                    leaves_long: left == Left::GoesOn,
+                };
+                self.take_back(visit, left);
+                let _ = self.ready.push_back(call);
+            }
+        }
     }
 
     /// Takes what others handed in.
@@ -249,19 +282,7 @@ impl<'a, R: Wait + Clock> Loop<'a, R> {
         }
         mail.reverse();
         'mail: while let Some(one) = mail.pop() {
-            match one {
-                Mail::New(socket) => {
-                    let _ = self.enter(socket);
-                }
-                Mail::Back(visit, left) => {
-                    let call = Call {
-                        key: visit.key,
-                        leaves_long: left == Left::GoesOn,
-                    };
-                    self.take_back(visit, left);
-                    let _ = self.ready.push_back(call);
-                }
-            }
+            self.take_one(one);
         }
         self.mail = mail;
     }

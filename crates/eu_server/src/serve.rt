@@ -15,7 +15,7 @@ ghost use Rattle.eu_shared.specs.Closing.{account_of};
 ghost use Rattle.eu_shared.specs.Shares.{HasNames, HasParts};
 
 use crate::no_peer::NoPeer;
-use eu_accept::{Door, Hand, Hub, Limits, Loop, Station};
+use eu_accept::{Door, Hand, Hub, Limits, Loop, Station, can_gather};
 use eu_base::{Config, Fault};
 use eu_clock::{Chooser, SystemClock};
 use eu_gate::{BUCKET_MS, MOST_WORKERS, OTHER_WORKERS, Periods, THRESHOLD_MS};
@@ -33,10 +33,13 @@ use std::marker::Brand;
 use std::net::{Net, TcpListener};
 use std::sync::Wait;
 use std::thread::Threads;
-use std::time::Clock;
+use std::time::{Clock, Duration};
 
 /// The workers that are timers.
 const TIMERS: usize = 3;
+
+/// How long the threads of a server wait for each other before it begins, in milliseconds.
+const GATHERING_MS: u64 = 5_000;
 
 /// What a server is to do. `Plan::of_server` is that of an ordinary one.
 #[derive(Clone, Copy)]
@@ -328,6 +331,14 @@ fn judge_accepts(has_failed: bool, outcome: Result<Finished, Fault>) -> Result<F
     Ok(outcome)
 }
 
+/// Whether there is a thread for each worker of a server with so many loops.
+fn has_threads<R: Threads + Wait + Clock + Sync>(rt: &R, alloc: Global, loops: u32) -> bool {
+    let stations = loops.saturating_add(OTHER_WORKERS) as usize;
+    let workers = stations.saturating_add(TIMERS);
+    let patience = Duration::from_millis(GATHERING_MS);
+    can_gather(rt, alloc, workers, workers, patience).unwrap_or(false)
+}
+
 /// Serves by a plan, and gives the book, closed and settled, rather than writing a line: its entries lead from the base to the end, and the
 /// log of each worker, from the first entry's number on, is its part of them.
 ///
@@ -354,6 +365,9 @@ pub fn serve_book<
 {
     let shared: Shared<K> = Shared::open(alloc, plan.config, plan.expected, 0, blanks)?;
     let loops = workers_of(plan.workers);
+    if !has_threads(rt, alloc, loops) {
+        return Err(Fault::OutOfMemory);
+    }
     let opened = Hub::open(rt, alloc, plan.limits, plan.periods, plan.sessions, loops);
     let Ok((hub, polls)) = opened else {
         return Err(Fault::Read);

@@ -301,6 +301,64 @@ const GIVEN_UP: [Row; 2] = [
     ),
 ];
 
+/// What a client is told whose request doesn't come in time (RFC 9110, section 15.5.9).
+const SLOW: &str = "HTTP/1.1 408 Request Timeout\r\nContent-Length: 0\r\nConnection: close\r\n\r\n";
+
+/// Half a request, after which nothing comes; and one of which a byte comes now and then: bytes don't prolong its time.
+const TOO_SLOW: [Row; 2] = [
+    (
+        1,
+        1,
+        (700, 1_000, 100, 65_536),
+        &[
+            Step::Connect(1),
+            Step::Send(0, &[("PUT /eureka/apps/A", 1)]),
+            Step::Read(0, SLOW),
+            Step::Within(3_000),
+        ],
+    ),
+    (
+        1,
+        1,
+        (700, 1_000, 100, 65_536),
+        &[
+            Step::Connect(1),
+            Step::CutOff(0, &[("x", 1)], 150, 20),
+            Step::Within(3_000),
+        ],
+    ),
+];
+
+#[test]
+fn a_request_that_is_too_slow_is_given_up(rt: HostRuntime) -> Result<(), Fail> {
+    assert_eq!(rt; first_wrong(&rt, rt.alloc(), TOO_SLOW.as_slice())?, None);
+    Ok(())
+}
+
+/// What a client is told for which there is no room (RFC 9110, section 15.6.4).
+const FULL: &str =
+    "HTTP/1.1 503 Service Unavailable\r\nContent-Length: 0\r\nRetry-After: 30\r\nConnection: close\r\n\r\n";
+
+/// A server with room for two connections: the next ones are told so, those that are held go on, and once they have left there is room. Who was
+/// refused isn't counted as served.
+#[test]
+fn a_client_is_told_that_there_is_no_room(rt: HostRuntime) -> Result<(), Fail> {
+    let mut plan = plan(3, 1, USUAL)?;
+    plan.limits.connections = 2;
+    let steps = [
+        Step::Connect(2),
+        Step::Sleep(500),
+        Step::Ask(3, RENEWAL, FULL),
+        Step::Send(0, RENEWAL),
+        Step::Read(0, LAST_MISSING),
+        Step::Leave(2),
+        Step::Sleep(500),
+        Step::Ask(1, RENEWAL, LAST_MISSING),
+    ];
+    assert!(rt; plays(&rt, rt.alloc(), &plan, Way::Served, steps.as_slice())?);
+    Ok(())
+}
+
 #[test]
 fn clients_that_do_nothing_are_given_up(rt: HostRuntime) -> Result<(), Fail> {
     assert_eq!(rt; first_wrong(&rt, rt.alloc(), GIVEN_UP.as_slice())?, None);

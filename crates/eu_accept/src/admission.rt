@@ -31,6 +31,8 @@ pub struct Admission {
     pub loops: u32,
     /// No more are accepted.
     pub is_closed: bool,
+    /// The server stops: who is idle leaves at once.
+    pub is_stopping: bool,
     /// Accepting one, or polling, has failed for good.
     pub has_failed: bool,
 }
@@ -38,7 +40,7 @@ pub struct Admission {
 impl Admission {
     /// That of a server which takes so many connections and has so many loops.
     pub fn new(sessions: u64, loops: u32) -> Admission
-        ensures { result ≡ record { left = sessions; came = 0; refused = 0; here = 0; loops = loops; is_closed = false; has_failed = false } }
+        ensures { result ≡ record { left = sessions; came = 0; refused = 0; here = 0; loops = loops; is_closed = false; is_stopping = false; has_failed = false } }
     {
         Admission {
             left: sessions,
@@ -47,6 +49,7 @@ impl Admission {
             here: 0,
             loops,
             is_closed: false,
+            is_stopping: false,
             has_failed: false,
         }
     }
@@ -106,6 +109,14 @@ impl Admission {
     {
         self.is_closed = true;
         self.has_failed = self.has_failed || has_failed;
+    }
+
+    /// Notes that the server stops: no more are accepted, and who is idle leaves at once.
+    pub fn stop(&mut self)
+        ensures { self.new ≡ record self.old { is_closed = true; is_stopping = true } }
+    {
+        self.is_closed = true;
+        self.is_stopping = true;
     }
 
     /// Counts a loop out, and tells whether it was the last one.

@@ -3,10 +3,12 @@ use crate::admission::Entry;
 use crate::hub::Hub;
 use crate::mail::Mail;
 use mio::net::{TcpListener, TcpStream};
+use mio::unix::SourceFd;
 use mio::{Events, Interest, Poll, Token};
 use std::io;
 use std::io::ErrorKind;
 use std::net::{self, Net};
+use std::os::fd::RawFd;
 use std::sync::Wait;
 use std::time::{Clock, Duration};
 
@@ -22,6 +24,12 @@ enum Accepted {
     /// It has failed for good.
     Failed,
 }
+
+/// The token of the listener.
+const LISTENER: Token = Token(0);
+
+/// The token of what ends the server.
+const INPUT: Token = Token(1);
 
 /// Accepts the connections of a server, and deals them to its loops in turn.
 #[derive(Drop)]
@@ -53,18 +61,24 @@ fn is_passing(error: &io::Error) -> bool {
 }
 
 impl<'a, R: Wait + Clock> Door<'a, R> {
-    /// The door at a listener, which waits no more from now on. An error is the system's.
+    /// The door at a listener, which waits no more from now on. Where an input is named, the server stops at its end: a pipe or a socket, by its
+    /// descriptor, that is open as long as the door is. An error is the system's; one comes also where the input can't be polled, as a file.
     pub fn new(
         hub: &'a Hub<'a, R>,
         net: &impl Net,
         listener: &net::TcpListener,
+        input: Option<RawFd>,
     ) -> io::Result<Door<'a, R>> {
         let listener = listener.try_clone()?;
         listener.set_nonblocking(true)?;
         let mut listener = TcpListener::from_std(listener);
         let poll = Poll::new(net)?;
         poll.registry()
-            .register(&mut listener, Token(0), Interest::READABLE)?;
+            .register(&mut listener, LISTENER, Interest::READABLE)?;
+        if let Some(input) = input {
+            poll.registry()
+                .register(&mut SourceFd(&input), INPUT, Interest::READABLE)?;
+        }
         Ok(Door {
             hub,
             listener,
@@ -107,6 +121,16 @@ impl<'a, R: Wait + Clock> Door<'a, R> {
         self.hub.counts().is_open()
     }
 
+    /// Whether the last poll told that the input has ended.
+    fn has_input_ended(&self) -> bool {
+        for event in &self.events {
+            if event.token() == INPUT && event.is_read_closed() {
+                return true;
+            }
+        }
+        false
+    }
+
     /// Accepts what waits. An error where accepting has failed for good.
     fn accept_all(&mut self) -> Result<(), ()> {
         'accepts: while self.is_open() {
@@ -124,6 +148,9 @@ impl<'a, R: Wait + Clock> Door<'a, R> {
         let time = Duration::from_millis(TICK_MS);
         if self.poll.poll(&mut self.events, Some(time)).is_err() {
             return Err(());
+        }
+        if self.has_input_ended() {
+            self.hub.stop();
         }
         self.accept_all()
     }

@@ -108,6 +108,17 @@ impl<'a, R: Wait + Clock> Hub<'a, R> {
     /// Notes that no more connections are accepted, and wakes all loops.
     pub(crate) fn close_door(&self, has_failed: bool) {
         self.admission.lock(self.rt).close(has_failed);
+        self.wake_loops();
+    }
+
+    /// Notes that the server stops, and wakes all loops.
+    pub(crate) fn stop(&self) {
+        self.admission.lock(self.rt).stop();
+        self.wake_loops();
+    }
+
+    /// Ends the wait of all loops.
+    fn wake_loops(&self) {
         for mailbox in &self.boxes {
             mailbox.wake();
         }

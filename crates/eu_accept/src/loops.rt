@@ -298,10 +298,11 @@ impl<'a, R: Wait + Clock> Loop<'a, R> {
         self.leave(key);
     }
 
-    /// Gives up all that are late.
+    /// Gives up all that are late, and where the server stops all that are idle.
     fn sweep(&mut self, now: u64) {
+        let stops = self.hub.counts().is_stopping;
         let mut from = 0;
-        'sweep: while let Some(key) = self.hall.late(from, now, false) {
+        'sweep: while let Some(key) = self.hall.late(from, now, stops) {
             self.give_up(key);
             from = key.saturating_add(1);
         }

@@ -1,5 +1,5 @@
 //! A server.
-ghost use Rattle.std.specs.Prelude.{◌≡◌, ◌≤◌, ◌⊎◌, ◌+◌, ℕ, [], ◌∷◌, ◌++◌, true, false, if◌then◌else◌, max, min, take, vec_len, Ok, Err, IfOk, IfErr, OnOk};
+ghost use Rattle.std.specs.Prelude.{◌≡◌, ◌≤◌, ◌⊎◌, ◌+◌, ℕ, [], ◌∷◌, ◌++◌, true, false, None, if◌then◌else◌, max, min, take, vec_len, Ok, Err, IfOk, IfErr, OnOk};
 ghost use Rattle.std.specs.Vec.{vec_capacity};
 ghost use Rattle.std.specs.Io.KnownBytes.{Appends, Keeps};
 ghost use Rattle.eu_book.specs.Account.{IsLawful};
@@ -31,6 +31,7 @@ use std::io;
 use std::io::Write;
 use std::marker::Brand;
 use std::net::{Net, TcpListener};
+use std::os::fd::RawFd;
 use std::sync::Wait;
 use std::thread::Threads;
 use std::time::{Clock, Duration};
@@ -56,6 +57,8 @@ pub struct Plan {
     pub periods: Periods,
     /// How many connections it has at most, and how long it waits for them.
     pub limits: Limits,
+    /// The descriptor of a pipe or a socket at whose end the server ends, too, if there is one.
+    pub input: Option<RawFd>,
 }
 
 impl Plan {
@@ -66,6 +69,7 @@ impl Plan {
         ensures settings { (result.config ≡ config) × (result.expected ≡ expected) × (result.workers ≡ workers) × (result.sessions ≡ sessions) }
         ensures periods { result.periods ≡ record { evictor = config.evict_ms; bucket = BUCKET_MS; threshold = THRESHOLD_MS } }
         ensures limits { result.limits ≡ server_limits }
+        ensures input { result.input ≡ None }
     {
         Plan {
             config,
@@ -74,6 +78,7 @@ impl Plan {
             sessions,
             periods: Periods::of_server(config.evict_ms),
             limits: Limits::of_server(),
+            input: None,
         }
     }
 }
@@ -170,13 +175,14 @@ fn add_timers<'a, K: Label, R: Wait + Clock, H: Chooser + Drop>(
 fn make_stations<'a, R: Wait + Clock + Net>(
     hub: &'a Hub<'a, R>,
     listener: &TcpListener,
+    input: Option<RawFd>,
     polls: Vec<Poll>,
 ) -> io::Result<Vec<Station<'a, R>>> {
     let mut stations = Vec::with_capacity(
         hub.alloc,
         polls.len().saturating_add(OTHER_WORKERS as usize),
     )?;
-    stations.push(Station::Door(Door::new(hub, hub.rt, listener)?))?;
+    stations.push(Station::Door(Door::new(hub, hub.rt, listener, input)?))?;
     for (number, poll) in polls.into_iter().enumerate() {
         stations.push(Station::Loop(Loop::new(hub, number, poll)?))?;
     }
@@ -372,7 +378,7 @@ pub fn serve_book<
     let Ok((hub, polls)) = opened else {
         return Err(Fault::Read);
     };
-    let Ok(stations) = make_stations(&hub, listener, polls) else {
+    let Ok(stations) = make_stations(&hub, listener, plan.input, polls) else {
         return Err(Fault::Read);
     };
     let outcome = serve_and_close(rt, alloc, shared, &hub, stations, chooser);

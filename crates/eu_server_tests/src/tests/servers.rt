@@ -13,7 +13,7 @@ use eu_stream::Writing;
 use libc::net::{SHUT_RDWR, shutdown};
 use std::alloc::Global;
 use std::marker::Brand;
-use std::net::{Net, TcpListener, TcpStream};
+use std::net::{Net, Shutdown, TcpListener, TcpStream};
 use std::os::fd::AsRawFd;
 use std::sync::Wait;
 use std::test::Fail;
@@ -520,6 +520,48 @@ fn ends<R: Threads + Wait + Clock + Sync + Net<Listener = TcpListener, Stream = 
 fn a_failed_accept_ends_the_server(rt: HostRuntime) -> Result<(), Fail> {
     let listener = TcpListener::bind(&rt, "127.0.0.1:0")?;
     assert!(rt; ends(&rt, rt.alloc(), &listener, &plan(2, 2, USUAL)?)?);
+    Ok(())
+}
+
+/// Whether a server that takes as many connections as come ends at the end of its input, and serves two before: one that is answered, and one that
+/// is idle then.
+fn stops<R: Threads + Wait + Clock + Sync + Net<Listener = TcpListener, Stream = TcpStream>>(
+    rt: &R,
+    alloc: Global,
+    listener: &TcpListener,
+) -> io::Result<bool> {
+    let inputs = TcpListener::bind(rt, "127.0.0.1:0")?;
+    let far = TcpStream::connect(rt, inputs.local_addr()?)?;
+    let (near, _) = inputs.accept()?;
+    let mut plan = plan(0, 2, USUAL)?;
+    plan.sessions = u64::MAX;
+    plan.input = Some(near.as_raw_fd());
+    let mut client = Client::new(rt, alloc, listener.local_addr()?)?;
+    let mut out = Vec::new(alloc);
+    let steps = [
+        Step::Ask(1, REGISTRATION, REGISTERED),
+        Step::Connect(1),
+        Step::Sleep(300),
+    ];
+    let (left, wrong) = thread::join(
+        rt,
+        || serve_by(rt, alloc, listener, &plan, FirstChooser, &mut out),
+        || {
+            let wrong = client.first_wrong(&steps);
+            let ended = far.shutdown(Shutdown::Both);
+            wrong.is_none() && ended.is_ok()
+        },
+    );
+    Ok(left.is_ok() && wrong && out.as_slice() == b"served 2\n".as_slice())
+}
+
+/// The one that is idle isn't waited for.
+#[test]
+fn a_server_ends_at_the_end_of_its_input(rt: HostRuntime) -> Result<(), Fail> {
+    let began = Instant::now(&rt)?;
+    let listener = TcpListener::bind(&rt, "127.0.0.1:0")?;
+    assert!(rt; stops(&rt, rt.alloc(), &listener)?);
+    assert!(rt; began.elapsed(&rt)? < Duration::from_secs(8));
     Ok(())
 }
 

@@ -529,7 +529,7 @@ fn stops<R: Threads + Wait + Clock + Sync + Net<Listener = TcpListener, Stream =
     rt: &R,
     alloc: Global,
     listener: &TcpListener,
-) -> io::Result<bool> {
+) -> Result<bool, Fail> {
     let inputs = TcpListener::bind(rt, "127.0.0.1:0")?;
     let far = TcpStream::connect(rt, inputs.local_addr()?)?;
     let (near, _) = inputs.accept()?;

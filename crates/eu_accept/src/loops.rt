@@ -44,6 +44,7 @@ type Connection = Guest<TcpStream, Talk>;
 struct Call {
     key: usize,
     leaves_long: bool,
+    reads_on: bool,
 }
 
 /// A loop of a server. It alone has its connections, but for those that are away at a worker.
@@ -225,6 +226,8 @@ impl<'a, R: Wait + Clock> Loop<'a, R> {
                 awaited,
                 most_turns: MOST_TURNS,
                 leaves_long: call.leaves_long,
+                reads_on: call.reads_on,
+                is_drained: false,
             });
         }
         None
@@ -267,6 +270,7 @@ impl<'a, R: Wait + Clock> Loop<'a, R> {
                 let call = Call {
                     key: visit.key,
                     leaves_long: left == Left::GoesOn,
+                    reads_on: true,
                 };
                 self.take_back(visit, left);
                 let _ = self.ready.push_back(call);
@@ -328,6 +332,7 @@ impl<'a, R: Wait + Clock> Loop<'a, R> {
                 self.ready.push_back(Call {
                     key: event.token().0,
                     leaves_long: true,
+                    reads_on: event.is_read_closed() || event.is_error(),
                 })?;
             }
         }
@@ -343,6 +348,7 @@ impl<'a, R: Wait + Clock> Loop<'a, R> {
             self.ready.push_back(Call {
                 key,
                 leaves_long: true,
+                reads_on: true,
             })?;
         }
         if is_woken {

@@ -28,6 +28,7 @@ impl<'a, R: Wait + Clock> Hand<'a, R> {
         Some(Visit {
             most_turns: 1,
             leaves_long: false,
+            reads_on: false,
             ..visit
         })
     }

@@ -6,18 +6,28 @@ use eu_hall::Arriving;
 use eu_stream::{ReadFault, Sink, Source, WriteFault};
 use std::io::Read;
 
-/// What has arrived of a connection; it passes a gate before each read. Where the gate says `Stop` the read fails.
+/// What has arrived of a connection; it passes a gate before each read. Where the gate says `Stop` the read fails, as one does that would wait. Where
+/// the connection is drained it would, and nothing is read.
 #[derive(Drop)]
 pub(crate) struct GatedSource<'a, R: Read, G: Gate> {
     arriving: Arriving<'a, R>,
     gate: &'a G,
     who: u32,
+    reads_on: bool,
+    is_drained: bool,
     was_stopped: bool,
+    was_drained: bool,
 }
 
 impl<'a, R: Read, G: Gate> GatedSource<'a, R, G> {
-    /// A reader for the worker of that number. No read of it has failed so far.
-    pub(crate) fn new(reader: &'a mut R, gate: &'a G, who: u32) -> GatedSource<'a, R, G>
+    /// A reader for the worker of that number. No read of it has failed so far. It reads on, or may be drained, as `Visit` says.
+    pub(crate) fn new(
+        reader: &'a mut R,
+        gate: &'a G,
+        who: u32,
+        reads_on: bool,
+        is_drained: bool,
+    ) -> GatedSource<'a, R, G>
         ensures stream { ⟦<GatedSource<'a, R, G> as Source>⟧.stream result ≡ reader.entry.ghost_name }
         ensures remaining { ⟦<GatedSource<'a, R, G> as Source>⟧.remaining result ≡ R.remaining reader.old }
         ensures sound { ⟦<GatedSource<'a, R, G> as Source>⟧.failed result ≡ false }
@@ -26,13 +36,21 @@ impl<'a, R: Read, G: Gate> GatedSource<'a, R, G> {
             arriving: Arriving::new(reader),
             gate,
             who,
+            reads_on,
+            is_drained,
             was_stopped: false,
+            was_drained: false,
         }
     }
 
     /// Whether its last read would have waited, and the gate stopped none.
     pub(crate) fn waits(&self) -> bool {
-        self.arriving.waits() && !self.was_stopped
+        (self.arriving.waits() || self.was_drained) && !self.was_stopped
+    }
+
+    /// Whether more than was read hasn't come.
+    pub(crate) fn is_drained(&self) -> bool {
+        self.is_drained
     }
 }
 
@@ -41,14 +59,20 @@ impl<'a, R: Read, G: Gate> Source for GatedSource<'a, R, G> {
 
     ghost remaining = { λ s. R.remaining s.arriving.reader.now };
 
-    ghost failed = { λ s. s.was_stopped || (s.arriving.waits || s.arriving.has_failed) };
+    ghost failed = { λ s. s.was_stopped || (s.was_drained || (s.arriving.waits || s.arriving.has_failed)) };
 
     fn read_some(&mut self, buffer: &mut [u8]) -> Result<usize, ReadFault> {
+        if self.is_drained {
+            self.was_drained = true;
+            return Err(ReadFault);
+        }
         if self.gate.pass(self.who, Point::Read) == Go::Stop {
             self.was_stopped = true;
             return Err(ReadFault);
         }
-        self.arriving.read_some(buffer)
+        let count = self.arriving.read_some(buffer)?;
+        self.is_drained = !self.reads_on && count > 0 && count < buffer.len();
+        Ok(count)
     }
 }
 

@@ -56,11 +56,18 @@ fn turn<K: Label, R: Wait, G: Gate, C: Clock, S: Read>(
     room: &mut Room,
     seat: &mut Seat<'_, K, R>,
     clock: &mut C,
-    guest: &mut Guest<S, Talk>,
+    visit: &mut Visit<S, Talk>,
 ) -> Progress
     ensures { IsAsked seat.old.pass seat.new.pass }
 {
-    let mut source = GatedSource::new(&mut guest.socket, site.gate, who);
+    let guest = &mut visit.guest;
+    let mut source = GatedSource::new(
+        &mut guest.socket,
+        site.gate,
+        who,
+        visit.reads_on,
+        visit.is_drained,
+    );
     let mut sink = GatedSink::new(&mut guest.unsent, site.gate, who);
     let turned = take_turn(
         site.alloc,
@@ -73,6 +80,7 @@ fn turn<K: Label, R: Wait, G: Gate, C: Clock, S: Read>(
         &mut sink,
     );
     let waits = source.waits();
+    visit.is_drained = source.is_drained();
     match turned {
         Ok(Turned::GoesOn) => Progress::Answered,
         Ok(Turned::Ended(_)) => {
@@ -118,15 +126,14 @@ fn step<K: Label, R: Wait, G: Gate, C: Clock, S: Read + Write>(
 ) -> Progress
     ensures { IsAsked seat.old.pass seat.new.pass }
 {
-    let guest = &mut visit.guest;
-    if guest.has_ended {
+    if visit.guest.has_ended {
         return Progress::Over(Left::Waits(Phase::Lingering, Happened::Nothing));
     }
-    if visit.leaves_long && is_long(guest.talk.inbox.as_slice()) {
+    if visit.leaves_long && is_long(visit.guest.talk.inbox.as_slice()) {
         return Progress::Over(Left::Long);
     }
-    match turn(site, who, room, seat, clock, guest) {
-        Progress::Answered => match send(guest) {
+    match turn(site, who, room, seat, clock, visit) {
+        Progress::Answered => match send(&mut visit.guest) {
             Some(left) => Progress::Over(after_answers(left)),
             None => Progress::Answered,
         },

@@ -49,6 +49,26 @@ fn phase_of(talk: &Talk) -> Phase {
     }
 }
 
+/// What came of a turn, where the last read would have waited, or not. A session that has ended is noted; one that has failed leaves its connection
+/// to be closed.
+fn judge<S>(
+    turned: Result<Turned, SessionFault>,
+    waits: bool,
+    guest: &mut Guest<S, Talk>,
+) -> Progress {
+    match turned {
+        Ok(Turned::GoesOn) => Progress::Answered,
+        Ok(Turned::Ended(_)) => {
+            guest.has_ended = true;
+            Progress::Answered
+        }
+        Err(SessionFault::Read) if waits => {
+            Progress::Over(Left::Waits(phase_of(&guest.talk), Happened::Nothing))
+        }
+        Err(_) => Progress::Over(Left::Gone),
+    }
+}
+
 /// Takes one turn of the session of a connection.
 fn turn<K: Label, R: Wait, G: Gate, C: Clock, S: Read>(
     site: &Site<'_, K, R, G>,
@@ -81,17 +101,7 @@ fn turn<K: Label, R: Wait, G: Gate, C: Clock, S: Read>(
     );
     let waits = source.waits();
     visit.is_drained = source.is_drained();
-    match turned {
-        Ok(Turned::GoesOn) => Progress::Answered,
-        Ok(Turned::Ended(_)) => {
-            guest.has_ended = true;
-            Progress::Answered
-        }
-        Err(SessionFault::Read) if waits => {
-            Progress::Over(Left::Waits(phase_of(&guest.talk), Happened::Nothing))
-        }
-        Err(_) => Progress::Over(Left::Gone),
-    }
+    judge(turned, waits, guest)
 }
 
 /// How a visit left a connection, at which a request was answered before.

@@ -1,6 +1,8 @@
 //! Workers that serve sessions, visit by visit.
-ghost use Rattle.std.specs.Prelude.{◌≡◌, ◌<◌, ◌⊎◌};
+ghost use Rattle.std.specs.Prelude.{◌≡◌, ◌<◌, ◌⊎◌, ◌↔◌, ◌||◌, [], None};
 ghost use Rattle.eu_workers.specs.Returned.{HasTurn, IsAsked, TakesTurns};
+ghost use Rattle.eu_workers.specs.Visits.{has_ended, judged};
+ghost use Rattle.eu_workers.specs.Visits as spec;
 
 use crate::ended::Ended;
 use crate::gated::{GatedSink, GatedSource};
@@ -41,7 +43,9 @@ enum Progress {
 }
 
 /// What is awaited of a peer, of whose session no more can be read now.
-fn phase_of(talk: &Talk) -> Phase {
+fn phase_of(talk: &Talk) -> Phase
+    ensures { result ≡ spec.phase_of talk.now.inbox }
+{
     if talk.inbox.as_slice().is_empty() {
         Phase::Idle
     } else {
@@ -55,7 +59,10 @@ fn judge<S>(
     turned: Result<Turned, SessionFault>,
     waits: bool,
     guest: &mut Guest<S, Talk>,
-) -> Progress {
+) -> Progress
+    ensures value { result ≡ judged turned waits guest.old.talk.inbox }
+    ensures ended { guest.new ≡ record guest.old { has_ended = guest.old.has_ended || has_ended turned } }
+{
     match turned {
         Ok(Turned::GoesOn) => Progress::Answered,
         Ok(Turned::Ended(_)) => {
@@ -69,7 +76,7 @@ fn judge<S>(
     }
 }
 
-/// Takes one turn of the session of a connection.
+/// Takes one turn of the session of a connection, of which all is sent: a response never comes into the middle of another.
 fn turn<K: Label, R: Wait, G: Gate, C: Clock, S: Read>(
     site: &Site<'_, K, R, G>,
     who: u32,
@@ -78,7 +85,8 @@ fn turn<K: Label, R: Wait, G: Gate, C: Clock, S: Read>(
     clock: &mut C,
     visit: &mut Visit<S, Talk>,
 ) -> Progress
-    ensures { IsAsked seat.old.pass seat.new.pass }
+    requires sent { visit.old.guest.unsent.rest ≡ [] }
+    ensures asked { IsAsked seat.old.pass seat.new.pass }
 {
     let guest = &mut visit.guest;
     let mut source = GatedSource::new(
@@ -105,7 +113,9 @@ fn turn<K: Label, R: Wait, G: Gate, C: Clock, S: Read>(
 }
 
 /// How a visit left a connection, at which a request was answered before.
-fn after_answers(left: Left) -> Left {
+fn after_answers(left: Left) -> Left
+    ensures { result ≡ spec.after_answers left }
+{
     match left {
         Left::Waits(phase, _) => Left::Waits(phase, Happened::Answered),
         left => left,
@@ -113,7 +123,10 @@ fn after_answers(left: Left) -> Left {
 }
 
 /// Sends what is to be sent. Tells how that leaves the connection where not all is sent.
-fn send<S: Write>(guest: &mut Guest<S, Talk>) -> Option<Left> {
+fn send<S: Write>(guest: &mut Guest<S, Talk>) -> Option<Left>
+    ensures all { (result ≡ None) ↔ (guest.new.unsent.rest ≡ []) }
+    ensures rest { guest.new ≡ record guest.old { socket = guest.new.socket; unsent = guest.new.unsent } }
+{
     let before = guest.unsent.len();
     match guest.unsent.send(&mut guest.socket) {
         Ok(Sent::All) => None,
@@ -134,7 +147,9 @@ fn step<K: Label, R: Wait, G: Gate, C: Clock, S: Read + Write>(
     clock: &mut C,
     visit: &mut Visit<S, Talk>,
 ) -> Progress
-    ensures { IsAsked seat.old.pass seat.new.pass }
+    requires sent { visit.old.guest.unsent.rest ≡ [] }
+    ensures asked { IsAsked seat.old.pass seat.new.pass }
+    ensures sent { result ≡ Progress.Answered → visit.new.guest.unsent.rest ≡ [] }
 {
     if visit.guest.has_ended {
         return Progress::Over(Left::Waits(Phase::Lingering, Happened::Nothing));

@@ -1,4 +1,7 @@
 //! The door of a server, at which connections are accepted.
+ghost use Rattle.std.specs.Prelude.{◌≡◌};
+ghost use Rattle.eu_accept.specs.Passing as spec;
+
 use crate::admission::Entry;
 use crate::hub::Hub;
 use crate::mail::Mail;
@@ -41,22 +44,41 @@ pub struct Door<'a, R: Wait + Clock> {
     next: usize,
 }
 
-/// The errno of a process that has no descriptor left, and of a system that has none (accept(2) of Linux).
-const NO_DESCRIPTOR: [i32; 2] = [24, 23];
+/// The number of the system's error where the process has no descriptor left (EMFILE), and where the system has none (ENFILE; accept(2) of Linux).
+const NO_DESCRIPTOR: i32 = 24;
+const NO_DESCRIPTOR_OF_ALL: i32 = 23;
 
-/// Whether an accept that failed so is tried again (accept(2) of Linux, "Error handling").
-fn is_passing(error: &io::Error) -> bool {
-    match error.kind() {
+/// Whether an accept that failed by such an error is tried again: none waits; or one was aborted before it was accepted, its network failed, or a
+/// signal came (accept(2) of Linux, "Error handling").
+fn is_passing(kind: ErrorKind) -> bool
+    ensures { result ≡ spec.is_passing kind }
+{
+    matches!(
+        kind,
         ErrorKind::WouldBlock
-        | ErrorKind::ConnectionAborted
-        | ErrorKind::NetworkDown
-        | ErrorKind::NetworkUnreachable
-        | ErrorKind::HostUnreachable
-        | ErrorKind::Interrupted => true,
-        _ => match error.raw_os_error() {
-            Some(number) => NO_DESCRIPTOR.contains(&number),
-            None => false,
-        },
+            | ErrorKind::ConnectionAborted
+            | ErrorKind::NetworkDown
+            | ErrorKind::NetworkUnreachable
+            | ErrorKind::HostUnreachable
+            | ErrorKind::Interrupted
+    )
+}
+
+/// Whether an error of that number means that there is no descriptor: one may be free soon.
+fn wants_descriptor(number: Option<i32>) -> bool
+    ensures { result ≡ spec.wants_descriptor number }
+{
+    number == Some(NO_DESCRIPTOR) || number == Some(NO_DESCRIPTOR_OF_ALL)
+}
+
+/// What an accept came to that failed so.
+fn failed(error: &io::Error) -> Accepted
+    ensures { result ≡ spec.accepted_by error.now }
+{
+    if is_passing(error.kind()) || wants_descriptor(error.raw_os_error()) {
+        Accepted::Later
+    } else {
+        Accepted::Failed
     }
 }
 
@@ -92,8 +114,7 @@ impl<'a, R: Wait + Clock> Door<'a, R> {
     fn accept(&self) -> Accepted {
         match self.listener.accept() {
             Ok((stream, _)) => Accepted::One(stream),
-            Err(error) if is_passing(&error) => Accepted::Later,
-            Err(_) => Accepted::Failed,
+            Err(error) => failed(&error),
         }
     }
 

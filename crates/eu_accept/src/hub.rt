@@ -1,5 +1,5 @@
 //! What the threads of a server share beside the book.
-ghost use Rattle.std.specs.Prelude.{◌≡◌};
+ghost use Rattle.std.specs.Prelude.{◌≡◌, ◌+◌, ◌-◌, ◌^◌, min};
 ghost use Rattle.eu_accept.specs.Limits.{server_limits};
 
 use crate::admission::{Admission, Entry, SPARE};
@@ -31,7 +31,9 @@ pub struct Limits {
 
 impl Limits {
     /// How many places a loop has: one for each connection, and those of the ones that are refused.
-    pub(crate) fn places(&self) -> usize {
+    pub(crate) fn places(&self) -> usize
+        ensures { result ≡ min (self.now.connections + 64) (2 ^ 64 - 1) }
+    {
         self.connections.saturating_add(SPARE as usize)
     }
 

@@ -75,11 +75,10 @@ fn wants_descriptor(number: Option<i32>) -> bool
 fn failed(error: &io::Error) -> Accepted
     ensures { result ≡ spec.accepted_by error.now }
 {
-    if is_passing(error.kind()) || wants_descriptor(error.raw_os_error()) {
-        Accepted::Later
-    } else {
-        Accepted::Failed
+    if !is_passing(error.kind()) && !wants_descriptor(error.raw_os_error()) {
+        return Accepted::Failed;
     }
+    Accepted::Later
 }
 
 impl<'a, R: Wait + Clock> Door<'a, R> {

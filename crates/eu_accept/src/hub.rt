@@ -1,5 +1,5 @@
 //! What the threads of a server share beside the book.
-ghost use Rattle.std.specs.Prelude.{◌≡◌, ◌+◌, ◌-◌, ◌^◌, min};
+ghost use Rattle.std.specs.Prelude.{◌≡◌, ◌+◌, ◌-◌, ◌^◌, IfOk, min, vec_len};
 ghost use Rattle.eu_accept.specs.Limits.{server_limits};
 
 use crate::admission::{Admission, Entry, SPARE};
@@ -70,16 +70,18 @@ pub struct Hub<'a, R: Wait + Clock> {
 }
 
 impl<'a, R: Wait + Clock + Net> Hub<'a, R> {
-    /// What the threads of a server share that begins now, has so many loops and takes so many connections; and what each loop polls with.
-    /// An error is the system's or the clock's.
+    /// What the threads of a server share that begins now, with as many loops as the admission says; and what each loop polls with. An error is the
+    /// system's or the clock's; `OutOfMemory` comes where no memory is left.
     pub fn open(
         rt: &'a R,
         alloc: Global,
         limits: Limits,
         periods: Periods,
-        sessions: u64,
-        loops: u32,
-    ) -> io::Result<(Hub<'a, R>, Vec<Poll>)> {
+        admission: Admission,
+    ) -> io::Result<(Hub<'a, R>, Vec<Poll>)>
+        ensures { IfOk result (λ opened. vec_len opened.1 ≡ admission.loops) }
+    {
+        let loops = admission.loops;
         let mut polls = Vec::with_capacity(alloc, loops as usize)?;
         let mut boxes = Vec::with_capacity(alloc, loops as usize)?;
         for _ in 0..loops {
@@ -94,7 +96,7 @@ impl<'a, R: Wait + Clock + Net> Hub<'a, R> {
             limits,
             boxes,
             pool: Pool::new(alloc, limits.places())?,
-            admission: Mutex::new(Admission::new(sessions, loops)),
+            admission: Mutex::new(admission),
             pace: Pace::new(rt, periods)?,
         };
         Ok((hub, polls))

@@ -5,7 +5,7 @@ ghost use Rattle.std.specs.Io.KnownBytes.{Appends, Keeps};
 ghost use Rattle.eu_book.specs.Account.{IsLawful};
 ghost use Rattle.eu_book.specs.Peers.{state_of};
 ghost use Rattle.eu_accept.specs.Limits.{server_limits};
-ghost use Rattle.eu_server.specs.Ends.{IsClose, IsEnd, IsStart};
+ghost use Rattle.eu_server.specs.Ends.{IsBegin, IsClose, IsEnd, IsStart};
 ghost use Rattle.eu_server.specs.Journal.{IsUntold, closed_text};
 ghost use Rattle.eu_server.specs.Served.{served_text};
 ghost use Rattle.eu_server.specs.Staff.{AreSessions, AreTimers, IsReadyFor, IsStaff};
@@ -15,7 +15,7 @@ ghost use Rattle.eu_shared.specs.Closing.{account_of};
 ghost use Rattle.eu_shared.specs.Shares.{HasNames, HasParts};
 
 use crate::no_peer::NoPeer;
-use eu_accept::{Door, Hand, Hub, Limits, Loop, Station, can_gather};
+use eu_accept::{Admission, Door, Hand, Hub, Limits, Loop, Station, can_gather};
 use eu_base::{Config, Fault};
 use eu_clock::{Chooser, SystemClock};
 use eu_gate::{BUCKET_MS, MOST_WORKERS, OTHER_WORKERS, Periods, THRESHOLD_MS};
@@ -28,7 +28,7 @@ use eu_workers::{Job, Site, Work, Worker, run_all};
 use mio::Poll;
 use std::alloc::Global;
 use std::io;
-use std::io::Write;
+use std::io::{ErrorKind, Write};
 use std::marker::Brand;
 use std::net::{Net, TcpListener};
 use std::os::fd::RawFd;
@@ -89,6 +89,41 @@ fn workers_of(wanted: u32) -> u32
     ensures few { result ≤ MOST_WORKERS }
 {
     wanted.clamp(1, MOST_WORKERS)
+}
+
+/// What a server by a plan counts at first.
+fn admission_of(plan: &Plan) -> Admission
+    ensures { result ≡ record { left = plan.now.sessions; came = 0; refused = 0; here = 0; loops = max 1 (min plan.now.workers MOST_WORKERS); is_closed = false; is_stopping = false; has_failed = false } }
+{
+    let loops = workers_of(plan.workers);
+    Admission::new(plan.sessions, loops)
+}
+
+/// What a server ends by that can't begin, since the system refuses something: `OutOfMemory` where that is memory, else `Read`.
+fn fault_of(error: &io::Error) -> Fault
+    ensures { (result ≡ Fault.OutOfMemory) ⊎ (result ≡ Fault.Read) }
+{
+    match error.kind() {
+        ErrorKind::OutOfMemory => Fault::OutOfMemory,
+        _ => Fault::Read,
+    }
+}
+
+/// What the threads of a server by a plan share, and what its loops poll with. `Read` where the system refuses something, or the clock can't be
+/// read; `OutOfMemory`.
+fn open_hub<'a, R: Wait + Clock + Net>(
+    rt: &'a R,
+    alloc: Global,
+    plan: &Plan,
+) -> Result<(Hub<'a, R>, Vec<Poll>), Fault>
+    ensures loops { IfOk result (λ opened. vec_len opened.1 ≡ max 1 (min plan.now.workers MOST_WORKERS)) }
+    ensures fault { IfErr result IsBegin }
+{
+    let admission = admission_of(plan);
+    match Hub::open(rt, alloc, plan.limits, plan.periods, admission) {
+        Ok(opened) => Ok(opened),
+        Err(error) => Err(fault_of(&error)),
+    }
 }
 
 /// A worker of a server, over a book that `K` names.
@@ -171,24 +206,56 @@ fn add_timers<'a, K: Label, R: Wait + Clock, H: Chooser + Drop>(
     add(workers, rt, alloc, shared, Work::Threshold)
 }
 
-/// The door of a server, its loops, which poll with these, and the two threads for requests that take long. An error is the system's or the clock's.
+/// Adds a loop that polls with each of these. An error is the system's or the clock's.
+fn add_loops<'a, R: Wait + Clock>(
+    stations: &mut Vec<Station<'a, R>>,
+    hub: &'a Hub<'a, R>,
+    polls: Vec<Poll>,
+) -> io::Result<()>
+    ensures { OnOk result (vec_len stations.new ≡ vec_len stations.old + vec_len polls) }
+{
+    for poll in polls {
+        let number = stations.len().saturating_sub(1);
+        stations.push(Station::Loop(Loop::new(hub, number, poll)?))?;
+    }
+    Ok(())
+}
+
+/// The door of a server, its loops, which poll with these, and the two threads for requests that take long, in this order. An error is the system's or
+/// the clock's.
 fn make_stations<'a, R: Wait + Clock + Net>(
     hub: &'a Hub<'a, R>,
     listener: &TcpListener,
     input: Option<RawFd>,
     polls: Vec<Poll>,
-) -> io::Result<Vec<Station<'a, R>>> {
+) -> io::Result<Vec<Station<'a, R>>>
+    ensures { IfOk result (λ stations. vec_len stations ≡ vec_len polls + 3) }
+{
     let mut stations = Vec::with_capacity(
         hub.alloc,
         polls.len().saturating_add(OTHER_WORKERS as usize),
     )?;
     stations.push(Station::Door(Door::new(hub, hub.rt, listener, input)?))?;
-    for (number, poll) in polls.into_iter().enumerate() {
-        stations.push(Station::Loop(Loop::new(hub, number, poll)?))?;
-    }
+    add_loops(&mut stations, hub, polls)?;
     stations.push(Station::Pool(Hand::new(hub)))?;
     stations.push(Station::Pool(Hand::new(hub)))?;
     Ok(stations)
+}
+
+/// The same, with the fault that a server ends by where they can't be made.
+fn stations_of<'a, R: Wait + Clock + Net>(
+    hub: &'a Hub<'a, R>,
+    listener: &TcpListener,
+    plan: &Plan,
+    polls: Vec<Poll>,
+) -> Result<Vec<Station<'a, R>>, Fault>
+    ensures made { IfOk result (λ stations. vec_len stations ≡ vec_len polls + 3) }
+    ensures fault { IfErr result IsBegin }
+{
+    match make_stations(hub, listener, plan.input, polls) {
+        Ok(stations) => Ok(stations),
+        Err(error) => Err(fault_of(&error)),
+    }
 }
 
 /// The workers of a server: those of sessions, one for each of these stations, and then those of the timers. `OutOfMemory`, and the fault of `Shared::pass`.
@@ -370,17 +437,11 @@ pub fn serve_book<
     ensures fault { IfErr result IsEnd }
 {
     let shared: Shared<K> = Shared::open(alloc, plan.config, plan.expected, 0, blanks)?;
-    let loops = workers_of(plan.workers);
-    if !has_threads(rt, alloc, loops) {
+    if !has_threads(rt, alloc, workers_of(plan.workers)) {
         return Err(Fault::OutOfMemory);
     }
-    let opened = Hub::open(rt, alloc, plan.limits, plan.periods, plan.sessions, loops);
-    let Ok((hub, polls)) = opened else {
-        return Err(Fault::Read);
-    };
-    let Ok(stations) = make_stations(&hub, listener, plan.input, polls) else {
-        return Err(Fault::Read);
-    };
+    let (hub, polls) = open_hub(rt, alloc, plan)?;
+    let stations = stations_of(&hub, listener, plan, polls)?;
     let outcome = serve_and_close(rt, alloc, shared, &hub, stations, chooser);
     judge_accepts(hub.counts().has_failed, outcome)
 }

@@ -61,7 +61,7 @@ def request():
     parts = []
     row = [
         ("trusted", "client", ["TCP, the system"]),
-        ("tested", "worker", ["socket, timeouts"]),
+        ("tested", "worker", ["socket, deadlines"]),
         ("proved", "session", ["request, route, JSON"]),
         ("tested", "lock", ["one ask at a time"]),
         ("proved", "book", ["leases, rows, journal"]),

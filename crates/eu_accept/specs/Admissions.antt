@@ -8,9 +8,10 @@ use Rattle.eu_accept.specs.declared.admission.Entry.TheVariants.{Admitted, Refus
 abbrev pub one_more : ℕ → ℕ
 one_more n = min (n + 1) (2 ^ 64 - 1)
 
--- what becomes of a connection that comes, where `most` are to be open at most: it is admitted where fewer are, refused where fewer than 64 more are, else dropped
+-- what becomes of a connection that comes, where `most` are to be open at most: it is admitted where fewer are, refused where fewer than 64 more are, else dropped, as it is
+-- where no more are accepted
 abbrev pub entry_of : ℕ → Admission → Entry
-entry_of most a = if nat_lt a.here most then Admitted else (if nat_lt a.here (min (most + 64) (2 ^ 64 - 1)) then Refused else Dropped)
+entry_of most a = if a.is_closed then Dropped else if nat_lt a.here most then Admitted else (if nat_lt a.here (min (most + 64) (2 ^ 64 - 1)) then Refused else Dropped)
 
 -- it is counted: one that is admitted has come, is one less that is still to be accepted, and is open; one that is refused is open, too; one that is dropped isn't
 abbrev pub let_in : Entry → Admission → Admission

@@ -61,12 +61,14 @@ impl Admission {
         self.left > 0 && !self.is_closed
     }
 
-    /// What becomes of one that has come: where fewer than `most` are open it is admitted; where fewer than `SPARE` more are, it is refused; else
-    /// it is dropped.
+    /// What becomes of one that has come: where fewer than `most` are open it is admitted; where fewer than `SPARE` more are, it is refused; else, or
+    /// where no more are accepted, it is dropped.
     fn entry(&self, most: u64) -> Entry
         ensures { result ≡ entry_of most self.now }
     {
-        if self.here < most {
+        if self.is_closed {
+            Entry::Dropped
+        } else if self.here < most {
             Entry::Admitted
         } else if self.here < most.saturating_add(SPARE) {
             Entry::Refused

@@ -21,7 +21,7 @@ use std::time::Clock;
 pub struct Limits {
     /// The most connections at once.
     pub connections: usize,
-    /// The most bytes that are kept of connections which wait, in each loop.
+    /// The most bytes that are kept of connections which wait. Each loop has its part of them.
     pub bytes: usize,
     /// How long a peer is awaited.
     pub patience: Patience,
@@ -37,13 +37,13 @@ impl Limits {
         self.connections.saturating_add(SPARE as usize)
     }
 
-    /// Those of a server: 10,000 connections, 64 MiB for each loop.
+    /// Those of a server: 10,000 connections, 256 MiB.
     pub fn of_server() -> Limits
         ensures { result ≡ server_limits }
     {
         Limits {
             connections: 10_000,
-            bytes: 67_108_864,
+            bytes: 268_435_456,
             patience: PATIENCE,
             linger_bytes: 65_536,
         }
@@ -113,6 +113,12 @@ impl<'a, R: Wait + Clock> Hub<'a, R> {
     pub(crate) fn close_door(&self, has_failed: bool) {
         self.admission.lock(self.rt).close(has_failed);
         self.wake_loops();
+    }
+
+    /// Notes that a loop has failed for good: the server stops, and wakes all loops.
+    pub(crate) fn fail(&self) {
+        self.admission.lock(self.rt).close(true);
+        self.stop();
     }
 
     /// Notes that the server stops, and wakes all loops.

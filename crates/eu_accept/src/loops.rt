@@ -8,7 +8,7 @@ use mio::net::TcpStream;
 use mio::{Events, Interest, Poll, Token};
 use std::alloc::{AllocError, Global};
 use std::collections::VecDeque;
-use std::io::{ErrorKind, Read, Write};
+use std::io::{ErrorKind, Read};
 use std::net::Shutdown;
 use std::sync::Wait;
 use std::time::{Clock, Duration, Instant};
@@ -73,12 +73,10 @@ fn guest(alloc: Global, socket: TcpStream) -> Connection {
     }
 }
 
-/// One for which there is no room: its session is over, and that is to be sent. None where no memory is left for it.
-fn refused(alloc: Global, socket: TcpStream) -> Option<Connection> {
-    let mut guest = guest(alloc, socket);
+/// Ends the session of a connection by a response that is to be sent. Tells whether there was memory for that.
+fn end_by(guest: &mut Connection, response: &str) -> bool {
     guest.has_ended = true;
-    write_whole(&mut guest.unsent, FULL.as_bytes()).ok()?;
-    Some(guest)
+    write_whole(&mut guest.unsent, response.as_bytes()).is_ok()
 }
 
 /// Reads what has come and drops it. Tells whether more may come.
@@ -103,7 +101,7 @@ impl<'a, R: Wait + Clock> Loop<'a, R> {
             number,
             poll,
             events: Events::with_capacity(hub.alloc, MOST_EVENTS)?,
-            hall: Hall::new(hub.alloc, most, hub.limits.bytes)?,
+            hall: Hall::new(hub.alloc, most, hub.limits.bytes / hub.boxes.len().max(1))?,
             ready: VecDeque::with_capacity(hub.alloc, most.saturating_add(MOST_EVENTS))?,
             again: Vec::new(hub.alloc),
             mail: Vec::with_capacity(hub.alloc, most)?,
@@ -127,7 +125,7 @@ impl<'a, R: Wait + Clock> Loop<'a, R> {
         }
     }
 
-    /// Puts a connection in its place again, of whose peer this is awaited now. One that is late, or would hold too much, is closed.
+    /// Puts a connection in its place again, of whose peer this is awaited now. One that would hold too much is closed.
     fn park(&mut self, key: usize, guest: Connection, awaited: Awaited) {
         let mut guest = guest;
         guest.talk.inbox.release(self.hub.alloc);
@@ -189,8 +187,7 @@ impl<'a, R: Wait + Clock> Loop<'a, R> {
             Left::Waits(Phase::Lingering, _) => self.begin_lingering(visit),
             Left::Waits(phase, happened) => self.park_after(visit, phase, happened),
             Left::GoesOn => {
-                let phase = visit.awaited.phase;
-                self.park_after(visit, phase, Happened::Answered);
+                self.park_after(visit, Phase::Asking, Happened::Answered);
                 let _ = self.again.push(key);
             }
             Left::Long => {
@@ -262,10 +259,14 @@ impl<'a, R: Wait + Clock> Loop<'a, R> {
     fn take_one(&mut self, mail: Mail) {
         match mail {
             Mail::New(socket) => self.enter(guest(self.hub.alloc, socket)),
-            Mail::Refused(socket) => match refused(self.hub.alloc, socket) {
-                Some(guest) => self.enter(guest),
-                None => self.hub.let_out(),
-            },
+            Mail::Refused(socket) => {
+                let mut guest = guest(self.hub.alloc, socket);
+                if end_by(&mut guest, FULL) {
+                    self.enter(guest);
+                } else {
+                    self.hub.let_out();
+                }
+            }
             Mail::Back(visit, left) => {
                 let call = Call {
                     key: visit.key,
@@ -293,13 +294,21 @@ impl<'a, R: Wait + Clock> Loop<'a, R> {
 
     /// Gives up a connection that is late. One whose request isn't whole is told so.
     fn give_up(&mut self, key: usize) {
-        if let Some((mut guest, awaited)) = self.hall.call(key) {
-            if awaited.phase == Phase::Asking {
-                let _ = guest.socket.write(SLOW.as_bytes());
-            }
+        let Some((mut guest, awaited)) = self.hall.call(key) else {
+            return;
+        };
+        if awaited.phase != Phase::Asking || !end_by(&mut guest, SLOW) {
             drop(guest);
+            self.leave(key);
+            return;
         }
-        self.leave(key);
+        let awaited = Awaited::begin(self.hub.limits.patience, Phase::Answering, self.now());
+        self.park(key, guest, awaited);
+        let _ = self.ready.push_back(Call {
+            key,
+            leaves_long: true,
+            reads_on: true,
+        });
     }
 
     /// Gives up all that are late, and where the server stops all that are idle.
@@ -381,7 +390,7 @@ impl<'a, R: Wait + Clock> Loop<'a, R> {
                 break;
             }
             if self.round().is_err() {
-                self.hub.close_door(true);
+                self.hub.fail();
                 break;
             }
         }

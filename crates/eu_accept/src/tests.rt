@@ -41,7 +41,7 @@ fn a_server_is_open_until_enough_have_come_or_it_is_closed(rt: HostRuntime) {
 #[test]
 fn an_ordinary_server_has_ten_thousand_connections(rt: HostRuntime) {
     let limits = Limits::of_server();
-    assert_eq!(rt; (limits.connections, limits.places(), limits.bytes), (10_000, 10_064, 67_108_864));
+    assert_eq!(rt; (limits.connections, limits.places(), limits.bytes), (10_000, 10_064, 268_435_456));
     assert_eq!(rt; (limits.patience.idle, limits.patience.request), (90_000, 10_000));
 }
 

@@ -476,23 +476,26 @@ fn serve_new<R: Threads + Wait + Clock + Net + Sync, H: Chooser + Send + Drop>(
 /// Serves so many connections of a listener as the plan says, by its workers, and then writes `served N`, N being how many there were.
 ///
 /// A book is opened with the settings and the number expected, without peers. Each accepted connection is one session of
-/// HTTP/1.1 (`eu_session::serve_session`), at the machine's time, of a worker that is free; while none is, connections wait in the
-/// system's queue. Beside the workers of sessions the evictor takes its turns, by the chooser's words, the bucket ends minutes, and the
-/// threshold is updated, each a period apart. Once the sessions have ended, so have these. Then the book is closed, and settled with
-/// what each worker logged.
+/// HTTP/1.1 (`eu_session::take_turn`, turn by turn), at the machine's time. Each belongs to one of the loops, which visits it whenever something has come,
+/// or more can be sent; a request that takes long is answered by one of two other threads meanwhile. Beside them the evictor takes its turns, by the
+/// chooser's words, the bucket ends minutes, and the threshold is updated, each a period apart. Once the sessions have ended, so have these. Then the
+/// book is closed, and settled with what each worker logged.
 ///
-/// A read of a connection ends its session after `read` milliseconds of the plan's timeouts, a write after `write`. After its last
-/// response what still comes is dropped, up to `linger_bytes` and for at most `linger` milliseconds, and the connection is closed
-/// (RFC 9112, section 9.6).
+/// Where as many connections are open as the plan allows, a further one is told so (503), and isn't counted as served. A connection whose peer is late
+/// by the plan's patience is closed; one whose request isn't whole is told so (408). After its last response what still comes is dropped, up to
+/// `linger_bytes` and for at most `linger` milliseconds, and the connection is closed (RFC 9112, section 9.6). Where the plan names an input, the server
+/// stops at its end: no more is accepted, who is idle is closed, and requests that have begun are answered.
 ///
 /// # Errors
 ///
-/// - `Read` where a connection can't be accepted, for another reason than that it was aborted before, its network failed or a
-///   signal came. No further session begins then; those that began are finished, and the book is closed and settled, before it is
-///   told. Also where the machine's clock can't be read at the start.
-/// - `OutOfMemory` where there is no memory to open the book or for the workers, before a connection is accepted, or to close the book.
+/// - `Read` where a connection can't be accepted, for another reason than that it was aborted before, its network failed, a
+///   signal came or there is no descriptor; or where the system refuses to tell what has come of connections. No further session begins then; those that
+///   began are finished, and the book is closed and settled, before it is told. Also where the machine's clock can't be read at the start, or the input
+///   can't be polled.
+/// - `OutOfMemory` where there is no memory to open the book or for the workers, or not a thread for each of them, before a connection is accepted; or
+///   no memory to close the book.
 /// - `PassMissing` and `Mismatch` where the book can't be closed or settled.
-/// - `TooManyPasses` by the contract, but nineteen passes are made at most.
+/// - `TooManyPasses` by the contract, but 22 passes are made at most.
 /// - `Write` where `served N` can't be written or flushed.
 ///
 /// In all cases but the last nothing is written.

@@ -24,17 +24,20 @@ after_answers GoesOn = GoesOn
 after_answers Long = Long
 after_answers Gone = Gone
 
--- what came of a turn, where the last read would have waited, or not, and these bytes weren't used: a session that waits for more isn't over, one that has failed is gone
+-- what came of a turn, where the last read would have waited, or not, and these bytes weren't used: a session that waits for more isn't over, one that has failed is gone;
+-- that there was no memory for an answer may have been told
 abbrev pub judged : Result Turned SessionFault → Bool → List ℕ → Progress
 judged (Ok turned.GoesOn) waits inbox = Answered
 judged (Ok (turned.Ended requests)) waits inbox = Answered
 judged (Err fault.Read) true inbox = Over (Waits (phase_of inbox) happened.Nothing)
 judged (Err fault.Read) false inbox = Over Gone
 judged (Err fault.Write) waits inbox = Over Gone
-judged (Err fault.OutOfMemory) waits inbox = Over Gone
+judged (Err fault.OutOfMemory) waits inbox = Answered
 
--- whether the session has ended by the turn
+-- whether the session has ended by the turn, and what was told is to be sent
 abbrev pub has_ended : Result Turned SessionFault → Bool
 has_ended (Ok turned.GoesOn) = false
 has_ended (Ok (turned.Ended requests)) = true
-has_ended (Err fault) = false
+has_ended (Err fault.OutOfMemory) = true
+has_ended (Err fault.Read) = false
+has_ended (Err fault.Write) = false

@@ -53,8 +53,8 @@ fn phase_of(talk: &Talk) -> Phase
     }
 }
 
-/// What came of a turn, where the last read would have waited, or not. A session that has ended is noted; one that has failed leaves its connection
-/// to be closed.
+/// What came of a turn, where the last read would have waited, or not. A session that has ended is noted, also where there was no memory for an answer,
+/// since that may have been told; one that has failed leaves its connection to be closed.
 fn judge<S>(
     turned: Result<Turned, SessionFault>,
     waits: bool,
@@ -65,7 +65,7 @@ fn judge<S>(
 {
     match turned {
         Ok(Turned::GoesOn) => Progress::Answered,
-        Ok(Turned::Ended(_)) => {
+        Ok(Turned::Ended(_)) | Err(SessionFault::OutOfMemory) => {
             guest.has_ended = true;
             Progress::Answered
         }
@@ -208,13 +208,14 @@ fn visit<K: Label, R: Wait, G: Gate, S: Incoming<Talk = Talk>, C: Clock>(
     lend(&mut visit.guest.talk, &mut workplace.inbox);
     let left = serve(site, who, &mut workplace.room, seat, clock, &mut visit);
     lend(&mut visit.guest.talk, &mut workplace.inbox);
+    workplace.inbox.begin_anew(site.alloc);
     source.take_back(visit, left);
     seat.pass.trim();
     if left == Left::Gone { Err(()) } else { Ok(()) }
 }
 
 /// Visits one connection after the other, until there is none, the gate stops it or it had so many turns, and gives its pass back.
-/// `who` is the worker's number at the gate, 1 to 16.
+/// `who` is the worker's number at the gate, 1 to 19.
 ///
 /// A turn passes the gate, takes the next connection for which there is something to do, sends what is to be sent of it, takes turns of
 /// its session (`eu_session::take_turn`), gives it back, and trims the log of the pass (`Pass::trim`). Each read of the connection passes

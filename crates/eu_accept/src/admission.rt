@@ -1,5 +1,5 @@
 //! How many connections came, and how many are open.
-ghost use Rattle.std.specs.Prelude.{◌≡◌, ◌<◌, ◌↔◌, ◌×◌, ◌||◌, false, true};
+ghost use Rattle.std.specs.Prelude.{◌≡◌, ◌<◌, ◌↔◌, ◌||◌, false, true};
 ghost use Rattle.eu_accept.specs.Admissions.{entry_of, let_in, let_out, loop_ended};
 
 /// How many are let in beyond the most, only to be told that there is no room for them.

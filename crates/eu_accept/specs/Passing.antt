@@ -1,5 +1,5 @@
 -- Which failures of an accept are passed over
-use Rattle.std.specs.Prelude.{Bool, true, false, ◌||◌, ℤ, pos, Option, Some, None, if◌then◌else◌}
+use Rattle.std.specs.Prelude.{Bool, true, false, ◌||◌, ◌==◌, ℤ, pos, negsuc, Option, Some, None, if◌then◌else◌}
 use Rattle.std.specs.IoError.{error_kind, raw_os_error}
 use Rattle.std.specs.declared.io.Error.{Error}
 use Rattle.std.specs.declared.io.ErrorKind.{ErrorKind}
@@ -19,9 +19,9 @@ is_passing _ = false
 
 -- the process has no descriptor left, or the system has none
 abbrev pub wants_descriptor : Option ℤ → Bool
-wants_descriptor (Some (pos 24)) = true
-wants_descriptor (Some (pos 23)) = true
-wants_descriptor _ = false
+wants_descriptor (Some (pos number)) = number == 24 || number == 23
+wants_descriptor (Some (negsuc number)) = false
+wants_descriptor None = false
 
 -- an accept that failed so is tried again later, or has failed for good
 abbrev pub accepted_by : Error → Accepted

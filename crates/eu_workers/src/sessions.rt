@@ -85,8 +85,8 @@ fn turn<K: Label, R: Wait, G: Gate, C: Clock, S: Read>(
     clock: &mut C,
     visit: &mut Visit<S, Talk>,
 ) -> Progress
-    requires sent { visit.old.guest.unsent.rest ≡ [] }
-    ensures asked { IsAsked seat.old.pass seat.new.pass }
+    requires { visit.old.guest.unsent.rest ≡ [] }
+    ensures { IsAsked seat.old.pass seat.new.pass }
 {
     let guest = &mut visit.guest;
     let mut source = GatedSource::new(

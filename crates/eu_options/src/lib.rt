@@ -4,5 +4,7 @@
 mod options;
 mod serving;
 
-pub use options::{command, config_of, journal_of, seed_of, serving_of};
-pub use serving::Serving;
+pub use options::{
+    bind_text, command, config_of, drawing_of, journal_of, seed_of, seed_text, serving_of,
+};
+pub use serving::{Drawing, Serving, connections_within};

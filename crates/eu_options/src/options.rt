@@ -1,19 +1,26 @@
 //! The options of the command line, and what their values say.
-ghost use Rattle.std.specs.Prelude.{ℕ, ◌≡◌, ◌≤◌, ◌<◌, ◌^◌, false, codes, option_map, IfOk, IfSome, IsSome};
+ghost use Rattle.std.specs.Prelude.{ℕ, [], ◌∷◌, ◌≡◌, ◌≤◌, ◌<◌, ◌^◌, false, codes, map, option_map, None, Some, IfOk, IfSome, IsSome};
 ghost use Rattle.clap.specs.Words.{rule_of, app_of, new_app, first_value, found_of};
 ghost use Rattle.clap.specs.declared.builder.command.Command.TheViews.{out-Command};
+ghost use Rattle.std.specs.declared.net.ip_addr.IpAddr.{IpAddr};
+ghost use Rattle.eu_options.specs.declared.serving.Drawing.{Drawing};
+ghost use Rattle.eu_options.specs.declared.serving.Drawing.TheVariants.{FirstOnes, Seeded, FromSystem};
 ghost use Rattle.eu_options.specs.declared.serving.Serving.{Serving};
-ghost use Rattle.eu_options.specs.Options.{option_rule, needed_rule, with_journal, with_options, with_server_options, seed_rule, program_app, IsSwitchParser, IsNumber, IsConfig, IsServing};
+ghost use Rattle.eu_options.specs.Options.{option_rule, needed_rule, bind_rule, drawing_rule, forever_rule, sessions_rule, with_journal, with_address, with_limits, with_options, with_server_options, with_settings, with_work, seed_rule, program_app, IsSwitchParser, IsAddress, IsConfig, IsDrawing, IsEnd, IsNumber, IsServing};
 
-use crate::serving::Serving;
+use crate::serving::{Drawing, Serving};
 use clap::builder::ValueParser;
-use clap::{Arg, ArgMatches, Command, value_parser};
+use clap::{Arg, ArgAction, ArgMatches, Command, value_parser};
 use eu_base::Config;
 use eu_gate::MOST_WORKERS;
 use std::alloc::{AllocError, Global};
+use std::net::IpAddr;
 
 /// The words of an option that is on or off.
 static SWITCH: [&str; 2] = ["on", "off"];
+
+/// The most connections at once that a server may be asked to have.
+const MOST_CONNECTIONS: u32 = 1_000_000;
 
 /// What `--journal` does at a command that makes a journal.
 const WRITES_JOURNAL: &str =
@@ -63,9 +70,9 @@ fn seed_option<'a>(alloc: Global) -> Arg<'a>
         )
 }
 
-/// The options that say how a registry is set, and how the victims of an eviction are drawn.
+/// The options that say how a registry is set.
 fn with_settings<'a>(alloc: Global, command: Command<'a>) -> Result<Command<'a>, AllocError>
-    ensures app { IfOk result (λ c. (switch : _) × IsSwitchParser switch × (app_of c ≡ with_options (app_of command.entry) switch)) }
+    ensures app { IfOk result (λ c. (switch : _) × IsSwitchParser switch × (app_of c ≡ with_settings (app_of command.entry) switch)) }
     ensures local { (out-Command command.entry).has_globals ≡ false → IfOk result (λ c. (out-Command c).has_globals ≡ false) }
 {
     let switch = ValueParser::from(SWITCH.as_slice());
@@ -95,21 +102,87 @@ fn with_settings<'a>(alloc: Global, command: Command<'a>) -> Result<Command<'a>,
         .arg(preservation)?
         .arg(percent)?
         .arg(interval)?
-        .arg(evict_ms)?
-        .arg(seed_option(alloc))
+        .arg(evict_ms)
 }
 
-/// The options that say where a server listens, and how much it serves.
-fn with_server<'a>(alloc: Global, command: Command<'a>) -> Result<Command<'a>, AllocError>
-    ensures app { IfOk result (λ c. app_of c ≡ with_server_options (app_of command.entry)) }
+/// The options of a script: how a registry is set, and how the victims of an eviction are drawn.
+fn with_options<'a>(alloc: Global, command: Command<'a>) -> Result<Command<'a>, AllocError>
+    ensures app { IfOk result (λ c. (switch : _) × IsSwitchParser switch × (app_of c ≡ with_options (app_of command.entry) switch)) }
+    ensures local { (out-Command command.entry).has_globals ≡ false → IfOk result (λ c. (out-Command c).has_globals ≡ false) }
+{
+    with_settings(alloc, command)?.arg(seed_option(alloc))
+}
+
+/// The option `--seed N|system` of a server, which may be left out.
+fn drawing_option<'a>(alloc: Global) -> Arg<'a>
+    ensures rule { rule_of result ≡ drawing_rule }
+    ensures local { result.global ≡ false }
+{
+    Arg::new(alloc, "seed")
+        .long("seed")
+        .value_name("N|system")
+        .help(
+            "Draws the victims of an eviction by a generator with this seed, or with one that the system draws, which is told; without it, the first are taken",
+        )
+}
+
+/// The option `--bind ADDRESS`.
+fn bind_option<'a>(alloc: Global) -> Arg<'a>
+    ensures rule { rule_of result ≡ bind_rule }
+    ensures local { result.global ≡ false }
+{
+    Arg::new(alloc, "bind")
+        .long("bind")
+        .value_name("ADDRESS")
+        .default_value("127.0.0.1")
+        .help("The IP address to listen on, as ::1; 0.0.0.0 and :: are all of this machine's")
+}
+
+/// The option `--sessions N`, which has to be given unless `--forever` is, and may not be given with it.
+fn sessions_option<'a>(alloc: Global) -> Result<Arg<'a>, AllocError>
+    ensures rule { IfOk result (λ a. rule_of a ≡ sessions_rule) }
+    ensures local { IfOk result (λ a. a.global ≡ false) }
+    ensures unless { IfOk result (λ a. map (λ s. s.now) a.r_unless.items ≡ codes "forever" ∷ []) }
+    ensures conflicts { IfOk result (λ a. map (λ s. s.now) a.conflicts.items ≡ codes "forever" ∷ []) }
+{
+    Arg::new(alloc, "sessions")
+        .long("sessions")
+        .value_name("N")
+        .value_parser(value_parser!(u32))
+        .help("How many connections are served before the server ends")
+        .required_unless_present("forever")?
+        .conflicts_with("forever")
+}
+
+/// The option `--forever`.
+fn forever_option<'a>(alloc: Global) -> Arg<'a>
+    ensures rule { rule_of result ≡ forever_rule }
+    ensures local { result.global ≡ false }
+{
+    Arg::new(alloc, "forever")
+        .long("forever")
+        .action(ArgAction::SetTrue)
+        .help("Serves without an end by a number of connections")
+}
+
+/// The options that say where a server listens.
+fn with_address<'a>(alloc: Global, command: Command<'a>) -> Result<Command<'a>, AllocError>
+    ensures app { IfOk result (λ c. app_of c ≡ with_address (app_of command.entry)) }
     ensures local { (out-Command command.entry).has_globals ≡ false → IfOk result (λ c. (out-Command c).has_globals ≡ false) }
 {
     let port = needed(alloc, "port", value_parser!(u16)).help(
-        "The port of 127.0.0.1 to listen on; 0 has the system choose one, which is told",
+        "The port to listen on; 0 has the system choose one, which is told",
     );
-    let sessions = needed(alloc, "sessions", value_parser!(u32)).help(
-        "How many connections are served before the server ends",
-    );
+    command.arg(port)?.arg(bind_option(alloc))
+}
+
+/// The options that say how much a server serves.
+fn with_work<'a>(alloc: Global, command: Command<'a>) -> Result<Command<'a>, AllocError>
+    ensures app { IfOk result (λ c. app_of c ≡ with_work (app_of command.entry)) }
+    ensures local { (out-Command command.entry).has_globals ≡ false → IfOk result (λ c. (out-Command c).has_globals ≡ false) }
+{
+    let sessions = sessions_option(alloc)?;
+    let forever = forever_option(alloc);
     let workers = option(alloc, "workers", "N", value_parser!(u32).range(1..=16), "2").help(
         "How many connections are served at once",
     );
@@ -117,10 +190,30 @@ fn with_server<'a>(alloc: Global, command: Command<'a>) -> Result<Command<'a>, A
         "How many clients are expected at first",
     );
     command
-        .arg(port)?
         .arg(sessions)?
+        .arg(forever)?
         .arg(workers)?
         .arg(expected)
+}
+
+/// The options that limit the connections of a server.
+fn with_limits<'a>(alloc: Global, command: Command<'a>) -> Result<Command<'a>, AllocError>
+    ensures app { IfOk result (λ c. app_of c ≡ with_limits (app_of command.entry)) }
+    ensures local { (out-Command command.entry).has_globals ≡ false → IfOk result (λ c. (out-Command c).has_globals ≡ false) }
+{
+    let most = value_parser!(u32).range(1..=1_000_000);
+    let connections = option(alloc, "connections", "N", most, "10000").help(
+        "The most connections at once; fewer, which is told, where the limit of descriptors is lower",
+    );
+    let idle = value_parser!(u32).range(1..=4_294_967_295);
+    let idle_ms = option(alloc, "idle-ms", "MS", idle, "90000").help(
+        "How long a connection may wait for the first byte of a request",
+    );
+    let request = value_parser!(u32).range(1..=4_294_967_295);
+    let request_ms = option(alloc, "request-ms", "MS", request, "10000").help(
+        "How long a request may take, from its first byte to its last",
+    );
+    command.arg(connections)?.arg(idle_ms)?.arg(request_ms)
 }
 
 /// The option that names the file of a journal.
@@ -147,7 +240,7 @@ fn script<'a>(alloc: Global) -> Result<Command<'a>, AllocError>
     let script = Command::new(alloc, "script").about(
         "Runs a script from standard input and prints the replies",
     );
-    with_journal(alloc, with_settings(alloc, script)?, WRITES_JOURNAL)
+    with_journal(alloc, with_options(alloc, script)?, WRITES_JOURNAL)
 }
 
 /// The command `audit` with its options, which are those of `script`.
@@ -158,22 +251,33 @@ fn audit<'a>(alloc: Global) -> Result<Command<'a>, AllocError>
     let audit = Command::new(alloc, "audit").about(
         "Runs a script from standard input and tells whether what it did is a run of the lease machine",
     );
-    let settings = with_settings(alloc, audit)?;
+    let options = with_options(alloc, audit)?;
     with_journal(
         alloc,
-        settings,
+        options,
         "Judges the journal in this file, and runs no script",
     )
 }
 
+/// The options of a server.
+fn with_server<'a>(alloc: Global, command: Command<'a>) -> Result<Command<'a>, AllocError>
+    ensures app { IfOk result (λ c. (switch : _) × IsSwitchParser switch × (app_of c ≡ with_server_options (app_of command.entry) switch)) }
+    ensures local { (out-Command command.entry).has_globals ≡ false → IfOk result (λ c. (out-Command c).has_globals ≡ false) }
+{
+    let settings = with_settings(alloc, command)?;
+    let drawing = settings.arg(drawing_option(alloc))?;
+    let address = with_address(alloc, drawing)?;
+    let work = with_work(alloc, address)?;
+    with_limits(alloc, work)
+}
+
 /// The command `serve` with its options.
 fn serve<'a>(alloc: Global) -> Result<Command<'a>, AllocError>
-    ensures app { IfOk result (λ c. (switch : _) × IsSwitchParser switch × (app_of c ≡ with_journal (with_server_options (with_options (new_app (codes "serve")) switch)))) }
+    ensures app { IfOk result (λ c. (switch : _) × IsSwitchParser switch × (app_of c ≡ with_journal (with_server_options (new_app (codes "serve")) switch))) }
     ensures local { IfOk result (λ c. (out-Command c).has_globals ≡ false) }
 {
     let serve = Command::new(alloc, "serve").about("Serves clients over HTTP");
-    let server = with_server(alloc, with_settings(alloc, serve)?)?;
-    with_journal(alloc, server, WRITES_JOURNAL)
+    with_journal(alloc, with_server(alloc, serve)?, WRITES_JOURNAL)
 }
 
 /// The command line: `eureka script`, `eureka audit` and `eureka serve` with their options. `AllocError` where no memory is left.
@@ -234,23 +338,93 @@ fn port_of(matches: &ArgMatches<'_>) -> Option<u16>
     matches.get_one::<u16>("port")
 }
 
-/// Where a server listens, and how much it serves, as the options say. None where one is missing or out of its range, which the command
-/// line rules out.
-pub fn serving_of(matches: &ArgMatches<'_>) -> Option<Serving>
-    ensures some { IfSome result (IsServing matches.now) }
-    ensures none { (s : Serving) → s.port < 2 ^ 16 → s.sessions < 2 ^ 32 → s.expected < 2 ^ 32 → IsServing matches.now s → IsSome result }
+/// The number that an option gives, within these bounds. None where it has none, or one outside.
+fn number_within(matches: &ArgMatches<'_>, name: &str, least: u32, most: u32) -> Option<u32>
+    ensures some { IfSome result (λ n. (least ≤ n) × ((n ≤ most) × IsNumber matches.now name.now n)) }
+    ensures none { (n : ℕ) → least ≤ n → n ≤ most → IsNumber matches.now name.now n → IsSome result }
 {
-    let port = port_of(matches)?;
-    let sessions = number(matches, "sessions")?;
-    let workers = number(matches, "workers")?;
-    let expected = number(matches, "expected")?;
-    if workers < 1 || workers > MOST_WORKERS {
+    let found = number(matches, name)?;
+    if found < least || found > most {
         return None;
     }
+    Some(found)
+}
+
+/// The address that the options give. None where they give none, or it isn't one.
+fn bind_of(matches: &ArgMatches<'_>) -> Option<IpAddr>
+    ensures some { IfSome result (IsAddress matches.now (codes "bind")) }
+    ensures none { (address : IpAddr) → IsAddress matches.now (codes "bind") address → IsSome result }
+{
+    matches.get_one::<IpAddr>("bind")
+}
+
+/// After how many sessions a server ends as the options say: `Some(None)` where it ends by no number. None where they don't say it.
+fn end_of(matches: &ArgMatches<'_>) -> Option<Option<u32>>
+    ensures some { IfSome result (IsEnd matches.now) }
+    ensures forever { IsEnd matches.now None → IsSome result }
+    ensures counted { (n : ℕ) → n < 2 ^ 32 → IsEnd matches.now (Some n) → IsSome result }
+{
+    let is_forever = matches.get_str("forever")? == "true";
+    if is_forever {
+        return Some(None);
+    }
+    let sessions = number(matches, "sessions")?;
+    Some(Some(sessions))
+}
+
+/// The text of `--bind`, if the options give one.
+pub fn bind_text<'a>(matches: &ArgMatches<'a>) -> Option<&'a str>
+    ensures { option_map (λ text. text.now) result ≡ first_value (found_of matches.now) (codes "bind") }
+{
+    matches.get_str("bind")
+}
+
+/// The text of `--seed`, if the options give one.
+pub fn seed_text<'a>(matches: &ArgMatches<'a>) -> Option<&'a str>
+    ensures { option_map (λ text. text.now) result ≡ first_value (found_of matches.now) (codes "seed") }
+{
+    matches.get_str("seed")
+}
+
+/// How the victims of a server's evictions are drawn as the options say. None where the text of `--seed` is neither `system` nor a `u64`.
+pub fn drawing_of(matches: &ArgMatches<'_>) -> Option<Drawing>
+    ensures some { IfSome result (IsDrawing matches.now) }
+    ensures first { IsDrawing matches.now FirstOnes → IsSome result }
+    ensures system { IsDrawing matches.now FromSystem → IsSome result }
+    ensures seeded { (n : ℕ) → n < 2 ^ 64 → IsDrawing matches.now (Seeded n) → IsSome result }
+{
+    let Some(text) = seed_text(matches) else {
+        return Some(Drawing::FirstOnes);
+    };
+    if text == "system" {
+        return Some(Drawing::FromSystem);
+    }
+    let seed = seed_of(matches)?;
+    Some(Drawing::Seeded(seed))
+}
+
+/// What the options of a server say. None where the text of `--bind` is no IP address; or where one is missing or out of its range, which the
+/// command line rules out.
+pub fn serving_of(matches: &ArgMatches<'_>) -> Option<Serving>
+    ensures some { IfSome result (IsServing matches.now) }
+    ensures none { (s : Serving) → s.port < 2 ^ 16 → IfSome s.sessions (λ n. n < 2 ^ 32) → s.expected < 2 ^ 32 → s.idle_ms < 2 ^ 32 → s.request_ms < 2 ^ 32 → IsServing matches.now s → IsSome result }
+{
+    let port = port_of(matches)?;
+    let bind = bind_of(matches)?;
+    let sessions = end_of(matches)?;
+    let workers = number_within(matches, "workers", 1, MOST_WORKERS)?;
+    let expected = number(matches, "expected")?;
+    let connections = number_within(matches, "connections", 1, MOST_CONNECTIONS)?;
+    let idle_ms = number_within(matches, "idle-ms", 1, u32::MAX)?;
+    let request_ms = number_within(matches, "request-ms", 1, u32::MAX)?;
     Some(Serving {
         port,
+        bind,
         sessions,
         workers,
         expected,
+        connections,
+        idle_ms,
+        request_ms,
     })
 }

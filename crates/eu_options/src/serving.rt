@@ -1,16 +1,55 @@
-//! Where a server listens, and how much it serves.
-ghost use Rattle.std.specs.Prelude.{◌≤◌};
+//! What the options of a server say.
+ghost use Rattle.std.specs.Prelude.{◌≡◌, ◌≤◌, ◌-◌, min, max};
 
-/// What the options of a server say.
+use std::net::IpAddr;
+
+/// Where a server listens, how much it serves, and within which limits.
 #[derive(Clone, Copy, Debug)]
 pub struct Serving {
-    /// The port of 127.0.0.1; 0 has the system choose one.
+    /// The port; 0 has the system choose one.
     pub port: u16,
-    /// How many connections are served.
-    pub sessions: u32,
-    /// How many of them at once.
+    /// The address of this machine at which it listens.
+    pub bind: IpAddr,
+    /// How many connections are served before it ends. None where it doesn't end by their number.
+    pub sessions: Option<u32>,
+    /// How many workers serve them.
     pub workers: u32,
     /// How many clients are expected at first.
     pub expected: u32,
+    /// The most connections at once.
+    pub connections: u32,
+    /// The milliseconds that a connection may wait for the first byte of a request.
+    pub idle_ms: u32,
+    /// The milliseconds that a request may take, from its first byte to its last.
+    pub request_ms: u32,
     ghost workers_bound: { (1 ≤ workers) × (workers ≤ 16) },
+    ghost connections_bound: { (1 ≤ connections) × (connections ≤ 1000000) },
+    ghost idle_bound: { 1 ≤ idle_ms },
+    ghost request_bound: { 1 ≤ request_ms },
+}
+
+/// How the victims of a server's evictions are drawn.
+#[derive(Clone, Copy, Debug, PartialEq, Eq)]
+pub enum Drawing {
+    /// The first ones are taken.
+    FirstOnes,
+    /// By a generator with this seed.
+    Seeded(u64),
+    /// By a generator with a seed that the system draws.
+    FromSystem,
+}
+
+/// The descriptors of a process that are kept for what is no connection.
+const OTHER_DESCRIPTORS: u64 = 64;
+
+/// How many connections a server has at most that is asked to have so many, where the process may have so many descriptors: 64 of these are for
+/// the rest, and one connection there is always.
+pub fn connections_within(wanted: u32, descriptors: u64) -> u32
+    ensures { result ≡ min wanted (max 1 (descriptors - 64)) }
+{
+    let most = descriptors.saturating_sub(OTHER_DESCRIPTORS).max(1);
+    match u32::try_from(most) {
+        Ok(most) => wanted.min(most),
+        Err(_) => wanted,
+    }
 }

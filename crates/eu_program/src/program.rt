@@ -11,9 +11,12 @@ use clap::{ArgMatches, Error};
 use eu_base::{Config, Fault};
 use eu_clock::{Chooser, FirstChooser, RngChooser};
 use eu_journal_audit::run_journal_audit;
-use eu_options::{command, config_of, journal_of, seed_of, serving_of};
+use eu_options::{
+    Drawing, bind_text, command, config_of, drawing_of, journal_of, seed_of, seed_text, serving_of,
+};
 use eu_script::{run_audit, run_script, run_script_with_journal};
 use std::net::{Net, TcpListener, TcpStream};
+use std::random::RandomSource;
 use std::rt::{Env, Files};
 use std::sync::Wait;
 use std::thread::Threads;
@@ -165,6 +168,33 @@ fn start_audit<R: Files + Input + Print + Eprint + AllocGlobal>(
     }
 }
 
+/// Tells why an option can't have the value that it was given, if standard error takes it, and gives the exit status.
+fn tell_value(rt: &impl Eprint, option: &str, value: Option<&str>, why: &str) -> u8
+    ensures { result ≡ 2 }
+{
+    let value = value.unwrap_or("");
+    let _ = eprintln!(rt;
+        "error: invalid value '{value}' for '{option}': {why}\n\nFor more information, try '--help'."
+    );
+    BAD_INPUT
+}
+
+/// A seed that the system draws, which standard error is told. None where it draws none, and standard error is told why.
+fn draw_seed<R: RandomSource + Eprint>(rt: &R) -> Option<u64> {
+    let mut bytes = [0; 8];
+    match rt.fill_bytes(&mut bytes) {
+        Ok(()) => {
+            let seed = u64::from_le_bytes(bytes);
+            let _ = eprintln!(rt; "seed {seed}");
+            Some(seed)
+        }
+        Err(error) => {
+            let _ = eprintln!(rt; "the system draws no seed: {error}");
+            None
+        }
+    }
+}
+
 /// Serves as the options say, and gives the exit status.
 fn start_server<
     R: Threads
@@ -172,6 +202,7 @@ fn start_server<
         + Clock
         + Net<Listener = TcpListener, Stream = TcpStream>
         + Files
+        + RandomSource
         + Print
         + Eprint
         + AllocGlobal
@@ -179,13 +210,26 @@ fn start_server<
 >(rt: &R, matches: &ArgMatches<'_>) -> u8
     ensures { (result ≡ 0) ⊎ ((result ≡ 2) ⊎ (result ≡ 3)) }
 {
-    let (Some(config), Some(serving)) = (config_of(matches), serving_of(matches)) else {
+    let Some(config) = config_of(matches) else {
         return BAD_INPUT;
     };
+    let Some(serving) = serving_of(matches) else {
+        let bind = bind_text(matches);
+        return tell_value(rt, "--bind <ADDRESS>", bind, "not an IP address");
+    };
+    let Some(drawing) = drawing_of(matches) else {
+        let seed = seed_text(matches);
+        return tell_value(rt, "--seed <N|system>", seed, "neither a u64 nor `system`");
+    };
     let journal = journal_of(matches);
-    match seed_of(matches) {
+    let seed = match drawing {
+        Drawing::FirstOnes => return serve(rt, config, serving, journal, FirstChooser),
+        Drawing::Seeded(seed) => Some(seed),
+        Drawing::FromSystem => draw_seed(rt),
+    };
+    match seed {
         Some(seed) => serve(rt, config, serving, journal, RngChooser::seeded(seed)),
-        None => serve(rt, config, serving, journal, FirstChooser),
+        None => End::Failed(Fault::Read).tell(rt),
     }
 }
 
@@ -200,6 +244,7 @@ pub fn start<
         + Net<Listener = TcpListener, Stream = TcpStream>
         + Files
         + Env
+        + RandomSource
         + Input
         + Print
         + Eprint

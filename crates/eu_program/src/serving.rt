@@ -1,27 +1,31 @@
-//! A server of the port that the options name.
-ghost use Rattle.std.specs.Prelude.{◌≡◌, ◌≢◌, ◌⊎◌, OnOk};
+//! A server at the address that the options name.
+ghost use Rattle.std.specs.Prelude.{◌≡◌, ◌≢◌, ◌≤◌, ◌⊎◌, OnOk};
 ghost use Rattle.eu_accept.specs.Limits.{server_limits};
+ghost use Rattle.eu_program.specs.Plans.{end_planned};
 
 use crate::end::End;
 use crate::files::create;
 use eu_base::{Config, Fault};
 use eu_clock::Chooser;
-use eu_options::Serving;
+use eu_options::{Serving, connections_within};
 use eu_server::{BUCKET_MS, Plan, THRESHOLD_MS, serve_by, serve_with_journal};
 use eu_stream::Writing;
+use libc::types::rlimit;
+use libc::{RLIMIT_NOFILE, getrlimit};
 use std::io;
-use std::net::{Ipv4Addr, Net, SocketAddr, TcpListener, TcpStream};
+use std::net::{IpAddr, Net, SocketAddr, TcpListener, TcpStream};
 use std::rt::Files;
 use std::sync::Wait;
 use std::thread::Threads;
 use std::time::Clock;
 
-/// Listens on that port of 127.0.0.1, and tells on standard error on which, or why that failed.
+/// Listens on that port of that address, and tells on standard error on which, or why that failed.
 pub fn listen<R: Net<Listener = TcpListener, Stream = TcpStream> + Eprint>(
     rt: &R,
+    bind: IpAddr,
     port: u16,
 ) -> Option<TcpListener> {
-    let wanted = SocketAddr::from((Ipv4Addr::LOCALHOST, port));
+    let wanted = SocketAddr::new(bind, port);
     match TcpListener::bind(rt, wanted) {
         Ok(listener) => {
             let address = listener.local_addr().unwrap_or(wanted);
@@ -35,21 +39,56 @@ pub fn listen<R: Net<Listener = TcpListener, Stream = TcpStream> + Eprint>(
     }
 }
 
-/// What a server does that has these settings, and serves so much as the options say.
-fn plan_of(config: Config, serving: Serving) -> Plan
+/// How many descriptors this process may have at once. None where the system doesn't tell.
+fn descriptors() -> Option<u64> {
+    let mut limit = rlimit {
+        rlim_cur: 0,
+        rlim_max: 0,
+    };
+    match getrlimit(RLIMIT_NOFILE, &mut limit) {
+        0 => Some(limit.rlim_cur),
+        _ => None,
+    }
+}
+
+/// How many connections a server has at most that is asked to have so many: fewer where the process may not have descriptors for all, which
+/// standard error is told.
+fn most_connections(rt: &impl Eprint, wanted: u32) -> u32
+    ensures { result ≤ wanted }
+{
+    let Some(descriptors) = descriptors() else {
+        return wanted;
+    };
+    let most = connections_within(wanted, descriptors);
+    if most < wanted {
+        let _ = eprintln!(rt;
+            "at most {most} connections: the limit of descriptors is {descriptors}"
+        );
+    }
+    most
+}
+
+/// What a server does that has these settings, serves so much as the options say, and has so many connections at most.
+fn plan_of(config: Config, serving: Serving, connections: u32) -> Plan
     ensures settings { result.config ≡ config }
     ensures expected { result.expected ≡ serving.expected }
     ensures workers { result.workers ≡ serving.workers }
-    ensures sessions { result.sessions ≡ serving.sessions }
+    ensures sessions { result.sessions ≡ end_planned serving.sessions }
     ensures periods { result.periods ≡ record { evictor = config.evict_ms; bucket = BUCKET_MS; threshold = THRESHOLD_MS } }
-    ensures limits { result.limits ≡ server_limits }
+    ensures connections { result.limits.connections ≡ connections }
+    ensures idle { result.limits.patience.idle ≡ serving.idle_ms }
+    ensures request { result.limits.patience.request ≡ serving.request_ms }
+    ensures limits { result.limits ≡ record server_limits { connections = connections; patience = record server_limits.patience { idle = serving.idle_ms; request = serving.request_ms } } }
 {
-    Plan::of_server(
-        config,
-        serving.expected,
-        serving.workers,
-        u64::from(serving.sessions),
-    )
+    let sessions = match serving.sessions {
+        Some(sessions) => u64::from(sessions),
+        None => u64::MAX,
+    };
+    let mut plan = Plan::of_server(config, serving.expected, serving.workers, sessions);
+    plan.limits.connections = connections as usize;
+    plan.limits.patience.idle = serving.idle_ms;
+    plan.limits.patience.request = serving.request_ms;
+    plan
 }
 
 /// Serves by a plan and writes the book's journal to that file, and gives the exit status. The file is created before a connection is
@@ -75,8 +114,8 @@ fn serve_to<
     End::of_server(ended).tell(rt)
 }
 
-/// Serves, and gives the exit status: 0 where as many connections as wanted were served. The journal of the book is written to the file of
-/// that path at the end, where one is given.
+/// Serves, and gives the exit status: 0 where as many connections as wanted were served; where no number of them is, it serves on. The journal
+/// of the book is written to the file of that path at the end, where one is given.
 pub fn serve<
     R: Threads
         + Wait
@@ -91,10 +130,11 @@ pub fn serve<
 >(rt: &R, config: Config, serving: Serving, journal: Option<&str>, chooser: C) -> u8
     ensures { (result ≡ 0) ⊎ (result ≡ 3) }
 {
-    let Some(listener) = listen(rt, serving.port) else {
+    let Some(listener) = listen(rt, serving.bind, serving.port) else {
         return End::Failed(Fault::Read).tell(rt);
     };
-    let plan = plan_of(config, serving);
+    let connections = most_connections(rt, serving.connections);
+    let plan = plan_of(config, serving, connections);
     if let Some(path) = journal {
         return serve_to(rt, &listener, &plan, path, chooser);
     }

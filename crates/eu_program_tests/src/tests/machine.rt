@@ -7,6 +7,7 @@ use std::fs::{Metadata, OpenOptions};
 use std::io;
 use std::io::{BufRead, Error, ErrorKind, Lines, Read, Write};
 use std::net::{Net, SocketAddr, TcpListener, TcpStream};
+use std::random::RandomSource;
 use std::rt::{Env, Files};
 use std::sync::{Mutex, Wait};
 use std::thread::Threads;
@@ -26,6 +27,8 @@ pub enum Broken {
     Output,
     /// A read of standard input fails.
     Input,
+    /// The system draws no random bytes.
+    Random,
 }
 
 /// An input, whose reads fail where it is broken.
@@ -131,6 +134,20 @@ impl<R: Net<Listener = TcpListener, Stream = TcpStream>> Net for Machine<'_, R> 
 
     fn connect(&self, address: SocketAddr) -> io::Result<TcpStream> {
         self.rt.connect(address)
+    }
+}
+
+/// The seed that is drawn is 3.
+impl<R> RandomSource for Machine<'_, R> {
+    fn fill_bytes(&self, buf: &mut [u8]) -> io::Result<()> {
+        if matches!(self.broken, Broken::Random) {
+            return Err(Error::from(ErrorKind::Unsupported));
+        }
+        buf.fill(0);
+        if let Some(first) = buf.first_mut() {
+            *first = 3;
+        }
+        Ok(())
     }
 }
 

@@ -1,12 +1,14 @@
 //! The command line, from words to settings.
 //!
 //! A line has words, with a comma between them, ` = `, and what they say: the command; whether preservation is on, the percentage, the
-//! interval and the time between evictions; the seed; the file of the journal; and of a server where it listens, and how much it serves.
+//! interval and the time between evictions; the seed; the file of the journal; and of a server what its options say, and how victims are drawn.
 use clap::ArgMatches;
 use clap::error::ErrorKind;
 use eu_base::{Config, Fault};
 use eu_fixtures::{Told, are_so, first_wrong};
-use eu_options::{command, config_of, journal_of, seed_of, serving_of};
+use eu_options::{
+    command, config_of, connections_within, drawing_of, journal_of, seed_of, serving_of,
+};
 use std::alloc::{AllocError, Global};
 
 fn tell_settings(out: &mut String, config: Config) -> Result<(), AllocError> {
@@ -28,7 +30,7 @@ fn tell_command(out: &mut String, name: &str, found: &ArgMatches<'_>) -> Result<
     }
     write!(out, " {:?} {:?}", seed_of(found), journal_of(found))?;
     match name {
-        "serve" => write!(out, " {:?}", serving_of(found)),
+        "serve" => write!(out, " {:?} {:?}", serving_of(found), drawing_of(found)),
         _ => Ok(()),
     }
 }
@@ -75,7 +77,8 @@ fn options_set_what_they_name(rt: HostRuntime) {
     assert_eq!(rt; first_wrong(rt.alloc(), &mut Options, SCRIPTS), None);
 }
 
-/// A server needs a port and a number of sessions, and has one to sixteen workers.
+/// A server needs a port and just one of a number of sessions and `--forever`; it has one to sixteen workers, 1 to 1,000,000 connections, and
+/// waits for 1 ms at least. A script's seed is a number.
 const REFUSED: &str = r#"eureka = refused
 eureka, listen = refused
 eureka, script, --percent, 101 = refused
@@ -83,10 +86,23 @@ eureka, script, --interval, 0 = refused
 eureka, script, --interval, 3601 = refused
 eureka, script, --preservation, maybe = refused
 eureka, script, --unknown, 1 = refused
+eureka, script, --forever = refused
+eureka, script, --seed, system = refused
+eureka, audit, --seed, system = refused
 eureka, serve, --sessions, 7 = refused
+eureka, serve, --forever = refused
 eureka, serve, --port, 8761 = refused
+eureka, serve, --port, 8761, --sessions, 7, --forever = refused
+eureka, serve, --port, 8761, --forever, 7 = refused
 eureka, serve, --port, 8761, --sessions, 7, --workers, 0 = refused
-eureka, serve, --port, 8761, --sessions, 7, --workers, 17 = refused"#;
+eureka, serve, --port, 8761, --sessions, 7, --workers, 17 = refused
+eureka, serve, --port, 8761, --sessions, 7, --connections, 0 = refused
+eureka, serve, --port, 8761, --sessions, 7, --connections, 1000001 = refused
+eureka, serve, --port, 8761, --sessions, 7, --idle-ms, 0 = refused
+eureka, serve, --port, 8761, --sessions, 7, --idle-ms, 4294967296 = refused
+eureka, serve, --port, 8761, --sessions, 7, --request-ms, 0 = refused
+eureka, serve, --port, 8761, --sessions, 7, --request-ms, 4294967296 = refused
+eureka, serve, --port, 8761, --sessions, 7, --bind = refused"#;
 
 #[test]
 fn other_words_are_refused(rt: HostRuntime) {
@@ -94,19 +110,62 @@ fn other_words_are_refused(rt: HostRuntime) {
 }
 
 const SERVERS: &str =
-    r#"eureka, serve, --port, 8761, --sessions, 7 = serve true 85 30 60000 None None Some(Serving { port: 8761, sessions: 7, workers: 2, expected: 1 })
-eureka, serve, --port, 0, --sessions, 0, --workers, 16, --expected, 500 = serve true 85 30 60000 None None Some(Serving { port: 0, sessions: 0, workers: 16, expected: 500 })
-eureka, serve, --journal=x, --port, 0, --sessions, 0 = serve true 85 30 60000 None Some("x") Some(Serving { port: 0, sessions: 0, workers: 2, expected: 1 })"#;
+    r#"eureka, serve, --port, 8761, --sessions, 7 = serve true 85 30 60000 None None Some(Serving { port: 8761, bind: 127.0.0.1, sessions: Some(7), workers: 2, expected: 1, connections: 10000, idle_ms: 90000, request_ms: 10000 }) Some(FirstOnes)
+eureka, serve, --port, 0, --sessions, 0, --workers, 16, --expected, 500 = serve true 85 30 60000 None None Some(Serving { port: 0, bind: 127.0.0.1, sessions: Some(0), workers: 16, expected: 500, connections: 10000, idle_ms: 90000, request_ms: 10000 }) Some(FirstOnes)
+eureka, serve, --journal=x, --port, 0, --sessions, 0 = serve true 85 30 60000 None Some("x") Some(Serving { port: 0, bind: 127.0.0.1, sessions: Some(0), workers: 2, expected: 1, connections: 10000, idle_ms: 90000, request_ms: 10000 }) Some(FirstOnes)
+eureka, serve, --port, 0, --forever = serve true 85 30 60000 None None Some(Serving { port: 0, bind: 127.0.0.1, sessions: None, workers: 2, expected: 1, connections: 10000, idle_ms: 90000, request_ms: 10000 }) Some(FirstOnes)
+eureka, serve, --port, 0, --sessions, 1, --bind, 10.0.0.7 = serve true 85 30 60000 None None Some(Serving { port: 0, bind: 10.0.0.7, sessions: Some(1), workers: 2, expected: 1, connections: 10000, idle_ms: 90000, request_ms: 10000 }) Some(FirstOnes)
+eureka, serve, --port, 0, --sessions, 1, --bind, 0.0.0.0 = serve true 85 30 60000 None None Some(Serving { port: 0, bind: 0.0.0.0, sessions: Some(1), workers: 2, expected: 1, connections: 10000, idle_ms: 90000, request_ms: 10000 }) Some(FirstOnes)
+eureka, serve, --port, 0, --sessions, 1, --bind, ::1 = serve true 85 30 60000 None None Some(Serving { port: 0, bind: ::1, sessions: Some(1), workers: 2, expected: 1, connections: 10000, idle_ms: 90000, request_ms: 10000 }) Some(FirstOnes)
+eureka, serve, --port, 0, --sessions, 1, --bind, :: = serve true 85 30 60000 None None Some(Serving { port: 0, bind: ::, sessions: Some(1), workers: 2, expected: 1, connections: 10000, idle_ms: 90000, request_ms: 10000 }) Some(FirstOnes)
+eureka, serve, --port, 0, --sessions, 1, --connections, 1, --idle-ms, 1, --request-ms, 1 = serve true 85 30 60000 None None Some(Serving { port: 0, bind: 127.0.0.1, sessions: Some(1), workers: 2, expected: 1, connections: 1, idle_ms: 1, request_ms: 1 }) Some(FirstOnes)
+eureka, serve, --port, 0, --sessions, 1, --connections, 1000000, --idle-ms, 4294967295, --request-ms, 4294967294 = serve true 85 30 60000 None None Some(Serving { port: 0, bind: 127.0.0.1, sessions: Some(1), workers: 2, expected: 1, connections: 1000000, idle_ms: 4294967295, request_ms: 4294967294 }) Some(FirstOnes)
+eureka, serve, --port, 0, --sessions, 1, --seed, 7 = serve true 85 30 60000 Some(7) None Some(Serving { port: 0, bind: 127.0.0.1, sessions: Some(1), workers: 2, expected: 1, connections: 10000, idle_ms: 90000, request_ms: 10000 }) Some(Seeded(7))
+eureka, serve, --port, 0, --sessions, 1, --seed, system = serve true 85 30 60000 None None Some(Serving { port: 0, bind: 127.0.0.1, sessions: Some(1), workers: 2, expected: 1, connections: 10000, idle_ms: 90000, request_ms: 10000 }) Some(FromSystem)"#;
 
 #[test]
 fn a_server_has_what_its_options_say(rt: HostRuntime) {
     assert_eq!(rt; first_wrong(rt.alloc(), &mut Options, SERVERS), None);
 }
 
+/// An address that is none, and a seed that is none.
+const WRONG: &str =
+    r#"eureka, serve, --port, 0, --sessions, 1, --bind, localhost = serve true 85 30 60000 None None None Some(FirstOnes)
+eureka, serve, --port, 0, --sessions, 1, --bind, 127.0.0.1:80 = serve true 85 30 60000 None None None Some(FirstOnes)
+eureka, serve, --port, 0, --sessions, 1, --bind, [::1] = serve true 85 30 60000 None None None Some(FirstOnes)
+eureka, serve, --port, 0, --sessions, 1, --bind, 127.0.0.256 = serve true 85 30 60000 None None None Some(FirstOnes)
+eureka, serve, --port, 0, --sessions, 1, --bind, 127.1 = serve true 85 30 60000 None None None Some(FirstOnes)
+eureka, serve, --port, 0, --sessions, 1, --bind, localhost, --seed, System = serve true 85 30 60000 None None None None
+eureka, serve, --port, 0, --sessions, 1, --bind, localhost, --seed, 18446744073709551616 = serve true 85 30 60000 None None None None"#;
+
+#[test]
+fn an_address_and_a_seed_are_judged(rt: HostRuntime) {
+    assert_eq!(rt; first_wrong(rt.alloc(), &mut Options, WRONG), None);
+}
+
+/// How many connections are wanted, how many descriptors there may be, and how many connections there are at most then.
+const WITHIN: [(u32, u64, u32); 7] = [
+    (10_000, 1_024, 960),
+    (960, 1_024, 960),
+    (959, 1_024, 959),
+    (10_000, 65, 1),
+    (10_000, 64, 1),
+    (10_000, 0, 1),
+    (1_000_000, u64::MAX, 1_000_000),
+];
+
+/// Each descriptor but 64 may be a connection's.
+#[test]
+fn connections_are_as_many_as_descriptors_allow(rt: HostRuntime) {
+    for (wanted, descriptors, most) in WITHIN {
+        assert_eq!(rt; connections_within(wanted, descriptors), most);
+    }
+}
+
 /// The line of a server, and what it says.
 const SERVER: (&str, &str) = (
     "eureka, serve, --port, 8761, --sessions, 7",
-    "serve true 85 30 60000 None None Some(Serving { port: 8761, sessions: 7, workers: 2, expected: 1 })",
+    "serve true 85 30 60000 None None Some(Serving { port: 8761, bind: 127.0.0.1, sessions: Some(7), workers: 2, expected: 1, connections: 10000, idle_ms: 90000, request_ms: 10000 }) Some(FirstOnes)",
 );
 
 /// What a line says, in room that was made for it before.

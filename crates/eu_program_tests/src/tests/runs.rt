@@ -34,6 +34,7 @@ fn broken_of(name: &str) -> Result<Broken, Fault> {
         "clock" => Ok(Broken::Clock),
         "output" => Ok(Broken::Output),
         "input" => Ok(Broken::Input),
+        "random" => Ok(Broken::Random),
         _ => Err(Fault::BadValue),
     }
 }
@@ -66,9 +67,24 @@ impl Setting {
 
 /// The port of the line that a server writes once it listens.
 fn port_of(told: &[u8]) -> Option<u16> {
-    let line = str::from_utf8(told).unwrap_or("");
-    let port = line.strip_prefix("listening on 127.0.0.1:").unwrap_or("");
-    port.strip_suffix("\n").unwrap_or("").parse::<u16>().ok()
+    for line in str::from_utf8(told).unwrap_or("").lines() {
+        if let Some(port) = line.strip_prefix("listening on 127.0.0.1:") {
+            return port.parse::<u16>().ok();
+        }
+    }
+    None
+}
+
+/// Whether a server tells nothing else than where it listens, a seed, and by which limit it has fewer connections than were asked for.
+fn tells_its_start(told: &[u8]) -> bool {
+    for line in str::from_utf8(told).unwrap_or("?").lines() {
+        let is_limit = line.starts_with("at most ")
+            && line.contains(": the limit of descriptors is ");
+        if !is_limit && !line.starts_with("listening on ") && !line.starts_with("seed ") {
+            return false;
+        }
+    }
+    port_of(told).is_some()
 }
 
 /// The address at which a machine's server tells to listen, once it does.
@@ -128,7 +144,7 @@ fn run<'a, R: Threads + Wait + Clock + Net<Listener = TcpListener, Stream = TcpS
     )
 }
 
-/// Whether a run with these words is as it is to be. Of a server with a client, standard error is told the port alone.
+/// Whether a run with these words is as it is to be. Of a server with a client, standard error is told its start alone.
 fn is_so<R: Threads + Wait + Clock + Net<Listener = TcpListener, Stream = TcpStream> + Sync>(
     rt: &R,
     alloc: Global,
@@ -140,7 +156,7 @@ fn is_so<R: Threads + Wait + Clock + Net<Listener = TcpListener, Stream = TcpStr
     let words: Vec<&str> = line.0.split(' ').collect(alloc)?;
     let told = Told::new(alloc);
     let (status, is_served) = run(rt, alloc, place, steps, setting, words.as_slice(), &told);
-    let is_alone = steps.is_empty() || port_of(&told.err.lock(rt)).is_some();
+    let is_alone = steps.is_empty() || tells_its_start(&told.err.lock(rt));
     let mut out = format!(in alloc; "{status}")?;
     tell(rt, &told.out, &mut out)?;
     tell(rt, &told.err, &mut out)?;
@@ -234,6 +250,15 @@ fn an_audit_goes_by_its_options(rt: HostRuntime) {
 const MISTAKES: &str =
     r#"eureka --help = 0 "A proved lease registry\n\nUsage: eureka <COMMAND>\n*" ""
 eureka script --interval 0 = 2 "" "error: invalid value '0' for '--interval <SECONDS>': *"
+eureka script --seed system = 2 "" "error: invalid value 'system' for '--seed <N>': *"
+eureka serve --sessions 0 = 2 "" "error: the following required arguments were not provided:\n  --port <N>\n*"
+eureka serve --port 0 = 2 "" "error: the following required arguments were not provided:\n  --sessions <N>\n*"
+eureka serve --port 0 --sessions 0 --forever = 2 "" "error: the argument '--sessions <N>' cannot be used with '--forever'\n*"
+eureka serve --port 0 --sessions 0 --bind localhost = 2 "" "error: invalid value 'localhost' for '--bind <ADDRESS>': not an IP address\n\nFor more information, try '--help'.\n"
+eureka serve --port 0 --sessions 0 --seed x = 2 "" "error: invalid value 'x' for '--seed <N|system>': neither a u64 nor `system`\n\nFor more information, try '--help'.\n"
+eureka serve --port 0 --sessions 0 --connections 0 = 2 "" "error: invalid value '0' for '--connections <N>': *"
+eureka serve --port 0 --sessions 0 --idle-ms 0 = 2 "" "error: invalid value '0' for '--idle-ms <MS>': *"
+eureka serve --port 0 --sessions 0 --request-ms 0 = 2 "" "error: invalid value '0' for '--request-ms <MS>': *"
 < open 1; counts x
 eureka audit = 2 "" "line 2: bad line\n"
 eureka script = 2 "opened\n" "line 2: bad line\n"
@@ -251,6 +276,10 @@ const FAULTS: &str = r#"broken accept
 eureka serve --port 0 --sessions 1 = 3 "" "listening on 127.0.0.1:*\nfault 40\n"
 broken clock
 eureka serve --port 0 --sessions 0 = 3 "" "listening on 127.0.0.1:*\nfault 40\n"
+eureka serve --port 0 --forever = 3 "" "listening on 127.0.0.1:*\nfault 40\n"
+broken random
+eureka serve --port 0 --sessions 0 --seed 3 = 0 "served 0\n" "listening on 127.0.0.1:*\n"
+eureka serve --port 0 --sessions 0 --seed system = 3 "" "the system draws no seed: *\nfault 40\n"
 broken output
 eureka serve --port 0 --sessions 0 = 3 "" "listening on 127.0.0.1:*\nfault 41\n"
 < open 1

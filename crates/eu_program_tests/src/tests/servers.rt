@@ -4,22 +4,31 @@ use crate::tests::files::{Place, holds_each};
 use crate::tests::runs::{first_wrong, plays};
 use eu_clock::FirstChooser;
 use eu_fixtures::settings;
-use eu_options::Serving;
-use eu_program::{listen, serve};
-use std::alloc::Global;
+use eu_options::{Serving, connections_within};
+use eu_program::serve;
+use libc::types::rlimit;
+use libc::{RLIMIT_NOFILE, getrlimit};
+use std::alloc::{AllocError, Global};
 use std::net::{IpAddr, Ipv4Addr, Net, TcpListener, TcpStream};
 use std::sync::{Mutex, Wait};
 use std::test::Fail;
 use std::thread::Threads;
 use std::time::Clock;
 
+/// This machine alone.
+const LOCALHOST: IpAddr = IpAddr::V4(Ipv4Addr::LOCALHOST);
+
 /// A server of no session, on that port.
 fn idle(port: u16) -> Serving {
     Serving {
         port,
-        sessions: 0,
+        bind: LOCALHOST,
+        sessions: Some(0),
         workers: 2,
         expected: 1,
+        connections: 100,
+        idle_ms: 90_000,
+        request_ms: 10_000,
     }
 }
 
@@ -34,14 +43,15 @@ fn a_server_of_no_session_ends_at_once(rt: HostRuntime) -> Result<(), Fail> {
     Ok(())
 }
 
+/// Servers at the address that they are given, and at that of the machine alone where they are given none.
+const BOUND: &str =
+    r#"eureka serve --port 0 --sessions 0 = 0 "served 0\n" "listening on 127.0.0.1:*\n"
+eureka serve --port 0 --sessions 0 --bind 127.0.0.2 = 0 "served 0\n" "listening on 127.0.0.2:*\n"
+eureka serve --port 0 --sessions 0 --bind 0.0.0.0 --seed system = 0 "served 0\n" "seed 3\nlistening on 0.0.0.0:*\n""#;
+
 #[test]
-fn a_server_listens_to_its_own_machine_alone(rt: HostRuntime) -> Result<(), Fail> {
-    let ip = match listen(&rt, 0) {
-        Some(listener) => Some(listener.local_addr()?.ip()),
-        None => None,
-    };
-    assert!(rt; ip == Some(IpAddr::V4(Ipv4Addr::LOCALHOST)));
-    Ok(())
+fn a_server_listens_at_its_address(rt: HostRuntime) {
+    assert_eq!(rt; plays(&rt, rt.alloc(), BOUND, &[]), None);
 }
 
 /// A look at the status page, and the page where nothing is held.
@@ -114,6 +124,83 @@ fn first_wrong_server<
     None
 }
 
+/// A client that is silent is awaited for no longer than that.
+const SILENT: [Step; 3] = [Step::Connect, Step::Read(0, ""), Step::Within(5_000)];
+
+/// A client whose request isn't whole is awaited for no longer than that.
+const SLOW: [Step; 4] = [
+    Step::Connect,
+    Step::Send(0, "GET /eureka"),
+    Step::Read(0, "HTTP/1.1 408 *"),
+    Step::Within(5_000),
+];
+
+/// A client that comes while as many are there as may be is told so.
+const CROWDED: [Step; 5] = [
+    Step::Connect,
+    Step::Connect,
+    Step::Read(1, "HTTP/1.1 503 *"),
+    Step::Send(0, LOOK),
+    Step::Read(0, "HTTP/1.1 200 *"),
+];
+
+/// Servers that keep the limits of their connections that they are given.
+const LIMITED: [Served; 3] = [
+    (
+        r#"eureka serve --port 0 --sessions 1 --idle-ms 200 = 0 "served 1\n" "listening on 127.0.0.1:*\n""#,
+        &SILENT,
+    ),
+    (
+        r#"eureka serve --port 0 --sessions 1 --request-ms 200 = 0 "served 1\n" "listening on 127.0.0.1:*\n""#,
+        &SLOW,
+    ),
+    (
+        r#"eureka serve --port 0 --sessions 1 --connections 1 = 0 "served 1\n" "listening on 127.0.0.1:*\n""#,
+        &CROWDED,
+    ),
+];
+
+#[test]
+fn a_server_keeps_the_limits_of_its_options(rt: HostRuntime) {
+    assert_eq!(rt;
+        first_wrong_server(&rt, rt.alloc(), LIMITED.as_slice()),
+        None
+    );
+}
+
+/// What a server tells that is asked for a million connections, where the process may have so many descriptors.
+fn told_of_a_million(alloc: Global, descriptors: u64) -> Result<String, AllocError> {
+    let most = connections_within(1_000_000, descriptors);
+    if most == 1_000_000 {
+        return Ok(String::new(alloc));
+    }
+    format!(in alloc; "at most {most} connections: the limit of descriptors is {descriptors}\\n")
+}
+
+/// Whether a server tells that it has fewer connections than it was asked for, where it has.
+fn is_limit_told<
+    R: Threads + Wait + Clock + Net<Listener = TcpListener, Stream = TcpStream> + Sync,
+>(rt: &R, alloc: Global) -> Result<bool, AllocError> {
+    let mut limit = rlimit {
+        rlim_cur: 0,
+        rlim_max: 0,
+    };
+    if getrlimit(RLIMIT_NOFILE, &mut limit) != 0 {
+        return Ok(true);
+    }
+    let told = told_of_a_million(alloc, limit.rlim_cur)?;
+    let line = format!(in alloc;
+        "eureka serve --port 0 --sessions 0 --connections 1000000 = 0 \"served 0\\n\" \"listening on 127.0.0.1:*\\n{told}\""
+    )?;
+    Ok(plays(rt, alloc, &line, &[]).is_none())
+}
+
+#[test]
+fn fewer_connections_than_were_asked_for_are_told(rt: HostRuntime) -> Result<(), Fail> {
+    assert!(rt; is_limit_told(&rt, rt.alloc())?);
+    Ok(())
+}
+
 /// Servers that have the settings that they are given, that serve two clients at once, and that have one worker alone.
 const SERVED: [Served; 3] = [
     (
@@ -176,10 +263,15 @@ const FIRST: [Step; 11] = [
     Step::Read(0, TWO_LEFT),
 ];
 
-/// Servers of seven sessions, three at once, which evict after four seconds: by the words of the seed 3, and without a seed.
-const EVICTING: [Served; 2] = [
+/// Servers of seven sessions, three at once, which evict after four seconds: by the words of the seed 3, of the same one from the system, and without
+/// a seed.
+const EVICTING: [Served; 3] = [
     (
         r#"eureka serve --port 0 --sessions 7 --workers 3 --expected 7 --preservation off --percent 50 --interval 20 --evict-ms 4000 --seed 3 = 0 "served 7\n" "listening on 127.0.0.1:*\n""#,
+        &SEEDED,
+    ),
+    (
+        r#"eureka serve --port 0 --sessions 7 --workers 3 --expected 7 --preservation off --percent 50 --interval 20 --evict-ms 4000 --seed system = 0 "served 7\n" "seed 3\nlistening on 127.0.0.1:*\n""#,
         &SEEDED,
     ),
     (

@@ -1,23 +1,51 @@
--- Where an option has no number, no server is what the options give
-use Rattle.std.proofs.Common.{rules, arith}
+-- Where an option isn't as it is to be, no server is what the options give
+use Rattle.std.proofs.Common.{rules, arith, ℕ, ◌<◌, Option, None, Some, IfSome}
+use Rattle.clap.specs.declared.parser.matches.ArgMatches.{ArgMatches}
+use Rattle.eu_options.specs.Options.{IsEnd}
 use Rattle.eu_options.proofs.options.serving_of.Goals as goal
 
 pub returns-in_err-port-clause-none : goal.returns-in_err-port-clause-none
-returns-in_err-port-clause-none c = λ s small _ _ h.
+returns-in_err-port-clause-none c = λ s small _ _ _ _ h.
     let found = c.port_of.ensures.none s.port small h.0 in
     search (rules, found)
 
+pub returns-in_err-bind-clause-none : goal.returns-in_err-bind-clause-none
+returns-in_err-bind-clause-none c = λ s _ _ _ _ _ h.
+    let found = c.bind_of.ensures.none s.bind h.1 in
+    search (rules, found)
+
+-- what follows from an end by no number, and from each number, follows from each end
+of_end : (m : ArgMatches) → (P : Type 0) → (IsEnd m None → P) → ((n : ℕ) → n < 4294967296 → IsEnd m (Some n) → P)
+    → (end : Option ℕ) → IfSome end (λ n. n < 4294967296) → IsEnd m end → P
+of_end m P forever counted None _ h = forever h
+of_end m P forever counted (Some n) small h = counted n small h
+
 pub returns-in_err-sessions-clause-none : goal.returns-in_err-sessions-clause-none
-returns-in_err-sessions-clause-none c = λ s _ small _ h.
-    let found = c.number.ensures.none s.sessions small h.1 in
+returns-in_err-sessions-clause-none c = λ s _ small _ _ _ h.
+    let found = of_end c.args.matches.now _ c.end_of.ensures.forever c.end_of.ensures.counted s.sessions small h.2 in
     search (rules, found)
 
 pub returns-in_err-workers-clause-none : goal.returns-in_err-workers-clause-none
-returns-in_err-workers-clause-none c = λ s _ _ _ h.
-    let found = c.number-2.ensures.none s.workers (omega (arith, s.workers_bound.1)) h.2 in
+returns-in_err-workers-clause-none c = λ s _ _ _ _ _ h.
+    let found = c.number_within.ensures.none s.workers s.workers_bound.0 s.workers_bound.1 h.3 in
     search (rules, found)
 
 pub returns-in_err-expected-clause-none : goal.returns-in_err-expected-clause-none
-returns-in_err-expected-clause-none c = λ s _ _ small h.
-    let found = c.number-3.ensures.none s.expected small h.3 in
+returns-in_err-expected-clause-none c = λ s _ _ small _ _ h.
+    let found = c.number.ensures.none s.expected small h.4 in
+    search (rules, found)
+
+pub returns-in_err-connections-clause-none : goal.returns-in_err-connections-clause-none
+returns-in_err-connections-clause-none c = λ s _ _ _ _ _ h.
+    let found = c.number_within-2.ensures.none s.connections s.connections_bound.0 s.connections_bound.1 h.5 in
+    search (rules, found)
+
+pub returns-in_err-idle_ms-clause-none : goal.returns-in_err-idle_ms-clause-none
+returns-in_err-idle_ms-clause-none c = λ s _ _ _ small _ h.
+    let found = c.number_within-3.ensures.none s.idle_ms s.idle_bound (omega (arith, small)) h.6 in
+    search (rules, found)
+
+pub returns-in_err-request_ms-clause-none : goal.returns-in_err-request_ms-clause-none
+returns-in_err-request_ms-clause-none c = λ s _ _ _ _ small h.
+    let found = c.number_within-4.ensures.none s.request_ms s.request_bound (omega (arith, small)) h.7 in
     search (rules, found)

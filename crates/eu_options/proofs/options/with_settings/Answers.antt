@@ -19,8 +19,7 @@ returns-clause-app c =
     let first = c.in_ok-arg.ensures.shape (rw c.help-preservation.ensures c.option.ensures.local) ∙ ap₂ with_rule refl preservation in
     let second = c.in_ok-arg-2.ensures.shape (rw c.help-percent.ensures c.option-2.ensures.local) ∙ ap₂ with_rule first percent in
     let third = c.in_ok-arg-3.ensures.shape (rw c.help-interval.ensures c.option-3.ensures.local) ∙ ap₂ with_rule second interval in
-    let fourth = c.in_ok-arg-4.ensures.shape (rw c.help-evict_ms.ensures c.option-4.ensures.local) ∙ ap₂ with_rule third evict_ms in
-    IfOk-weaker c.arg-5.result _ _ (λ _ h. (switch, words, h.shape c.seed_option.ensures.local ∙ ap₂ with_rule fourth c.seed_option.ensures.rule)) c.arg-5.ensures
+    IfOk-weaker c.arg-4.result _ _ (λ _ h. (switch, words, h.shape (rw c.help-evict_ms.ensures c.option-4.ensures.local) ∙ ap₂ with_rule third evict_ms)) c.arg-4.ensures
 
 pub returns-clause-local : goal.returns-clause-local
 returns-clause-local c = λ none.
@@ -31,5 +30,4 @@ returns-clause-local c = λ none.
     let first = c.in_ok-arg.ensures.globals ∙ ap₂ (λ a b. a || b) none preservation in
     let second = c.in_ok-arg-2.ensures.globals ∙ ap₂ (λ a b. a || b) first percent in
     let third = c.in_ok-arg-3.ensures.globals ∙ ap₂ (λ a b. a || b) second interval in
-    let fourth = c.in_ok-arg-4.ensures.globals ∙ ap₂ (λ a b. a || b) third evict_ms in
-    IfOk-weaker c.arg-5.result _ _ (λ _ h. h.globals ∙ ap₂ (λ a b. a || b) fourth c.seed_option.ensures.local) c.arg-5.ensures
+    IfOk-weaker c.arg-4.result _ _ (λ _ h. h.globals ∙ ap₂ (λ a b. a || b) third evict_ms) c.arg-4.ensures

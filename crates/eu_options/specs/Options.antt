@@ -71,6 +71,10 @@ sessions_rule =
 abbrev pub forever_rule : Rule
 forever_rule = record (new_rule (codes "forever")) { long = Some (codes "forever"); action = Some SetTrue }
 
+-- the option `--until-input-ends`, which has no value
+abbrev pub until_rule : Rule
+until_rule = record (new_rule (codes "until-input-ends")) { long = Some (codes "until-input-ends"); action = Some SetTrue }
+
 -- a command with the two options more that say where a server listens: a port of 16 bits, which has to be given, and an address
 abbrev pub with_address : App → App
 with_address app =
@@ -78,13 +82,14 @@ with_address app =
     (needed_rule (codes "port") (Signed (pos 0) (pos 65535))))
     bind_rule
 
--- a command with the four options more that say how much a server serves: a number of sessions, or no end by it, 1 to 16 workers, and a number
--- expected
+-- a command with the five options more that say how much a server serves: a number of sessions, or no end by it, an end by its input, 1 to 16 workers, and a
+-- number expected
 abbrev pub with_work : App → App
 with_work app =
-    with_rule (with_rule (with_rule (with_rule app
+    with_rule (with_rule (with_rule (with_rule (with_rule app
     sessions_rule)
     forever_rule)
+    until_rule)
     (option_rule (codes "workers") (Signed (pos 1) (pos 16)) (codes "2")))
     (option_rule (codes "expected") (Signed (pos 0) (pos 4294967295)) (codes "1"))
 
@@ -96,7 +101,7 @@ with_limits app =
     (option_rule (codes "idle-ms") (Signed (pos 1) (pos 4294967295)) (codes "90000")))
     (option_rule (codes "request-ms") (Signed (pos 1) (pos 4294967295)) (codes "10000"))
 
--- a command with the fourteen options of a server more
+-- a command with the fifteen options of a server more
 abbrev pub with_server_options : App → ValueParser → App
 with_server_options app switch =
     with_limits (with_work (with_address (with_rule (with_settings app switch) drawing_rule)))
@@ -164,3 +169,4 @@ IsServing m s =
     × IsEnd m s.sessions × IsNumber m (codes "workers") s.workers
     × IsNumber m (codes "expected") s.expected × IsNumber m (codes "connections") s.connections
     × IsNumber m (codes "idle-ms") s.idle_ms × IsNumber m (codes "request-ms") s.request_ms
+    × IsFlag m (codes "until-input-ends") s.until_input_ends

@@ -1,12 +1,12 @@
 //! The options of the command line, and what their values say.
-ghost use Rattle.std.specs.Prelude.{ℕ, [], ◌∷◌, ◌≡◌, ◌≤◌, ◌<◌, ◌^◌, false, codes, map, option_map, None, Some, IfOk, IfSome, IsSome};
+ghost use Rattle.std.specs.Prelude.{ℕ, Bool, [], ◌∷◌, ◌≡◌, ◌≤◌, ◌<◌, ◌^◌, false, codes, map, option_map, None, Some, IfOk, IfSome, IsSome};
 ghost use Rattle.clap.specs.Words.{rule_of, app_of, new_app, first_value, found_of};
 ghost use Rattle.clap.specs.declared.builder.command.Command.TheViews.{out-Command};
 ghost use Rattle.std.specs.declared.net.ip_addr.IpAddr.{IpAddr};
 ghost use Rattle.eu_options.specs.declared.serving.Drawing.{Drawing};
 ghost use Rattle.eu_options.specs.declared.serving.Drawing.TheVariants.{FirstOnes, Seeded, FromSystem};
 ghost use Rattle.eu_options.specs.declared.serving.Serving.{Serving};
-ghost use Rattle.eu_options.specs.Options.{option_rule, needed_rule, bind_rule, drawing_rule, forever_rule, sessions_rule, with_journal, with_address, with_limits, with_options, with_server_options, with_settings, with_work, seed_rule, program_app, IsSwitchParser, IsAddress, IsConfig, IsDrawing, IsEnd, IsNumber, IsServing};
+ghost use Rattle.eu_options.specs.Options.{option_rule, needed_rule, bind_rule, drawing_rule, forever_rule, until_rule, sessions_rule, with_journal, with_address, with_limits, with_options, with_server_options, with_settings, with_work, seed_rule, program_app, IsSwitchParser, IsAddress, IsConfig, IsDrawing, IsEnd, IsFlag, IsNumber, IsServing};
 
 use crate::serving::{Drawing, Serving};
 use clap::builder::ValueParser;
@@ -165,6 +165,17 @@ fn forever_option<'a>(alloc: Global) -> Arg<'a>
         .help("Serves without an end by a number of connections")
 }
 
+/// The option `--until-input-ends`.
+fn until_option<'a>(alloc: Global) -> Arg<'a>
+    ensures rule { rule_of result ≡ until_rule }
+    ensures local { result.global ≡ false }
+{
+    Arg::new(alloc, "until-input-ends")
+        .long("until-input-ends")
+        .action(ArgAction::SetTrue)
+        .help("Ends at the end of standard input, too, which has to be a pipe or a socket")
+}
+
 /// The options that say where a server listens.
 fn with_address<'a>(alloc: Global, command: Command<'a>) -> Result<Command<'a>, AllocError>
     ensures app { IfOk result (λ c. app_of c ≡ with_address (app_of command.entry)) }
@@ -183,8 +194,9 @@ fn with_work<'a>(alloc: Global, command: Command<'a>) -> Result<Command<'a>, All
 {
     let sessions = sessions_option(alloc)?;
     let forever = forever_option(alloc);
+    let until = until_option(alloc);
     let workers = option(alloc, "workers", "N", value_parser!(u32).range(1..=16), "2").help(
-        "How many connections are served at once",
+        "How many threads serve the connections",
     );
     let expected = option(alloc, "expected", "N", value_parser!(u32), "1").help(
         "How many clients are expected at first",
@@ -192,6 +204,7 @@ fn with_work<'a>(alloc: Global, command: Command<'a>) -> Result<Command<'a>, All
     command
         .arg(sessions)?
         .arg(forever)?
+        .arg(until)?
         .arg(workers)?
         .arg(expected)
 }
@@ -403,6 +416,15 @@ pub fn drawing_of(matches: &ArgMatches<'_>) -> Option<Drawing>
     Some(Drawing::Seeded(seed))
 }
 
+/// Whether a server ends with its input, as the options say. None where they don't say it.
+fn until_of(matches: &ArgMatches<'_>) -> Option<bool>
+    ensures some { IfSome result (IsFlag matches.now (codes "until-input-ends")) }
+    ensures none { (b : Bool) → IsFlag matches.now (codes "until-input-ends") b → IsSome result }
+{
+    let text = matches.get_str("until-input-ends")?;
+    Some(text == "true")
+}
+
 /// What the options of a server say. None where the text of `--bind` is no IP address; or where one is missing or out of its range, which the
 /// command line rules out.
 pub fn serving_of(matches: &ArgMatches<'_>) -> Option<Serving>
@@ -417,6 +439,7 @@ pub fn serving_of(matches: &ArgMatches<'_>) -> Option<Serving>
     let connections = number_within(matches, "connections", 1, MOST_CONNECTIONS)?;
     let idle_ms = number_within(matches, "idle-ms", 1, u32::MAX)?;
     let request_ms = number_within(matches, "request-ms", 1, u32::MAX)?;
+    let until_input_ends = until_of(matches)?;
     Some(Serving {
         port,
         bind,
@@ -426,5 +449,6 @@ pub fn serving_of(matches: &ArgMatches<'_>) -> Option<Serving>
         connections,
         idle_ms,
         request_ms,
+        until_input_ends,
     })
 }

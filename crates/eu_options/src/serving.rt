@@ -22,6 +22,8 @@ pub struct Serving {
     pub idle_ms: u32,
     /// The milliseconds that a request may take, from its first byte to its last.
     pub request_ms: u32,
+    /// Whether it ends at the end of its input, too.
+    pub until_input_ends: bool,
     ghost workers_bound: { (1 ≤ workers) × (workers ≤ 16) },
     ghost connections_bound: { (1 ≤ connections) × (connections ≤ 1000000) },
     ghost idle_bound: { 1 ≤ idle_ms },

@@ -1,5 +1,5 @@
 //! A server at the address that the options name.
-ghost use Rattle.std.specs.Prelude.{◌≡◌, ◌≢◌, ◌≤◌, ◌⊎◌, OnOk};
+ghost use Rattle.std.specs.Prelude.{◌≡◌, ◌≢◌, ◌≤◌, ◌⊎◌, Some, None, pos, if◌then◌else◌, OnOk};
 ghost use Rattle.eu_accept.specs.Limits.{server_limits};
 ghost use Rattle.eu_program.specs.Plans.{end_planned};
 
@@ -14,10 +14,14 @@ use libc::types::rlimit;
 use libc::{RLIMIT_NOFILE, getrlimit};
 use std::io;
 use std::net::{IpAddr, Net, SocketAddr, TcpListener, TcpStream};
+use std::os::fd::RawFd;
 use std::rt::Files;
 use std::sync::Wait;
 use std::thread::Threads;
 use std::time::Clock;
+
+/// The descriptor of standard input.
+const STANDARD_INPUT: RawFd = 0;
 
 /// Listens on that port of that address, and tells on standard error on which, or why that failed.
 pub fn listen<R: Net<Listener = TcpListener, Stream = TcpStream> + Eprint>(
@@ -68,6 +72,13 @@ fn most_connections(rt: &impl Eprint, wanted: u32) -> u32
     most
 }
 
+/// The descriptor of standard input, if a server is to end with it.
+fn input_of(until_input_ends: bool) -> Option<RawFd>
+    ensures { result ≡ (if until_input_ends then Some (pos 0) else None) }
+{
+    until_input_ends.then_some(STANDARD_INPUT)
+}
+
 /// What a server does that has these settings, serves so much as the options say, and has so many connections at most.
 fn plan_of(config: Config, serving: Serving, connections: u32) -> Plan
     ensures settings { result.config ≡ config }
@@ -78,6 +89,7 @@ fn plan_of(config: Config, serving: Serving, connections: u32) -> Plan
     ensures connections { result.limits.connections ≡ connections }
     ensures idle { result.limits.patience.idle ≡ serving.idle_ms }
     ensures request { result.limits.patience.request ≡ serving.request_ms }
+    ensures input { result.input ≡ (if serving.until_input_ends then Some (pos 0) else None) }
     ensures limits { result.limits ≡ record server_limits { connections = connections; patience = record server_limits.patience { idle = serving.idle_ms; request = serving.request_ms } } }
 {
     let sessions = match serving.sessions {
@@ -88,6 +100,7 @@ fn plan_of(config: Config, serving: Serving, connections: u32) -> Plan
     plan.limits.connections = connections as usize;
     plan.limits.patience.idle = serving.idle_ms;
     plan.limits.patience.request = serving.request_ms;
+    plan.input = input_of(serving.until_input_ends);
     plan
 }
 

@@ -94,6 +94,9 @@ eureka, serve, --forever = refused
 eureka, serve, --port, 8761 = refused
 eureka, serve, --port, 8761, --sessions, 7, --forever = refused
 eureka, serve, --port, 8761, --forever, 7 = refused
+eureka, serve, --port, 8761, --until-input-ends = refused
+eureka, serve, --port, 8761, --forever, --until-input-ends, 7 = refused
+eureka, script, --until-input-ends = refused
 eureka, serve, --port, 8761, --sessions, 7, --workers, 0 = refused
 eureka, serve, --port, 8761, --sessions, 7, --workers, 17 = refused
 eureka, serve, --port, 8761, --sessions, 7, --connections, 0 = refused
@@ -110,18 +113,19 @@ fn other_words_are_refused(rt: HostRuntime) {
 }
 
 const SERVERS: &str =
-    r#"eureka, serve, --port, 8761, --sessions, 7 = serve true 85 30 60000 None None Some(Serving { port: 8761, bind: 127.0.0.1, sessions: Some(7), workers: 2, expected: 1, connections: 10000, idle_ms: 90000, request_ms: 10000 }) Some(FirstOnes)
-eureka, serve, --port, 0, --sessions, 0, --workers, 16, --expected, 500 = serve true 85 30 60000 None None Some(Serving { port: 0, bind: 127.0.0.1, sessions: Some(0), workers: 16, expected: 500, connections: 10000, idle_ms: 90000, request_ms: 10000 }) Some(FirstOnes)
-eureka, serve, --journal=x, --port, 0, --sessions, 0 = serve true 85 30 60000 None Some("x") Some(Serving { port: 0, bind: 127.0.0.1, sessions: Some(0), workers: 2, expected: 1, connections: 10000, idle_ms: 90000, request_ms: 10000 }) Some(FirstOnes)
-eureka, serve, --port, 0, --forever = serve true 85 30 60000 None None Some(Serving { port: 0, bind: 127.0.0.1, sessions: None, workers: 2, expected: 1, connections: 10000, idle_ms: 90000, request_ms: 10000 }) Some(FirstOnes)
-eureka, serve, --port, 0, --sessions, 1, --bind, 10.0.0.7 = serve true 85 30 60000 None None Some(Serving { port: 0, bind: 10.0.0.7, sessions: Some(1), workers: 2, expected: 1, connections: 10000, idle_ms: 90000, request_ms: 10000 }) Some(FirstOnes)
-eureka, serve, --port, 0, --sessions, 1, --bind, 0.0.0.0 = serve true 85 30 60000 None None Some(Serving { port: 0, bind: 0.0.0.0, sessions: Some(1), workers: 2, expected: 1, connections: 10000, idle_ms: 90000, request_ms: 10000 }) Some(FirstOnes)
-eureka, serve, --port, 0, --sessions, 1, --bind, ::1 = serve true 85 30 60000 None None Some(Serving { port: 0, bind: ::1, sessions: Some(1), workers: 2, expected: 1, connections: 10000, idle_ms: 90000, request_ms: 10000 }) Some(FirstOnes)
-eureka, serve, --port, 0, --sessions, 1, --bind, :: = serve true 85 30 60000 None None Some(Serving { port: 0, bind: ::, sessions: Some(1), workers: 2, expected: 1, connections: 10000, idle_ms: 90000, request_ms: 10000 }) Some(FirstOnes)
-eureka, serve, --port, 0, --sessions, 1, --connections, 1, --idle-ms, 1, --request-ms, 1 = serve true 85 30 60000 None None Some(Serving { port: 0, bind: 127.0.0.1, sessions: Some(1), workers: 2, expected: 1, connections: 1, idle_ms: 1, request_ms: 1 }) Some(FirstOnes)
-eureka, serve, --port, 0, --sessions, 1, --connections, 1000000, --idle-ms, 4294967295, --request-ms, 4294967294 = serve true 85 30 60000 None None Some(Serving { port: 0, bind: 127.0.0.1, sessions: Some(1), workers: 2, expected: 1, connections: 1000000, idle_ms: 4294967295, request_ms: 4294967294 }) Some(FirstOnes)
-eureka, serve, --port, 0, --sessions, 1, --seed, 7 = serve true 85 30 60000 Some(7) None Some(Serving { port: 0, bind: 127.0.0.1, sessions: Some(1), workers: 2, expected: 1, connections: 10000, idle_ms: 90000, request_ms: 10000 }) Some(Seeded(7))
-eureka, serve, --port, 0, --sessions, 1, --seed, system = serve true 85 30 60000 None None Some(Serving { port: 0, bind: 127.0.0.1, sessions: Some(1), workers: 2, expected: 1, connections: 10000, idle_ms: 90000, request_ms: 10000 }) Some(FromSystem)"#;
+    r#"eureka, serve, --port, 8761, --sessions, 7 = serve true 85 30 60000 None None Some(Serving { port: 8761, bind: 127.0.0.1, sessions: Some(7), workers: 2, expected: 1, connections: 10000, idle_ms: 90000, request_ms: 10000, until_input_ends: false }) Some(FirstOnes)
+eureka, serve, --port, 0, --sessions, 0, --workers, 16, --expected, 500 = serve true 85 30 60000 None None Some(Serving { port: 0, bind: 127.0.0.1, sessions: Some(0), workers: 16, expected: 500, connections: 10000, idle_ms: 90000, request_ms: 10000, until_input_ends: false }) Some(FirstOnes)
+eureka, serve, --journal=x, --port, 0, --sessions, 0 = serve true 85 30 60000 None Some("x") Some(Serving { port: 0, bind: 127.0.0.1, sessions: Some(0), workers: 2, expected: 1, connections: 10000, idle_ms: 90000, request_ms: 10000, until_input_ends: false }) Some(FirstOnes)
+eureka, serve, --port, 0, --forever = serve true 85 30 60000 None None Some(Serving { port: 0, bind: 127.0.0.1, sessions: None, workers: 2, expected: 1, connections: 10000, idle_ms: 90000, request_ms: 10000, until_input_ends: false }) Some(FirstOnes)
+eureka, serve, --port, 0, --forever, --until-input-ends = serve true 85 30 60000 None None Some(Serving { port: 0, bind: 127.0.0.1, sessions: None, workers: 2, expected: 1, connections: 10000, idle_ms: 90000, request_ms: 10000, until_input_ends: true }) Some(FirstOnes)
+eureka, serve, --port, 0, --sessions, 1, --bind, 10.0.0.7 = serve true 85 30 60000 None None Some(Serving { port: 0, bind: 10.0.0.7, sessions: Some(1), workers: 2, expected: 1, connections: 10000, idle_ms: 90000, request_ms: 10000, until_input_ends: false }) Some(FirstOnes)
+eureka, serve, --port, 0, --sessions, 1, --bind, 0.0.0.0 = serve true 85 30 60000 None None Some(Serving { port: 0, bind: 0.0.0.0, sessions: Some(1), workers: 2, expected: 1, connections: 10000, idle_ms: 90000, request_ms: 10000, until_input_ends: false }) Some(FirstOnes)
+eureka, serve, --port, 0, --sessions, 1, --bind, ::1 = serve true 85 30 60000 None None Some(Serving { port: 0, bind: ::1, sessions: Some(1), workers: 2, expected: 1, connections: 10000, idle_ms: 90000, request_ms: 10000, until_input_ends: false }) Some(FirstOnes)
+eureka, serve, --port, 0, --sessions, 1, --bind, :: = serve true 85 30 60000 None None Some(Serving { port: 0, bind: ::, sessions: Some(1), workers: 2, expected: 1, connections: 10000, idle_ms: 90000, request_ms: 10000, until_input_ends: false }) Some(FirstOnes)
+eureka, serve, --port, 0, --sessions, 1, --connections, 1, --idle-ms, 1, --request-ms, 1 = serve true 85 30 60000 None None Some(Serving { port: 0, bind: 127.0.0.1, sessions: Some(1), workers: 2, expected: 1, connections: 1, idle_ms: 1, request_ms: 1, until_input_ends: false }) Some(FirstOnes)
+eureka, serve, --port, 0, --sessions, 1, --connections, 1000000, --idle-ms, 4294967295, --request-ms, 4294967294 = serve true 85 30 60000 None None Some(Serving { port: 0, bind: 127.0.0.1, sessions: Some(1), workers: 2, expected: 1, connections: 1000000, idle_ms: 4294967295, request_ms: 4294967294, until_input_ends: false }) Some(FirstOnes)
+eureka, serve, --port, 0, --sessions, 1, --seed, 7 = serve true 85 30 60000 Some(7) None Some(Serving { port: 0, bind: 127.0.0.1, sessions: Some(1), workers: 2, expected: 1, connections: 10000, idle_ms: 90000, request_ms: 10000, until_input_ends: false }) Some(Seeded(7))
+eureka, serve, --port, 0, --sessions, 1, --seed, system = serve true 85 30 60000 None None Some(Serving { port: 0, bind: 127.0.0.1, sessions: Some(1), workers: 2, expected: 1, connections: 10000, idle_ms: 90000, request_ms: 10000, until_input_ends: false }) Some(FromSystem)"#;
 
 #[test]
 fn a_server_has_what_its_options_say(rt: HostRuntime) {
@@ -165,7 +169,7 @@ fn connections_are_as_many_as_descriptors_allow(rt: HostRuntime) {
 /// The line of a server, and what it says.
 const SERVER: (&str, &str) = (
     "eureka, serve, --port, 8761, --sessions, 7",
-    "serve true 85 30 60000 None None Some(Serving { port: 8761, bind: 127.0.0.1, sessions: Some(7), workers: 2, expected: 1, connections: 10000, idle_ms: 90000, request_ms: 10000 }) Some(FirstOnes)",
+    "serve true 85 30 60000 None None Some(Serving { port: 8761, bind: 127.0.0.1, sessions: Some(7), workers: 2, expected: 1, connections: 10000, idle_ms: 90000, request_ms: 10000, until_input_ends: false }) Some(FirstOnes)",
 );
 
 /// What a line says, in room that was made for it before.

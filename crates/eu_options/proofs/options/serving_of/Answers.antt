@@ -49,3 +49,8 @@ pub returns-in_err-request_ms-clause-none : goal.returns-in_err-request_ms-claus
 returns-in_err-request_ms-clause-none c = λ s _ _ _ _ small h.
     let found = c.number_within-4.ensures.none s.request_ms s.request_bound (omega (arith, small)) h.7 in
     search (rules, found)
+
+pub returns-in_err-until_input_ends-clause-none : goal.returns-in_err-until_input_ends-clause-none
+returns-in_err-until_input_ends-clause-none c = λ s _ _ _ _ _ h.
+    let found = c.until_of.ensures.none s.until_input_ends h.8 in
+    search (rules, found)

@@ -13,8 +13,9 @@ returns-clause-app c =
     let expected : rule_of c.help-expected.result ≡ option_rule (codes "expected") (Signed (pos 0) (pos 4294967295)) (codes "1") = rw (c.help-expected.ensures, ← c.value_parser-2.ensures) c.option-2.ensures.rule in
     let first = c.in_ok-arg.ensures.shape c.in_ok-sessions.ensures.local ∙ ap₂ with_rule refl c.in_ok-sessions.ensures.rule in
     let second = c.in_ok-arg-2.ensures.shape c.forever_option-forever.ensures.local ∙ ap₂ with_rule first c.forever_option-forever.ensures.rule in
-    let third = c.in_ok-arg-3.ensures.shape (rw c.help-workers.ensures c.option.ensures.local) ∙ ap₂ with_rule second workers in
-    IfOk-weaker c.arg-4.result _ _ (λ _ h. h.shape (rw c.help-expected.ensures c.option-2.ensures.local) ∙ ap₂ with_rule third expected) c.arg-4.ensures
+    let third = c.in_ok-arg-3.ensures.shape c.until_option-until.ensures.local ∙ ap₂ with_rule second c.until_option-until.ensures.rule in
+    let fourth = c.in_ok-arg-4.ensures.shape (rw c.help-workers.ensures c.option.ensures.local) ∙ ap₂ with_rule third workers in
+    IfOk-weaker c.arg-5.result _ _ (λ _ h. h.shape (rw c.help-expected.ensures c.option-2.ensures.local) ∙ ap₂ with_rule fourth expected) c.arg-5.ensures
 
 pub returns-clause-local : goal.returns-clause-local
 returns-clause-local c = λ none.
@@ -22,5 +23,6 @@ returns-clause-local c = λ none.
     let expected : c.help-expected.result.global ≡ false = rw c.help-expected.ensures c.option-2.ensures.local in
     let first = c.in_ok-arg.ensures.globals ∙ ap₂ (λ a b. a || b) none c.in_ok-sessions.ensures.local in
     let second = c.in_ok-arg-2.ensures.globals ∙ ap₂ (λ a b. a || b) first c.forever_option-forever.ensures.local in
-    let third = c.in_ok-arg-3.ensures.globals ∙ ap₂ (λ a b. a || b) second workers in
-    IfOk-weaker c.arg-4.result _ _ (λ _ h. h.globals ∙ ap₂ (λ a b. a || b) third expected) c.arg-4.ensures
+    let third = c.in_ok-arg-3.ensures.globals ∙ ap₂ (λ a b. a || b) second c.until_option-until.ensures.local in
+    let fourth = c.in_ok-arg-4.ensures.globals ∙ ap₂ (λ a b. a || b) third workers in
+    IfOk-weaker c.arg-5.result _ _ (λ _ h. h.globals ∙ ap₂ (λ a b. a || b) fourth expected) c.arg-5.ensures

@@ -61,7 +61,7 @@ def request():
     parts = []
     row = [
         ("trusted", "client", ["TCP, the system"]),
-        ("tested", "worker", ["socket, timeouts"]),
+        ("tested", "worker", ["socket, deadlines"]),
         ("proved", "session", ["request, route, JSON"]),
         ("tested", "lock", ["one ask at a time"]),
         ("proved", "book", ["leases, rows, journal"]),
@@ -161,21 +161,31 @@ def preservation():
 
 def threads():
     """A server's threads, and the locks that they take."""
-    parts = [text(120, 24, "threads", "bold plain"), text(420, 24, "locks", "bold plain"), text(720, 24, "what lies behind them", "bold plain")]
-    parts += box(20, 40, 200, "tested", "session workers", ["1 to 16, a connection each"])
-    parts += box(20, 200, 200, "tested", "timers", ["evictor, bucket, threshold"])
-    rows = [
-        (40, "admission", ["its holder waits in accept"], "connections still wanted"),
-        (120, "the book", ["held for one ask"], "the book and its ledgers"),
-        (200, "schedules", ["timers wait here for their turn"], "when each timer is due"),
+    parts = [text(120, 24, "threads", "bold plain"), text(440, 24, "locks", "bold plain"), text(740, 24, "what lies behind them", "bold plain")]
+    workers = [
+        (40, "the door", ["accepts, and deals in turn"]),
+        (150, "loops", ["1 to 16, each polls its own"]),
+        (260, "the pool", ["2, for long requests"]),
+        (370, "timers", ["evictor, bucket, threshold"]),
     ]
-    for y, title, notes, behind in rows:
-        parts += box(310, y, 220, "tested", title, notes)
-        parts += box(620, y, 200, "proved", behind, [])
-        parts += arrow(530, y + 32, 620, y + 32)
-    parts += arrow(220, 72, 310, 72) + arrow(220, 84, 310, 140) + arrow(220, 232, 310, 232) + arrow(220, 220, 310, 164)
-    parts += [text(120, 152, "each has a pass of its own,", "small plain"), text(120, 168, "and reads sockets without a lock", "small plain")]
-    return svg(840, 310, parts + legend(20, 284, "proved", "tested"))
+    for y, title, notes in workers:
+        parts += box(20, y, 200, "tested", title, notes)
+    rows = [
+        (40, "mailboxes", "tested", ["one for each loop, with a waker"], "connections handed over"),
+        (122, "the pool's queue", "tested", ["the pool waits here"], "connections for the pool"),
+        (204, "the counts", "proved", ["who came, who is open"], "admission"),
+        (286, "the book", "proved", ["held for one ask"], "the book and its ledgers"),
+        (368, "schedules", "proved", ["timers wait here for their turn"], "when each timer is due"),
+    ]
+    for y, title, kind, notes, behind in rows:
+        parts += box(330, y, 220, "tested", title, notes)
+        parts += box(640, y, 200, kind, behind, [])
+        parts += arrow(550, y + 32, 640, y + 32)
+    takes = [(56, 60), (84, 226), (166, 76), (176, 150), (186, 240), (200, 308), (276, 166), (292, 318), (386, 330), (402, 400)]
+    for out, to in takes:
+        parts += arrow(220, out, 330, to)
+    parts += arrow(220, 268, 330, 92)
+    return svg(860, 470, parts + legend(20, 446, "proved", "tested"))
 
 
 def tower():

@@ -1,2 +1,3 @@
 pub mod Admissions
 pub mod Limits
+pub mod Passing

@@ -1,6 +1,20 @@
 //! How many connections came, and how many are open.
-ghost use Rattle.std.specs.Prelude.{◌≡◌, ◌+◌, ◌-◌, ◌<◌, ◌↔◌, ◌×◌, ◌||◌, not, false, true, min};
-ghost use Rattle.eu_accept.specs.Admissions.{admitted, refused, let_out, loop_ended};
+ghost use Rattle.std.specs.Prelude.{◌≡◌, ◌<◌, ◌↔◌, ◌||◌, false, true};
+ghost use Rattle.eu_accept.specs.Admissions.{entry_of, let_in, let_out, loop_ended};
+
+/// How many are let in beyond the most, only to be told that there is no room for them.
+pub const SPARE: u64 = 64;
+
+/// Whether a connection that has come is let in.
+#[derive(Clone, Copy, Debug, PartialEq, Eq)]
+pub enum Entry {
+    /// It is.
+    Admitted,
+    /// It is let in to be told that there is no room for it.
+    Refused,
+    /// It isn't, and is to be closed.
+    Dropped,
+}
 
 /// How many connections a server still takes, how many are open, and how many of its loops work.
 #[derive(Clone, Copy, Debug, PartialEq, Eq)]
@@ -9,14 +23,16 @@ pub struct Admission {
     pub left: u64,
     /// How many have come, without those that were refused.
     pub came: u64,
-    /// How many were refused, because as many were open as may be.
+    /// How many were refused or dropped, because as many were open as may be.
     pub refused: u64,
-    /// How many are open.
+    /// How many are open, those that are refused included.
     pub here: u64,
     /// How many loops have not ended.
     pub loops: u32,
     /// No more are accepted.
     pub is_closed: bool,
+    /// The server stops: who is idle leaves at once.
+    pub is_stopping: bool,
     /// Accepting one, or polling, has failed for good.
     pub has_failed: bool,
 }
@@ -24,7 +40,7 @@ pub struct Admission {
 impl Admission {
     /// That of a server which takes so many connections and has so many loops.
     pub fn new(sessions: u64, loops: u32) -> Admission
-        ensures { result ≡ record { left = sessions; came = 0; refused = 0; here = 0; loops = loops; is_closed = false; has_failed = false } }
+        ensures { result ≡ record { left = sessions; came = 0; refused = 0; here = 0; loops = loops; is_closed = false; is_stopping = false; has_failed = false } }
     {
         Admission {
             left: sessions,
@@ -33,6 +49,7 @@ impl Admission {
             here: 0,
             loops,
             is_closed: false,
+            is_stopping: false,
             has_failed: false,
         }
     }
@@ -44,23 +61,44 @@ impl Admission {
         self.left > 0 && !self.is_closed
     }
 
-    /// Lets one in that has come, where fewer than `most` are open, and else refuses it. Tells which, and counts it.
-    pub fn admit(&mut self, most: u64) -> bool
-        ensures has_room { (result ≡ true) ↔ (self.old.here < most) }
-        ensures admitted { result ≡ true → self.new ≡ admitted self.old }
-        ensures refused { result ≡ false → self.new ≡ refused self.old }
+    /// What becomes of one that has come: where fewer than `most` are open it is admitted; where fewer than `SPARE` more are, it is refused; else, or
+    /// where no more are accepted, it is dropped.
+    fn entry(&self, most: u64) -> Entry
+        ensures { result ≡ entry_of most self.now }
     {
-        if self.here >= most {
-            self.refused = self.refused.saturating_add(1);
-            return false;
+        if self.is_closed {
+            Entry::Dropped
+        } else if self.here < most {
+            Entry::Admitted
+        } else if self.here < most.saturating_add(SPARE) {
+            Entry::Refused
+        } else {
+            Entry::Dropped
         }
-        self.left = self.left.saturating_sub(1);
-        self.came = self.came.saturating_add(1);
-        self.here = self.here.saturating_add(1);
-        true
     }
 
-    /// Counts one out that was let in.
+    /// Counts one that has come, where `most` are to be open at most, and tells what becomes of it.
+    pub fn admit(&mut self, most: u64) -> Entry
+        ensures entry { result ≡ entry_of most self.old }
+        ensures counted { self.new ≡ let_in (entry_of most self.old) self.old }
+    {
+        let entry = self.entry(most);
+        match entry {
+            Entry::Admitted => {
+                self.left = self.left.saturating_sub(1);
+                self.came = self.came.saturating_add(1);
+                self.here = self.here.saturating_add(1);
+            }
+            Entry::Refused => {
+                self.refused = self.refused.saturating_add(1);
+                self.here = self.here.saturating_add(1);
+            }
+            Entry::Dropped => self.refused = self.refused.saturating_add(1),
+        }
+        entry
+    }
+
+    /// Counts one out that was let in, admitted or refused.
     pub fn let_out(&mut self)
         ensures { self.new ≡ let_out self.old }
     {
@@ -73,6 +111,14 @@ impl Admission {
     {
         self.is_closed = true;
         self.has_failed = self.has_failed || has_failed;
+    }
+
+    /// Notes that the server stops: no more are accepted, and who is idle leaves at once.
+    pub fn stop(&mut self)
+        ensures { self.new ≡ record self.old { is_closed = true; is_stopping = true } }
+    {
+        self.is_closed = true;
+        self.is_stopping = true;
     }
 
     /// Counts a loop out, and tells whether it was the last one.

@@ -1,17 +1,19 @@
 //! The door of a server, at which connections are accepted.
+ghost use Rattle.std.specs.Prelude.{◌≡◌};
+ghost use Rattle.eu_accept.specs.Passing as spec;
+
+use crate::admission::Entry;
 use crate::hub::Hub;
 use crate::mail::Mail;
 use mio::net::{TcpListener, TcpStream};
+use mio::unix::SourceFd;
 use mio::{Events, Interest, Poll, Token};
 use std::io;
-use std::io::{ErrorKind, Write};
-use std::net::{self, Net, Shutdown};
+use std::io::ErrorKind;
+use std::net::{self, Net};
+use std::os::fd::RawFd;
 use std::sync::Wait;
 use std::time::{Clock, Duration};
-
-/// What a connection is told for which there is no room (RFC 9110, section 15.6.4).
-const FULL: &str =
-    "HTTP/1.1 503 Service Unavailable\r\nContent-Length: 0\r\nRetry-After: 30\r\nConnection: close\r\n\r\n";
 
 /// How long the door waits before it tries again what may have failed for want of descriptors, in milliseconds.
 const TICK_MS: u64 = 250;
@@ -26,6 +28,12 @@ enum Accepted {
     Failed,
 }
 
+/// The token of the listener.
+const LISTENER: Token = Token(0);
+
+/// The token of what ends the server.
+const INPUT: Token = Token(1);
+
 /// Accepts the connections of a server, and deals them to its loops in turn.
 #[derive(Drop)]
 pub struct Door<'a, R: Wait + Clock> {
@@ -36,45 +44,62 @@ pub struct Door<'a, R: Wait + Clock> {
     next: usize,
 }
 
-/// The errno of a process that has no descriptor left, and of a system that has none (accept(2) of Linux).
-const NO_DESCRIPTOR: [i32; 2] = [24, 23];
+/// The number of the system's error where the process has no descriptor left (EMFILE), and where the system has none (ENFILE; accept(2) of Linux).
+const NO_DESCRIPTOR: i32 = 24;
+const NO_DESCRIPTOR_OF_ALL: i32 = 23;
 
-/// Whether an accept that failed so is tried again (accept(2) of Linux, "Error handling").
-fn is_passing(error: &io::Error) -> bool {
-    match error.kind() {
+/// Whether an accept that failed by such an error is tried again: none waits; or one was aborted before it was accepted, its network failed, or a
+/// signal came (accept(2) of Linux, "Error handling").
+fn is_passing(kind: ErrorKind) -> bool
+    ensures { result ≡ spec.is_passing kind }
+{
+    matches!(
+        kind,
         ErrorKind::WouldBlock
-        | ErrorKind::ConnectionAborted
-        | ErrorKind::NetworkDown
-        | ErrorKind::NetworkUnreachable
-        | ErrorKind::HostUnreachable
-        | ErrorKind::Interrupted => true,
-        _ => match error.raw_os_error() {
-            Some(number) => NO_DESCRIPTOR.contains(&number),
-            None => false,
-        },
-    }
+            | ErrorKind::ConnectionAborted
+            | ErrorKind::NetworkDown
+            | ErrorKind::NetworkUnreachable
+            | ErrorKind::HostUnreachable
+            | ErrorKind::Interrupted
+    )
 }
 
-/// Tells a connection that there is no room for it, and closes it.
-fn refuse(stream: TcpStream) {
-    let mut stream = stream;
-    let _ = stream.write(FULL.as_bytes());
-    let _ = stream.shutdown(Shutdown::Write);
+/// Whether an error of that number means that there is no descriptor: one may be free soon.
+fn wants_descriptor(number: Option<i32>) -> bool
+    ensures { result ≡ spec.wants_descriptor number }
+{
+    number == Some(NO_DESCRIPTOR) || number == Some(NO_DESCRIPTOR_OF_ALL)
+}
+
+/// What an accept came to that failed so.
+fn failed(error: &io::Error) -> Accepted
+    ensures { result ≡ spec.accepted_by error.now }
+{
+    if !is_passing(error.kind()) && !wants_descriptor(error.raw_os_error()) {
+        return Accepted::Failed;
+    }
+    Accepted::Later
 }
 
 impl<'a, R: Wait + Clock> Door<'a, R> {
-    /// The door at a listener, which waits no more from now on. An error is the system's.
+    /// The door at a listener, which waits no more from now on. Where an input is named, the server stops at its end: a pipe or a socket, by its
+    /// descriptor, that is open as long as the door is. An error is the system's; one comes also where the input can't be polled, as a file.
     pub fn new(
         hub: &'a Hub<'a, R>,
         net: &impl Net,
         listener: &net::TcpListener,
+        input: Option<RawFd>,
     ) -> io::Result<Door<'a, R>> {
         let listener = listener.try_clone()?;
         listener.set_nonblocking(true)?;
         let mut listener = TcpListener::from_std(listener);
         let poll = Poll::new(net)?;
         poll.registry()
-            .register(&mut listener, Token(0), Interest::READABLE)?;
+            .register(&mut listener, LISTENER, Interest::READABLE)?;
+        if let Some(input) = input {
+            poll.registry()
+                .register(&mut SourceFd(&input), INPUT, Interest::READABLE)?;
+        }
         Ok(Door {
             hub,
             listener,
@@ -88,25 +113,25 @@ impl<'a, R: Wait + Clock> Door<'a, R> {
     fn accept(&self) -> Accepted {
         match self.listener.accept() {
             Ok((stream, _)) => Accepted::One(stream),
-            Err(error) if is_passing(&error) => Accepted::Later,
-            Err(_) => Accepted::Failed,
+            Err(error) => failed(&error),
         }
     }
 
-    /// Deals a connection to the next loop, or refuses it.
+    /// Deals a connection to the next loop, which serves it or tells it that there is no room; or drops it.
     fn deal(&mut self, stream: TcpStream) {
-        if !self.hub.admit() {
-            refuse(stream);
-            return;
-        }
         let _ = stream.set_nodelay(true);
+        let mail = match self.hub.admit() {
+            Entry::Admitted => Mail::New(stream),
+            Entry::Refused => Mail::Refused(stream),
+            Entry::Dropped => return,
+        };
         let count = self.hub.boxes.len().max(1);
         let number = self.next % count;
         self.next = (number + 1) % count;
         let Some(mailbox) = self.hub.boxes.get(number) else {
             return;
         };
-        if mailbox.put(self.hub.rt, Mail::New(stream)).is_err() {
+        if mailbox.put(self.hub.rt, mail).is_err() {
             self.hub.let_out();
         }
     }
@@ -114,6 +139,16 @@ impl<'a, R: Wait + Clock> Door<'a, R> {
     /// Whether a further connection is wanted.
     fn is_open(&self) -> bool {
         self.hub.counts().is_open()
+    }
+
+    /// Whether the last poll told that the input has ended.
+    fn has_input_ended(&self) -> bool {
+        for event in &self.events {
+            if event.token() == INPUT && event.is_read_closed() {
+                return true;
+            }
+        }
+        false
     }
 
     /// Accepts what waits. An error where accepting has failed for good.
@@ -133,6 +168,9 @@ impl<'a, R: Wait + Clock> Door<'a, R> {
         let time = Duration::from_millis(TICK_MS);
         if self.poll.poll(&mut self.events, Some(time)).is_err() {
             return Err(());
+        }
+        if self.has_input_ended() {
+            self.hub.stop();
         }
         self.accept_all()
     }

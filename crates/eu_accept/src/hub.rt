@@ -1,8 +1,8 @@
 //! What the threads of a server share beside the book.
-ghost use Rattle.std.specs.Prelude.{◌≡◌};
+ghost use Rattle.std.specs.Prelude.{◌≡◌, ◌+◌, ◌-◌, ◌^◌, IfOk, min, vec_len};
 ghost use Rattle.eu_accept.specs.Limits.{server_limits};
 
-use crate::admission::Admission;
+use crate::admission::{Admission, Entry, SPARE};
 use crate::loops::WAKER;
 use crate::mail::Mailbox;
 use crate::pace::Pace;
@@ -21,7 +21,7 @@ use std::time::Clock;
 pub struct Limits {
     /// The most connections at once.
     pub connections: usize,
-    /// The most bytes that are kept of connections which wait, in each loop.
+    /// The most bytes that are kept of connections which wait. Each loop has its part of them.
     pub bytes: usize,
     /// How long a peer is awaited.
     pub patience: Patience,
@@ -30,13 +30,20 @@ pub struct Limits {
 }
 
 impl Limits {
-    /// Those of a server: 10,000 connections, 64 MiB for each loop.
+    /// How many places a loop has: one for each connection, and those of the ones that are refused.
+    pub(crate) fn places(&self) -> usize
+        ensures { result ≡ min (self.now.connections + 64) (2 ^ 64 - 1) }
+    {
+        self.connections.saturating_add(SPARE as usize)
+    }
+
+    /// Those of a server: 10,000 connections, 256 MiB.
     pub fn of_server() -> Limits
         ensures { result ≡ server_limits }
     {
         Limits {
             connections: 10_000,
-            bytes: 67_108_864,
+            bytes: 268_435_456,
             patience: PATIENCE,
             linger_bytes: 65_536,
         }
@@ -63,22 +70,24 @@ pub struct Hub<'a, R: Wait + Clock> {
 }
 
 impl<'a, R: Wait + Clock + Net> Hub<'a, R> {
-    /// What the threads of a server share that begins now, has so many loops and takes so many connections; and what each loop polls with.
-    /// An error is the system's or the clock's.
+    /// What the threads of a server share that begins now, with as many loops as the admission says; and what each loop polls with. An error is the
+    /// system's or the clock's; `OutOfMemory` comes where no memory is left.
     pub fn open(
         rt: &'a R,
         alloc: Global,
         limits: Limits,
         periods: Periods,
-        sessions: u64,
-        loops: u32,
-    ) -> io::Result<(Hub<'a, R>, Vec<Poll>)> {
+        admission: Admission,
+    ) -> io::Result<(Hub<'a, R>, Vec<Poll>)>
+        ensures { IfOk result (λ opened. vec_len opened.1 ≡ admission.loops) }
+    {
+        let loops = admission.loops;
         let mut polls = Vec::with_capacity(alloc, loops as usize)?;
         let mut boxes = Vec::with_capacity(alloc, loops as usize)?;
         for _ in 0..loops {
             let poll = Poll::new(rt)?;
             let waker = Waker::new(poll.registry(), WAKER)?;
-            boxes.push(Mailbox::new(alloc, limits.connections, waker)?)?;
+            boxes.push(Mailbox::new(alloc, limits.places(), waker)?)?;
             polls.push(poll)?;
         }
         let hub = Hub {
@@ -86,8 +95,8 @@ impl<'a, R: Wait + Clock + Net> Hub<'a, R> {
             alloc,
             limits,
             boxes,
-            pool: Pool::new(alloc, limits.connections)?,
-            admission: Mutex::new(Admission::new(sessions, loops)),
+            pool: Pool::new(alloc, limits.places())?,
+            admission: Mutex::new(admission),
             pace: Pace::new(rt, periods)?,
         };
         Ok((hub, polls))
@@ -103,13 +112,30 @@ impl<'a, R: Wait + Clock> Hub<'a, R> {
     /// Notes that no more connections are accepted, and wakes all loops.
     pub(crate) fn close_door(&self, has_failed: bool) {
         self.admission.lock(self.rt).close(has_failed);
+        self.wake_loops();
+    }
+
+    /// Notes that a loop has failed for good: the server stops, and wakes all loops.
+    pub(crate) fn fail(&self) {
+        self.admission.lock(self.rt).close(true);
+        self.stop();
+    }
+
+    /// Notes that the server stops, and wakes all loops.
+    pub(crate) fn stop(&self) {
+        self.admission.lock(self.rt).stop();
+        self.wake_loops();
+    }
+
+    /// Ends the wait of all loops.
+    fn wake_loops(&self) {
         for mailbox in &self.boxes {
             mailbox.wake();
         }
     }
 
-    /// Whether a connection that has come is let in, which is counted.
-    pub(crate) fn admit(&self) -> bool {
+    /// Counts a connection that has come, and tells what becomes of it.
+    pub(crate) fn admit(&self) -> Entry {
         let most = self.limits.connections as u64;
         self.admission.lock(self.rt).admit(most)
     }

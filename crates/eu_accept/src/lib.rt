@@ -5,6 +5,7 @@
 mod admission;
 mod bell;
 mod door;
+mod gathering;
 mod hub;
 mod loops;
 mod mail;
@@ -14,8 +15,9 @@ mod station;
 #[cfg(test)]
 mod tests;
 
-pub use admission::Admission;
+pub use admission::{Admission, Entry, SPARE};
 pub use door::Door;
+pub use gathering::can_gather;
 pub use hub::{Hub, Limits};
 pub use loops::Loop;
 pub use mail::Mailbox;

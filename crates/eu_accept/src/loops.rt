@@ -3,11 +3,12 @@ use crate::hub::Hub;
 use crate::mail::Mail;
 use eu_hall::{Awaited, Guest, Hall, Happened, Left, Phase, Unsent, Visit};
 use eu_session::Talk;
+use eu_stream::write_whole;
 use mio::net::TcpStream;
 use mio::{Events, Interest, Poll, Token};
 use std::alloc::{AllocError, Global};
 use std::collections::VecDeque;
-use std::io::{ErrorKind, Read, Write};
+use std::io::{ErrorKind, Read};
 use std::net::Shutdown;
 use std::sync::Wait;
 use std::time::{Clock, Duration, Instant};
@@ -31,6 +32,10 @@ const PIECE: usize = 4_096;
 /// What a connection is told whose request is too slow (RFC 9110, section 15.5.9).
 const SLOW: &str = "HTTP/1.1 408 Request Timeout\r\nContent-Length: 0\r\nConnection: close\r\n\r\n";
 
+/// What a connection is told for which there is no room (RFC 9110, section 15.6.4).
+const FULL: &str =
+    "HTTP/1.1 503 Service Unavailable\r\nContent-Length: 0\r\nRetry-After: 30\r\nConnection: close\r\n\r\n";
+
 /// A connection.
 type Connection = Guest<TcpStream, Talk>;
 
@@ -39,6 +44,7 @@ type Connection = Guest<TcpStream, Talk>;
 struct Call {
     key: usize,
     leaves_long: bool,
+    reads_on: bool,
 }
 
 /// A loop of a server. It alone has its connections, but for those that are away at a worker.
@@ -56,7 +62,7 @@ pub struct Loop<'a, R: Wait + Clock> {
     swept: u64,
 }
 
-/// What has come of one that has come.
+/// A connection that has just come, and whose session begins.
 fn guest(alloc: Global, socket: TcpStream) -> Connection {
     Guest {
         socket,
@@ -65,6 +71,12 @@ fn guest(alloc: Global, socket: TcpStream) -> Connection {
         has_ended: false,
         dropped: 0,
     }
+}
+
+/// Ends the session of a connection by a response that is to be sent. Tells whether there was memory for that.
+fn end_by(guest: &mut Connection, response: &str) -> bool {
+    guest.has_ended = true;
+    write_whole(&mut guest.unsent, response.as_bytes()).is_ok()
 }
 
 /// Reads what has come and drops it. Tells whether more may come.
@@ -83,13 +95,13 @@ fn drop_what_came(guest: &mut Connection, most: usize) -> bool {
 impl<'a, R: Wait + Clock> Loop<'a, R> {
     /// The loop of that number, which polls so.
     pub fn new(hub: &'a Hub<'a, R>, number: usize, poll: Poll) -> io::Result<Loop<'a, R>> {
-        let most = hub.limits.connections;
+        let most = hub.limits.places();
         Ok(Loop {
             hub,
             number,
             poll,
             events: Events::with_capacity(hub.alloc, MOST_EVENTS)?,
-            hall: Hall::new(hub.alloc, most, hub.limits.bytes)?,
+            hall: Hall::new(hub.alloc, most, hub.limits.bytes / hub.boxes.len().max(1))?,
             ready: VecDeque::with_capacity(hub.alloc, most.saturating_add(MOST_EVENTS))?,
             again: Vec::new(hub.alloc),
             mail: Vec::with_capacity(hub.alloc, most)?,
@@ -113,7 +125,7 @@ impl<'a, R: Wait + Clock> Loop<'a, R> {
         }
     }
 
-    /// Puts a connection in its place again, of whose peer this is awaited now. One that is late, or would hold too much, is closed.
+    /// Puts a connection in its place again, of whose peer this is awaited now. One that would hold too much is closed.
     fn park(&mut self, key: usize, guest: Connection, awaited: Awaited) {
         let mut guest = guest;
         guest.talk.inbox.release(self.hub.alloc);
@@ -175,8 +187,7 @@ impl<'a, R: Wait + Clock> Loop<'a, R> {
             Left::Waits(Phase::Lingering, _) => self.begin_lingering(visit),
             Left::Waits(phase, happened) => self.park_after(visit, phase, happened),
             Left::GoesOn => {
-                let phase = visit.awaited.phase;
-                self.park_after(visit, phase, Happened::Answered);
+                self.park_after(visit, Phase::Asking, Happened::Answered);
                 let _ = self.again.push(key);
             }
             Left::Long => {
@@ -212,33 +223,60 @@ impl<'a, R: Wait + Clock> Loop<'a, R> {
                 awaited,
                 most_turns: MOST_TURNS,
                 leaves_long: call.leaves_long,
+                reads_on: call.reads_on,
+                is_drained: false,
             });
         }
         None
     }
 
-    /// Gives a connection a place, and has it polled. An error where that fails; the connection is closed then.
-    fn enter(&mut self, socket: TcpStream) -> io::Result<()> {
+    /// Has a connection polled under the key of its place.
+    fn register(&self, guest: &mut Connection, key: usize) -> io::Result<()> {
+        let interest = Interest::READABLE.add(Interest::WRITABLE);
+        let registry = self.poll.registry();
+        registry.register(&mut guest.socket, Token(key), interest)
+    }
+
+    /// Gives a connection a place, and has it polled, which tells at once what has come of it. It is closed where that fails.
+    fn enter(&mut self, guest: Connection) {
         let awaited = Awaited::begin(self.hub.limits.patience, Phase::Idle, self.now());
-        let Ok(key) = self.hall.enter(guest(self.hub.alloc, socket), awaited) else {
+        let Ok(key) = self.hall.enter(guest, awaited) else {
             self.hub.let_out();
-            return Ok(());
+            return;
         };
         let Some((mut guest, awaited)) = self.hall.call(key) else {
-            return Ok(());
+            return;
         };
-        let interest = Interest::READABLE.add(Interest::WRITABLE);
-        let registered = self
-            .poll
-            .registry()
-            .register(&mut guest.socket, Token(key), interest);
-        if registered.is_err() {
+        if self.register(&mut guest, key).is_ok() {
+            self.park(key, guest, awaited);
+        } else {
             drop(guest);
             self.leave(key);
-            return registered;
         }
-        self.park(key, guest, awaited);
-        Ok(())
+    }
+
+    /// Takes one mail.
+    fn take_one(&mut self, mail: Mail) {
+        match mail {
+            Mail::New(socket) => self.enter(guest(self.hub.alloc, socket)),
+            Mail::Refused(socket) => {
+                let mut guest = guest(self.hub.alloc, socket);
+                if end_by(&mut guest, FULL) {
+                    self.enter(guest);
+                } else {
+                    self.hub.let_out();
+                }
+            }
+            Mail::Back(visit, left) => {
+                let call = Call {
+                    key: visit.key,
+                    leaves_long: left == Left::GoesOn,
+                    reads_on: true,
+                };
+                self.take_back(visit, left);
+                let _ = self.ready.push_back(call);
+            }
+        }
     }
 
     /// Takes what others handed in.
@@ -249,38 +287,35 @@ impl<'a, R: Wait + Clock> Loop<'a, R> {
         }
         mail.reverse();
         'mail: while let Some(one) = mail.pop() {
-            match one {
-                Mail::New(socket) => {
-                    let _ = self.enter(socket);
-                }
-                Mail::Back(visit, left) => {
-                    let call = Call {
-                        key: visit.key,
-                        leaves_long: left == Left::GoesOn,
-                    };
-                    self.take_back(visit, left);
-                    let _ = self.ready.push_back(call);
-                }
-            }
+            self.take_one(one);
         }
         self.mail = mail;
     }
 
     /// Gives up a connection that is late. One whose request isn't whole is told so.
     fn give_up(&mut self, key: usize) {
-        if let Some((mut guest, awaited)) = self.hall.call(key) {
-            if awaited.phase == Phase::Asking {
-                let _ = guest.socket.write(SLOW.as_bytes());
-            }
+        let Some((mut guest, awaited)) = self.hall.call(key) else {
+            return;
+        };
+        if awaited.phase != Phase::Asking || !end_by(&mut guest, SLOW) {
             drop(guest);
+            self.leave(key);
+            return;
         }
-        self.leave(key);
+        let awaited = Awaited::begin(self.hub.limits.patience, Phase::Answering, self.now());
+        self.park(key, guest, awaited);
+        let _ = self.ready.push_back(Call {
+            key,
+            leaves_long: true,
+            reads_on: true,
+        });
     }
 
-    /// Gives up all that are late.
+    /// Gives up all that are late, and where the server stops all that are idle.
     fn sweep(&mut self, now: u64) {
+        let stops = self.hub.counts().is_stopping;
         let mut from = 0;
-        'sweep: while let Some(key) = self.hall.late(from, now, false) {
+        'sweep: while let Some(key) = self.hall.late(from, now, stops) {
             self.give_up(key);
             from = key.saturating_add(1);
         }
@@ -306,6 +341,7 @@ impl<'a, R: Wait + Clock> Loop<'a, R> {
                 self.ready.push_back(Call {
                     key: event.token().0,
                     leaves_long: true,
+                    reads_on: event.is_read_closed() || event.is_error(),
                 })?;
             }
         }
@@ -321,6 +357,7 @@ impl<'a, R: Wait + Clock> Loop<'a, R> {
             self.ready.push_back(Call {
                 key,
                 leaves_long: true,
+                reads_on: true,
             })?;
         }
         if is_woken {
@@ -353,7 +390,7 @@ impl<'a, R: Wait + Clock> Loop<'a, R> {
                 break;
             }
             if self.round().is_err() {
-                self.hub.close_door(true);
+                self.hub.fail();
                 break;
             }
         }

@@ -12,6 +12,8 @@ use std::sync::{Mutex, Wait};
 pub(crate) enum Mail {
     /// A connection that has come.
     New(TcpStream),
+    /// One for which there is no room, and which is to be told so.
+    Refused(TcpStream),
     /// One that was at the pool, and how that left it.
     Back(Visit<TcpStream, Talk>, Left),
 }

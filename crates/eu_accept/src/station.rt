@@ -1,4 +1,6 @@
 //! Where a worker of a server gets its connections from.
+ghost use Rattle.std.specs.Prelude.{◌≡◌, ◌↔◌, false};
+
 use crate::door::Door;
 use crate::hub::Hub;
 use crate::loops::Loop;
@@ -28,6 +30,7 @@ impl<'a, R: Wait + Clock> Hand<'a, R> {
         Some(Visit {
             most_turns: 1,
             leaves_long: false,
+            reads_on: false,
             ..visit
         })
     }
@@ -52,7 +55,9 @@ pub enum Station<'a, R: Wait + Clock> {
 
 impl<'a, R: Wait + Clock> Station<'a, R> {
     /// Whether it visits connections, so that its worker asks the book.
-    pub fn visits(&self) -> bool {
+    pub fn visits(&self) -> bool
+        ensures { result ≡ false ↔ ((door : _) × (self.now ≡ Station.Door door)) }
+    {
         !matches!(self, Station::Door(_))
     }
 }

@@ -1,5 +1,60 @@
-//! Tests.
+//! Tests of what is counted, and of threads that wait for each other.
+use crate::admission::{Admission, Entry, SPARE};
+use crate::gathering::can_gather;
+use crate::hub::Limits;
+use std::test::Fail;
+use std::time::{Duration, Instant};
+
+/// Two are admitted where two may be open, the next ones are refused, as far as there is spare room, and then dropped. One that leaves makes room.
 #[test]
-fn nothing(rt: HostRuntime) {
-    assert!(rt; true);
+fn connections_are_admitted_refused_and_dropped(rt: HostRuntime) {
+    let mut admission = Admission::new(5, 1);
+    assert!(rt; admission.admit(2) == Entry::Admitted && admission.admit(2) == Entry::Admitted);
+    for _ in 0..SPARE {
+        assert!(rt; admission.admit(2) == Entry::Refused);
+    }
+    assert!(rt; admission.admit(2) == Entry::Dropped);
+    assert_eq!(rt; (admission.left, admission.came, admission.refused, admission.here), (3, 2, 65, 66));
+    for _ in 0..SPARE {
+        admission.let_out();
+    }
+    assert!(rt; admission.admit(2) == Entry::Refused);
+    admission.let_out();
+    admission.let_out();
+    assert!(rt; admission.admit(2) == Entry::Admitted);
+    assert_eq!(rt; (admission.left, admission.came, admission.refused, admission.here), (2, 3, 66, 2));
+}
+
+#[test]
+fn a_server_is_open_until_enough_have_come_or_it_is_closed(rt: HostRuntime) {
+    let mut admission = Admission::new(1, 2);
+    assert!(rt; admission.is_open());
+    admission.admit(10);
+    assert!(rt; !admission.is_open());
+    let mut closed = Admission::new(1, 2);
+    closed.close(true);
+    closed.close(false);
+    assert!(rt; !closed.is_open() && closed.has_failed);
+    assert!(rt; !closed.end_loop() && closed.end_loop());
+}
+
+#[test]
+fn an_ordinary_server_has_ten_thousand_connections(rt: HostRuntime) {
+    let limits = Limits::of_server();
+    assert_eq!(rt; (limits.connections, limits.places(), limits.bytes), (10_000, 10_064, 268_435_456));
+    assert_eq!(rt; (limits.patience.idle, limits.patience.request), (90_000, 10_000));
+}
+
+/// Three calls are made at once in three threads, and can't be in two; that is known when the time is up.
+#[test]
+fn threads_gather_where_there_are_enough(rt: HostRuntime) -> Result<(), Fail> {
+    let long = Duration::from_secs(20);
+    let short = Duration::from_millis(100);
+    let began = Instant::now(&rt)?;
+    assert!(rt; can_gather(&rt, rt.alloc(), 3, 3, long)?);
+    assert!(rt; began.elapsed(&rt)? < Duration::from_secs(15));
+    assert!(rt; !can_gather(&rt, rt.alloc(), 3, 2, short)?);
+    assert!(rt; !can_gather(&rt, rt.alloc(), 2, 0, short)?);
+    assert!(rt; can_gather(&rt, rt.alloc(), 0, 1, short)? && can_gather(&rt, rt.alloc(), 1, 1, short)?);
+    Ok(())
 }

@@ -1,5 +1,5 @@
 -- How far a request was gone through that isn't whole yet. Only the contracts of private functions speak of this.
-use Rattle.std.specs.Prelude.{◌≡◌, ◌≤◌, ℕ, ◌+◌, ◌-◌, List, Option, Some, IfSome, length, drop}
+use Rattle.std.specs.Prelude.{◌≡◌, ◌≤◌, ℕ, ◌+◌, ◌-◌, List, Option, Some, None, IfSome, length, drop, string_capacity, vec_capacity}
 use Rattle.eu_framing.specs.declared.walk.Walk.{Walk}
 use Rattle.eu_framing.specs.declared.request.Head.{Head}
 use Rattle.eu_framing.specs.declared.request.Begun.{Begun}
@@ -36,3 +36,12 @@ pub record IsBegun (buffer : List ℕ) (begun : Begun) : Type 0 where
   pub head : FindsHead (Some begun.head) buffer
   pub framing : IsWithin begun.head.framing
   pub walk : Stands begun.head.len buffer begun.walk
+
+-- so many bytes of memory what is known of a request has: its texts and its body
+abbrev pub begun_memory : Begun → ℕ
+begun_memory b = string_capacity b.head.method + string_capacity b.head.target + vec_capacity b.walk.body
+
+-- the same, where there may be none
+abbrev pub waiting_memory : Option Begun → ℕ
+waiting_memory None = 0
+waiting_memory (Some b) = begun_memory b

@@ -1,6 +1,6 @@
 //! The bytes of a connection that were read and not yet used.
-ghost use Rattle.std.specs.Prelude.{◌≡◌, [], List, ℕ, IfSome};
-ghost use Rattle.eu_framing.specs.Walking.{IsBegun};
+ghost use Rattle.std.specs.Prelude.{◌≡◌, ◌≤◌, ◌+◌, ◌-◌, ◌^◌, [], List, ℕ, IfSome, length, min, vec_capacity};
+ghost use Rattle.eu_framing.specs.Walking.{IsBegun, waiting_memory};
 
 use crate::request::Begun;
 use std::alloc::Global;
@@ -8,6 +8,28 @@ use std::marker::Model;
 
 /// The most bytes of memory that an inbox keeps when it begins anew.
 const MOST_KEPT: usize = 65_536;
+
+/// Drops the bytes, and keeps their memory where it is at most so much.
+fn empty(bytes: &mut Vec<u8>, alloc: Global)
+    ensures items { bytes.new.items ≡ [] }
+    ensures kept { vec_capacity bytes.old ≤ MOST_KEPT → vec_capacity bytes.new ≡ vec_capacity bytes.old }
+    ensures most { vec_capacity bytes.new ≤ MOST_KEPT }
+{
+    if bytes.capacity() > MOST_KEPT {
+        *bytes = Vec::new(alloc);
+    }
+    bytes.clear();
+}
+
+/// How many bytes of memory the bytes have, and what was taken of a request.
+fn memory_of(bytes: &Vec<u8>, begun: &Option<Begun>) -> usize
+    ensures { result ≡ min (vec_capacity bytes.now + waiting_memory begun.now) (2 ^ 64 - 1) }
+{
+    match begun {
+        Some(begun) => bytes.capacity().saturating_add(begun.memory()),
+        None => bytes.capacity(),
+    }
+}
 
 /// The bytes that were read of a connection and not yet used. Contracts see the bytes.
 ///
@@ -45,9 +67,11 @@ impl Inbox {
         self.bytes.as_slice()
     }
 
-    /// How many bytes of memory it has for its bytes.
-    pub fn capacity(&self) -> usize {
-        self.bytes.capacity()
+    /// How many bytes of memory it holds: for its bytes, and for what was taken of a request that isn't whole yet (`memory_of`).
+    pub fn capacity(&self) -> usize
+        ensures { length self.now ≤ result }
+    {
+        memory_of(&self.bytes, &self.begun)
     }
 
     /// Drops its bytes, and keeps their memory, up to 64 KiB. Takes none.
@@ -55,10 +79,7 @@ impl Inbox {
         ensures { self.new ≡ [] }
     {
         self.begun = None;
-        if self.bytes.capacity() > MOST_KEPT {
-            self.bytes = Vec::new(alloc);
-        }
-        self.bytes.clear();
+        empty(&mut self.bytes, alloc);
     }
 
     /// Gives its memory back where it holds no bytes, as before a connection waits for long.

@@ -1,5 +1,5 @@
 //! The next request of a stream.
-ghost use Rattle.std.specs.Prelude.{◌≡◌, ◌≢◌, ◌⊎◌, ◌≤◌, ◌++◌, List, ℕ, IsUtf8, IfOk, IfErr, IfSome, OnOk, OnErr, drop, string_bytes, take, vec_len};
+ghost use Rattle.std.specs.Prelude.{◌≡◌, ◌≢◌, ◌⊎◌, ◌≤◌, ◌-◌, ◌^◌, ◌++◌, List, ℕ, IsUtf8, IfOk, IfErr, IfSome, OnOk, OnErr, drop, min, string_bytes, take, vec_len};
 ghost use Rattle.std.specs.Option.{MatchOption};
 ghost use Rattle.std.specs.Io.KnownBytes.{IsAtEnd, Keeps};
 ghost use Rattle.httparse.specs.Spans.{IsRequestWithin, IsRequestOf};
@@ -8,7 +8,7 @@ ghost use Rattle.eu_framing.specs.Message.{IsEnd, IsFault, max_head, FindsNext, 
 ghost use Rattle.eu_framing.specs.Reading.{Grows, Blames};
 ghost use Rattle.eu_framing.specs.Steps.{HasHeadAt};
 ghost use Rattle.eu_framing.specs.HeadSteps.{GivesHead, FindsHead, Makes};
-ghost use Rattle.eu_framing.specs.Walking.{IsBegun};
+ghost use Rattle.eu_framing.specs.Walking.{IsBegun, begun_memory};
 
 use crate::MAX_HEAD;
 use crate::body::read_body;
@@ -88,6 +88,18 @@ impl Head {
 pub struct Begun {
     head: Head,
     walk: Walk,
+}
+
+impl Begun {
+    /// How many bytes of memory its texts and its body have.
+    pub fn memory(&self) -> usize
+        ensures { result ≡ min (begun_memory self.now) (2 ^ 64 - 1) }
+    {
+        let method = self.head.method.capacity();
+        let target = self.head.target.capacity();
+        let texts = method.saturating_add(target);
+        texts.saturating_add(self.walk.body.capacity())
+    }
 }
 
 /// A text of these bytes.

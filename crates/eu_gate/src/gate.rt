@@ -1,10 +1,11 @@
 //! Gates: what workers pass before they go on.
 ghost use Rattle.std.specs.Prelude.{◌≡◌};
 
-/// The most session workers of a server. They have the numbers 1 to 16.
+/// The most loops of a server, each of which serves connections of its own.
 pub const MOST_WORKERS: u32 = 16;
 
-/// The workers of sessions that a server has beside those: one that accepts connections, and two for requests that take long.
+/// The workers of sessions that a server has beside those: one that accepts connections, and two for requests that take long. All workers of sessions
+/// have the numbers 1 to 19.
 pub const OTHER_WORKERS: u32 = 3;
 
 /// The number of the evictor.

@@ -1,4 +1,4 @@
-//! What paces the workers of a server: the gates that they pass, where its connections come from, and when its timers take their turns.
+//! What paces the workers of a server: the gates that they pass, and when its timers take their turns.
 #![tactic(auto)]
 
 mod gate;

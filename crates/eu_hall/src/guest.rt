@@ -33,6 +33,10 @@ pub struct Visit<S, T> {
     pub most_turns: u32,
     /// Whether a request that takes long is left to others.
     pub leaves_long: bool,
+    /// Whether it is read until a read would wait. Else a read that gives less than there was room for is the last one: more than that hasn't come.
+    pub reads_on: bool,
+    /// Its last read was such a one.
+    pub is_drained: bool,
 }
 
 /// How a visit left a connection.

@@ -1,5 +1,5 @@
 //! Writes to a writer that never waits.
-ghost use Rattle.std.specs.Prelude.{◌≡◌, ◌≤◌, ◌||◌, ◌↔◌, Ok, true, false, length, take, OnErr, OnOk};
+ghost use Rattle.std.specs.Prelude.{◌≡◌, ◌≢◌, ◌≤◌, ◌||◌, ◌↔◌, Ok, true, false, length, take, OnErr, OnOk};
 ghost use Rattle.std.specs.Io.KnownBytes.{Appends};
 ghost use Rattle.eu_hall.specs.Sending.{Writes, is_fault, is_later, written_of};
 
@@ -120,6 +120,7 @@ pub(crate) fn write_front<W: Write>(
     ensures bytes { Appends (W.contents leaving.old.writer.now) (W.contents leaving.new.writer.now) (take result.0 bytes.now) }
     ensures all { (result.1 ≡ Ok Sent.All) ↔ (result.0 ≡ length bytes.now) }
     ensures waits { result.1 ≡ Ok Sent.Waits → leaving.new.waits ≡ true }
+    ensures no_wait { result.1 ≢ Ok Sent.Waits → leaving.new.waits ≡ leaving.old.waits }
     ensures sound { OnOk result.1 (leaving.new.has_failed ≡ leaving.old.has_failed) }
     ensures failed { OnErr result.1 (leaving.new.has_failed ≡ true) }
     ensures same_stream { leaving.new.writer.ghost_name ≡ leaving.old.writer.ghost_name }

@@ -1,5 +1,5 @@
 //! What is to be sent to a peer.
-ghost use Rattle.std.specs.Prelude.{◌≡◌, ◌≤◌, ◌<◌, ◌↔◌, ◌++◌, ◌==◌, [], Some, Ok, true, false, drop, length, take, vec_len, vec_capacity, IfOk, OnErr, OnOk};
+ghost use Rattle.std.specs.Prelude.{◌≡◌, ◌≢◌, ◌≤◌, ◌<◌, ◌↔◌, ◌++◌, ◌==◌, [], Some, Ok, true, false, drop, length, take, vec_len, vec_capacity, IfOk, OnErr, OnOk};
 ghost use Rattle.std.specs.Io.KnownBytes.{Appends, Keeps};
 ghost use Rattle.eu_hall.specs.Sending.{Goes};
 ghost use Rattle.eu_hall.specs.Waiting.{IsLean, stream_of};
@@ -83,6 +83,7 @@ impl Unsent {
         ensures bytes { Goes (W.contents leaving.old.writer.now) (W.contents leaving.new.writer.now) self.old.rest self.new.rest }
         ensures all { (result ≡ Ok Sent.All) ↔ (self.new.rest ≡ []) }
         ensures waits { result ≡ Ok Sent.Waits → leaving.new.waits ≡ true }
+        ensures no_wait { result ≢ Ok Sent.Waits → leaving.new.waits ≡ leaving.old.waits }
         ensures sound { OnOk result (leaving.new.has_failed ≡ leaving.old.has_failed) }
         ensures failed { OnErr result (leaving.new.has_failed ≡ true) }
         ensures same_stream { leaving.new.writer.ghost_name ≡ leaving.old.writer.ghost_name }

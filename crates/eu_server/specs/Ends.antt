@@ -9,6 +9,10 @@ use Rattle.eu_shared.specs.Closing.{IsReason}
 abbrev pub IsStart : Fault → Type 0
 IsStart f = (f ≡ OutOfMemory) ⊎ (f ≡ TooManyPasses)
 
+-- it didn't begin: there was no memory, or the system refused something else, or the clock could not be read
+abbrev pub IsBegin : Fault → Type 0
+IsBegin f = (f ≡ OutOfMemory) ⊎ (f ≡ Read)
+
 -- its book could not be closed, for want of memory or as a pass is missing, or wasn't settled
 abbrev pub IsClose : Fault → Type 0
 IsClose f = ((sums : Tally) × (totals : Tally) × IsReason f sums totals) ⊎ (f ≡ Mismatch)

@@ -1,11 +1,11 @@
 //! A server.
-ghost use Rattle.std.specs.Prelude.{◌≡◌, ◌≤◌, ◌⊎◌, ◌+◌, ℕ, [], ◌∷◌, ◌++◌, true, false, if◌then◌else◌, max, min, take, vec_len, Ok, Err, IfOk, IfErr, OnOk};
+ghost use Rattle.std.specs.Prelude.{◌≡◌, ◌≤◌, ◌⊎◌, ◌+◌, ℕ, [], ◌∷◌, ◌++◌, true, false, None, if◌then◌else◌, max, min, take, vec_len, Ok, Err, IfOk, IfErr, OnOk};
 ghost use Rattle.std.specs.Vec.{vec_capacity};
 ghost use Rattle.std.specs.Io.KnownBytes.{Appends, Keeps};
 ghost use Rattle.eu_book.specs.Account.{IsLawful};
 ghost use Rattle.eu_book.specs.Peers.{state_of};
 ghost use Rattle.eu_accept.specs.Limits.{server_limits};
-ghost use Rattle.eu_server.specs.Ends.{IsClose, IsEnd, IsStart};
+ghost use Rattle.eu_server.specs.Ends.{IsBegin, IsClose, IsEnd, IsStart};
 ghost use Rattle.eu_server.specs.Journal.{IsUntold, closed_text};
 ghost use Rattle.eu_server.specs.Served.{served_text};
 ghost use Rattle.eu_server.specs.Staff.{AreSessions, AreTimers, IsReadyFor, IsStaff};
@@ -15,7 +15,7 @@ ghost use Rattle.eu_shared.specs.Closing.{account_of};
 ghost use Rattle.eu_shared.specs.Shares.{HasNames, HasParts};
 
 use crate::no_peer::NoPeer;
-use eu_accept::{Door, Hand, Hub, Limits, Loop, Station};
+use eu_accept::{Admission, Door, Hand, Hub, Limits, Loop, Station, can_gather};
 use eu_base::{Config, Fault};
 use eu_clock::{Chooser, SystemClock};
 use eu_gate::{BUCKET_MS, MOST_WORKERS, OTHER_WORKERS, Periods, THRESHOLD_MS};
@@ -28,15 +28,19 @@ use eu_workers::{Job, Site, Work, Worker, run_all};
 use mio::Poll;
 use std::alloc::Global;
 use std::io;
-use std::io::Write;
+use std::io::{ErrorKind, Write};
 use std::marker::Brand;
 use std::net::{Net, TcpListener};
+use std::os::fd::RawFd;
 use std::sync::Wait;
 use std::thread::Threads;
-use std::time::Clock;
+use std::time::{Clock, Duration};
 
 /// The workers that are timers.
 const TIMERS: usize = 3;
+
+/// How long the threads of a server wait for each other before it begins, in milliseconds.
+const GATHERING_MS: u64 = 5_000;
 
 /// What a server is to do. `Plan::of_server` is that of an ordinary one.
 #[derive(Clone, Copy)]
@@ -53,6 +57,8 @@ pub struct Plan {
     pub periods: Periods,
     /// How many connections it has at most, and how long it waits for them.
     pub limits: Limits,
+    /// The descriptor of a pipe or a socket at whose end the server ends, too, if there is one.
+    pub input: Option<RawFd>,
 }
 
 impl Plan {
@@ -63,6 +69,7 @@ impl Plan {
         ensures settings { (result.config ≡ config) × (result.expected ≡ expected) × (result.workers ≡ workers) × (result.sessions ≡ sessions) }
         ensures periods { result.periods ≡ record { evictor = config.evict_ms; bucket = BUCKET_MS; threshold = THRESHOLD_MS } }
         ensures limits { result.limits ≡ server_limits }
+        ensures input { result.input ≡ None }
     {
         Plan {
             config,
@@ -71,6 +78,7 @@ impl Plan {
             sessions,
             periods: Periods::of_server(config.evict_ms),
             limits: Limits::of_server(),
+            input: None,
         }
     }
 }
@@ -81,6 +89,41 @@ fn workers_of(wanted: u32) -> u32
     ensures few { result ≤ MOST_WORKERS }
 {
     wanted.clamp(1, MOST_WORKERS)
+}
+
+/// What a server by a plan counts at first.
+fn admission_of(plan: &Plan) -> Admission
+    ensures { result ≡ record { left = plan.now.sessions; came = 0; refused = 0; here = 0; loops = max 1 (min plan.now.workers MOST_WORKERS); is_closed = false; is_stopping = false; has_failed = false } }
+{
+    let loops = workers_of(plan.workers);
+    Admission::new(plan.sessions, loops)
+}
+
+/// What a server ends by that can't begin, since the system refuses something: `OutOfMemory` where that is memory, else `Read`.
+fn fault_of(error: &io::Error) -> Fault
+    ensures { (result ≡ Fault.OutOfMemory) ⊎ (result ≡ Fault.Read) }
+{
+    match error.kind() {
+        ErrorKind::OutOfMemory => Fault::OutOfMemory,
+        _ => Fault::Read,
+    }
+}
+
+/// What the threads of a server by a plan share, and what its loops poll with. `Read` where the system refuses something, or the clock can't be
+/// read; `OutOfMemory`.
+fn open_hub<'a, R: Wait + Clock + Net>(
+    rt: &'a R,
+    alloc: Global,
+    plan: &Plan,
+) -> Result<(Hub<'a, R>, Vec<Poll>), Fault>
+    ensures loops { IfOk result (λ opened. vec_len opened.1 ≡ max 1 (min plan.now.workers MOST_WORKERS)) }
+    ensures fault { IfErr result IsBegin }
+{
+    let admission = admission_of(plan);
+    match Hub::open(rt, alloc, plan.limits, plan.periods, admission) {
+        Ok(opened) => Ok(opened),
+        Err(error) => Err(fault_of(&error)),
+    }
 }
 
 /// A worker of a server, over a book that `K` names.
@@ -163,23 +206,56 @@ fn add_timers<'a, K: Label, R: Wait + Clock, H: Chooser + Drop>(
     add(workers, rt, alloc, shared, Work::Threshold)
 }
 
-/// The door of a server, its loops, which poll with these, and the two threads for requests that take long. An error is the system's or the clock's.
+/// Adds a loop that polls with each of these. An error is the system's or the clock's.
+fn add_loops<'a, R: Wait + Clock>(
+    stations: &mut Vec<Station<'a, R>>,
+    hub: &'a Hub<'a, R>,
+    polls: Vec<Poll>,
+) -> io::Result<()>
+    ensures { OnOk result (vec_len stations.new ≡ vec_len stations.old + vec_len polls) }
+{
+    for poll in polls {
+        let number = stations.len().saturating_sub(1);
+        stations.push(Station::Loop(Loop::new(hub, number, poll)?))?;
+    }
+    Ok(())
+}
+
+/// The door of a server, its loops, which poll with these, and the two threads for requests that take long, in this order. An error is the system's or
+/// the clock's.
 fn make_stations<'a, R: Wait + Clock + Net>(
     hub: &'a Hub<'a, R>,
     listener: &TcpListener,
+    input: Option<RawFd>,
     polls: Vec<Poll>,
-) -> io::Result<Vec<Station<'a, R>>> {
+) -> io::Result<Vec<Station<'a, R>>>
+    ensures { IfOk result (λ stations. vec_len stations ≡ vec_len polls + 3) }
+{
     let mut stations = Vec::with_capacity(
         hub.alloc,
         polls.len().saturating_add(OTHER_WORKERS as usize),
     )?;
-    stations.push(Station::Door(Door::new(hub, hub.rt, listener)?))?;
-    for (number, poll) in polls.into_iter().enumerate() {
-        stations.push(Station::Loop(Loop::new(hub, number, poll)?))?;
-    }
+    stations.push(Station::Door(Door::new(hub, hub.rt, listener, input)?))?;
+    add_loops(&mut stations, hub, polls)?;
     stations.push(Station::Pool(Hand::new(hub)))?;
     stations.push(Station::Pool(Hand::new(hub)))?;
     Ok(stations)
+}
+
+/// The same, with the fault that a server ends by where they can't be made.
+fn stations_of<'a, R: Wait + Clock + Net>(
+    hub: &'a Hub<'a, R>,
+    listener: &TcpListener,
+    plan: &Plan,
+    polls: Vec<Poll>,
+) -> Result<Vec<Station<'a, R>>, Fault>
+    ensures made { IfOk result (λ stations. vec_len stations ≡ vec_len polls + 3) }
+    ensures fault { IfErr result IsBegin }
+{
+    match make_stations(hub, listener, plan.input, polls) {
+        Ok(stations) => Ok(stations),
+        Err(error) => Err(fault_of(&error)),
+    }
 }
 
 /// The workers of a server: those of sessions, one for each of these stations, and then those of the timers. `OutOfMemory`, and the fault of `Shared::pass`.
@@ -328,6 +404,14 @@ fn judge_accepts(has_failed: bool, outcome: Result<Finished, Fault>) -> Result<F
     Ok(outcome)
 }
 
+/// Whether there is a thread for each worker of a server with so many loops.
+fn has_threads<R: Threads + Wait + Clock + Sync>(rt: &R, alloc: Global, loops: u32) -> bool {
+    let stations = loops.saturating_add(OTHER_WORKERS) as usize;
+    let workers = stations.saturating_add(TIMERS);
+    let patience = Duration::from_millis(GATHERING_MS);
+    can_gather(rt, alloc, workers, workers, patience).unwrap_or(false)
+}
+
 /// Serves by a plan, and gives the book, closed and settled, rather than writing a line: its entries lead from the base to the end, and the
 /// log of each worker, from the first entry's number on, is its part of them.
 ///
@@ -353,14 +437,11 @@ pub fn serve_book<
     ensures fault { IfErr result IsEnd }
 {
     let shared: Shared<K> = Shared::open(alloc, plan.config, plan.expected, 0, blanks)?;
-    let loops = workers_of(plan.workers);
-    let opened = Hub::open(rt, alloc, plan.limits, plan.periods, plan.sessions, loops);
-    let Ok((hub, polls)) = opened else {
-        return Err(Fault::Read);
-    };
-    let Ok(stations) = make_stations(&hub, listener, polls) else {
-        return Err(Fault::Read);
-    };
+    if !has_threads(rt, alloc, workers_of(plan.workers)) {
+        return Err(Fault::OutOfMemory);
+    }
+    let (hub, polls) = open_hub(rt, alloc, plan)?;
+    let stations = stations_of(&hub, listener, plan, polls)?;
     let outcome = serve_and_close(rt, alloc, shared, &hub, stations, chooser);
     judge_accepts(hub.counts().has_failed, outcome)
 }
@@ -395,23 +476,26 @@ fn serve_new<R: Threads + Wait + Clock + Net + Sync, H: Chooser + Send + Drop>(
 /// Serves so many connections of a listener as the plan says, by its workers, and then writes `served N`, N being how many there were.
 ///
 /// A book is opened with the settings and the number expected, without peers. Each accepted connection is one session of
-/// HTTP/1.1 (`eu_session::serve_session`), at the machine's time, of a worker that is free; while none is, connections wait in the
-/// system's queue. Beside the workers of sessions the evictor takes its turns, by the chooser's words, the bucket ends minutes, and the
-/// threshold is updated, each a period apart. Once the sessions have ended, so have these. Then the book is closed, and settled with
-/// what each worker logged.
+/// HTTP/1.1 (`eu_session::take_turn`, turn by turn), at the machine's time. Each belongs to one of the loops, which visits it whenever something has come,
+/// or more can be sent; a request that takes long is answered by one of two other threads meanwhile. Beside them the evictor takes its turns, by the
+/// chooser's words, the bucket ends minutes, and the threshold is updated, each a period apart. Once the sessions have ended, so have these. Then the
+/// book is closed, and settled with what each worker logged.
 ///
-/// A read of a connection ends its session after `read` milliseconds of the plan's timeouts, a write after `write`. After its last
-/// response what still comes is dropped, up to `linger_bytes` and for at most `linger` milliseconds, and the connection is closed
-/// (RFC 9112, section 9.6).
+/// Where as many connections are open as the plan allows, a further one is told so (503), and isn't counted as served. A connection whose peer is late
+/// by the plan's patience is closed; one whose request isn't whole is told so (408). After its last response what still comes is dropped, up to
+/// `linger_bytes` and for at most `linger` milliseconds, and the connection is closed (RFC 9112, section 9.6). Where the plan names an input, the server
+/// stops at its end: no more is accepted, who is idle is closed, and requests that have begun are answered.
 ///
 /// # Errors
 ///
-/// - `Read` where a connection can't be accepted, for another reason than that it was aborted before, its network failed or a
-///   signal came. No further session begins then; those that began are finished, and the book is closed and settled, before it is
-///   told. Also where the machine's clock can't be read at the start.
-/// - `OutOfMemory` where there is no memory to open the book or for the workers, before a connection is accepted, or to close the book.
+/// - `Read` where a connection can't be accepted, for another reason than that it was aborted before, its network failed, a
+///   signal came or there is no descriptor; or where the system refuses to tell what has come of connections. No further session begins then; those that
+///   began are finished, and the book is closed and settled, before it is told. Also where the machine's clock can't be read at the start, or the input
+///   can't be polled.
+/// - `OutOfMemory` where there is no memory to open the book or for the workers, or not a thread for each of them, before a connection is accepted; or
+///   no memory to close the book.
 /// - `PassMissing` and `Mismatch` where the book can't be closed or settled.
-/// - `TooManyPasses` by the contract, but nineteen passes are made at most.
+/// - `TooManyPasses` by the contract, but 22 passes are made at most.
 /// - `Write` where `served N` can't be written or flushed.
 ///
 /// In all cases but the last nothing is written.

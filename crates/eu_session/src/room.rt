@@ -1,4 +1,6 @@
 //! What is kept from session to session.
+ghost use Rattle.std.specs.Prelude.{◌≡◌, []};
+
 use crate::talk::Talk;
 use eu_framing::{EMPTY_ROOM, Room};
 use std::alloc::Global;
@@ -13,7 +15,10 @@ pub struct SessionRoom {
 
 impl SessionRoom {
     /// Room that has no memory yet: the first request takes it.
-    pub fn new(alloc: Global) -> SessionRoom {
+    pub fn new(alloc: Global) -> SessionRoom
+        ensures inbox { result.talk.inbox ≡ [] }
+        ensures served { result.talk.served ≡ 0 }
+    {
         SessionRoom {
             talk: Talk::new(alloc),
             room: EMPTY_ROOM,

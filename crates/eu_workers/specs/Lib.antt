@@ -2,3 +2,4 @@ pub mod Ended
 pub mod Returned
 pub mod Timers
 pub mod All
+pub mod Visits

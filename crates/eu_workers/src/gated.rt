@@ -1,38 +1,62 @@
 //! Connections behind a gate.
-ghost use Rattle.std.specs.Prelude.{◌≡◌, ◌||◌, false};
+ghost use Rattle.std.specs.Prelude.{◌≡◌, ◌≤◌, ◌<◌, ◌||◌, ◌&&◌, not, true, false, length, nat_lt, take, IfOk, OnErr, OnOk};
+ghost use Rattle.std.specs.Io.KnownBytes.{Consumes, IsAtEnd, Keeps};
 
 use eu_gate::{Gate, Go, Point};
 use eu_hall::Arriving;
 use eu_stream::{ReadFault, Sink, Source, WriteFault};
 use std::io::Read;
 
-/// What has arrived of a connection; it passes a gate before each read. Where the gate says `Stop` the read fails.
+/// What has arrived of a connection; it passes a gate before each read. Where the gate says `Stop` the read fails, as one does that would wait. Where
+/// the connection is drained it would, and nothing is read.
 #[derive(Drop)]
 pub(crate) struct GatedSource<'a, R: Read, G: Gate> {
     arriving: Arriving<'a, R>,
     gate: &'a G,
     who: u32,
+    reads_on: bool,
+    is_drained: bool,
     was_stopped: bool,
+    was_drained: bool,
 }
 
 impl<'a, R: Read, G: Gate> GatedSource<'a, R, G> {
-    /// A reader for the worker of that number. No read of it has failed so far.
-    pub(crate) fn new(reader: &'a mut R, gate: &'a G, who: u32) -> GatedSource<'a, R, G>
+    /// A reader for the worker of that number. No read of it has failed so far. It reads on, or may be drained, as `Visit` says.
+    pub(crate) fn new(
+        reader: &'a mut R,
+        gate: &'a G,
+        who: u32,
+        reads_on: bool,
+        is_drained: bool,
+    ) -> GatedSource<'a, R, G>
         ensures stream { ⟦<GatedSource<'a, R, G> as Source>⟧.stream result ≡ reader.entry.ghost_name }
         ensures remaining { ⟦<GatedSource<'a, R, G> as Source>⟧.remaining result ≡ R.remaining reader.old }
         ensures sound { ⟦<GatedSource<'a, R, G> as Source>⟧.failed result ≡ false }
+        ensures drained { (result.reads_on ≡ reads_on) × (result.is_drained ≡ is_drained) }
     {
         GatedSource {
             arriving: Arriving::new(reader),
             gate,
             who,
+            reads_on,
+            is_drained,
             was_stopped: false,
+            was_drained: false,
         }
     }
 
     /// Whether its last read would have waited, and the gate stopped none.
-    pub(crate) fn waits(&self) -> bool {
-        self.arriving.waits() && !self.was_stopped
+    pub(crate) fn waits(&self) -> bool
+        ensures { result ≡ ((self.now.arriving.waits || self.now.was_drained) && not self.now.was_stopped) }
+    {
+        (self.arriving.waits() || self.was_drained) && !self.was_stopped
+    }
+
+    /// Whether more than was read hasn't come.
+    pub(crate) fn is_drained(&self) -> bool
+        ensures { result ≡ self.now.is_drained }
+    {
+        self.is_drained
     }
 }
 
@@ -41,14 +65,30 @@ impl<'a, R: Read, G: Gate> Source for GatedSource<'a, R, G> {
 
     ghost remaining = { λ s. R.remaining s.arriving.reader.now };
 
-    ghost failed = { λ s. s.was_stopped || (s.arriving.waits || s.arriving.has_failed) };
+    ghost failed = { λ s. s.was_stopped || (s.was_drained || (s.arriving.waits || s.arriving.has_failed)) };
 
-    fn read_some(&mut self, buffer: &mut [u8]) -> Result<usize, ReadFault> {
+    fn read_some(&mut self, buffer: &mut [u8]) -> Result<usize, ReadFault>
+        ensures bound { IfOk result (λ n. n ≤ length buffer.new) }
+        ensures bytes { IfOk result (λ n. Consumes (R.remaining self.old.arriving.reader.now) (R.remaining self.new.arriving.reader.now) (take n buffer.new)) }
+        ensures end { IfOk result (λ n. n ≡ 0 → 0 < length buffer.new → IsAtEnd (R.remaining self.new.arriving.reader.now)) }
+        ensures sound { OnOk result (⟦<GatedSource<'a, R, G> as Source>⟧.failed self.new ≡ ⟦<GatedSource<'a, R, G> as Source>⟧.failed self.old) }
+        ensures kept { OnErr result (Keeps (R.remaining self.old.arriving.reader.now) (R.remaining self.new.arriving.reader.now)) }
+        ensures failed { OnErr result (⟦<GatedSource<'a, R, G> as Source>⟧.failed self.new ≡ true) }
+        ensures same_stream { self.new.arriving.reader.ghost_name ≡ self.old.arriving.reader.ghost_name }
+        ensures drained { self.old.is_drained ≡ true → self.new ≡ record self.old { was_drained = true } }
+        ensures short { IfOk result (λ n. self.new.is_drained ≡ (not self.old.reads_on && nat_lt 0 n && nat_lt n (length buffer.new))) }
+    {
+        if self.is_drained {
+            self.was_drained = true;
+            return Err(ReadFault);
+        }
         if self.gate.pass(self.who, Point::Read) == Go::Stop {
             self.was_stopped = true;
             return Err(ReadFault);
         }
-        self.arriving.read_some(buffer)
+        let count = self.arriving.read_some(buffer)?;
+        self.is_drained = !self.reads_on && count > 0 && self.arriving.was_short();
+        Ok(count)
     }
 }
 

@@ -1,6 +1,8 @@
 //! Workers that serve sessions, visit by visit.
-ghost use Rattle.std.specs.Prelude.{◌≡◌, ◌<◌, ◌⊎◌};
+ghost use Rattle.std.specs.Prelude.{◌≡◌, ◌<◌, ◌⊎◌, ◌↔◌, ◌||◌, [], None};
 ghost use Rattle.eu_workers.specs.Returned.{HasTurn, IsAsked, TakesTurns};
+ghost use Rattle.eu_workers.specs.Visits.{has_ended, judged};
+ghost use Rattle.eu_workers.specs.Visits as spec;
 
 use crate::ended::Ended;
 use crate::gated::{GatedSink, GatedSource};
@@ -41,7 +43,9 @@ enum Progress {
 }
 
 /// What is awaited of a peer, of whose session no more can be read now.
-fn phase_of(talk: &Talk) -> Phase {
+fn phase_of(talk: &Talk) -> Phase
+    ensures { result ≡ spec.phase_of talk.now.inbox }
+{
     if talk.inbox.as_slice().is_empty() {
         Phase::Idle
     } else {
@@ -49,18 +53,49 @@ fn phase_of(talk: &Talk) -> Phase {
     }
 }
 
-/// Takes one turn of the session of a connection.
+/// What came of a turn, where the last read would have waited, or not. A session that has ended is noted, also where there was no memory for an answer,
+/// since that may have been told; one that has failed leaves its connection to be closed.
+fn judge<S>(
+    turned: Result<Turned, SessionFault>,
+    waits: bool,
+    guest: &mut Guest<S, Talk>,
+) -> Progress
+    ensures value { result ≡ judged turned waits guest.old.talk.inbox }
+    ensures ended { guest.new ≡ record guest.old { has_ended = guest.old.has_ended || has_ended turned } }
+{
+    match turned {
+        Ok(Turned::GoesOn) => Progress::Answered,
+        Ok(Turned::Ended(_)) | Err(SessionFault::OutOfMemory) => {
+            guest.has_ended = true;
+            Progress::Answered
+        }
+        Err(SessionFault::Read) if waits => {
+            Progress::Over(Left::Waits(phase_of(&guest.talk), Happened::Nothing))
+        }
+        Err(_) => Progress::Over(Left::Gone),
+    }
+}
+
+/// Takes one turn of the session of a connection, of which all is sent: a response never comes into the middle of another.
 fn turn<K: Label, R: Wait, G: Gate, C: Clock, S: Read>(
     site: &Site<'_, K, R, G>,
     who: u32,
     room: &mut Room,
     seat: &mut Seat<'_, K, R>,
     clock: &mut C,
-    guest: &mut Guest<S, Talk>,
+    visit: &mut Visit<S, Talk>,
 ) -> Progress
+    requires { visit.old.guest.unsent.rest ≡ [] }
     ensures { IsAsked seat.old.pass seat.new.pass }
 {
-    let mut source = GatedSource::new(&mut guest.socket, site.gate, who);
+    let guest = &mut visit.guest;
+    let mut source = GatedSource::new(
+        &mut guest.socket,
+        site.gate,
+        who,
+        visit.reads_on,
+        visit.is_drained,
+    );
     let mut sink = GatedSink::new(&mut guest.unsent, site.gate, who);
     let turned = take_turn(
         site.alloc,
@@ -73,21 +108,14 @@ fn turn<K: Label, R: Wait, G: Gate, C: Clock, S: Read>(
         &mut sink,
     );
     let waits = source.waits();
-    match turned {
-        Ok(Turned::GoesOn) => Progress::Answered,
-        Ok(Turned::Ended(_)) => {
-            guest.has_ended = true;
-            Progress::Answered
-        }
-        Err(SessionFault::Read) if waits => {
-            Progress::Over(Left::Waits(phase_of(&guest.talk), Happened::Nothing))
-        }
-        Err(_) => Progress::Over(Left::Gone),
-    }
+    visit.is_drained = source.is_drained();
+    judge(turned, waits, guest)
 }
 
 /// How a visit left a connection, at which a request was answered before.
-fn after_answers(left: Left) -> Left {
+fn after_answers(left: Left) -> Left
+    ensures { result ≡ spec.after_answers left }
+{
     match left {
         Left::Waits(phase, _) => Left::Waits(phase, Happened::Answered),
         left => left,
@@ -95,7 +123,10 @@ fn after_answers(left: Left) -> Left {
 }
 
 /// Sends what is to be sent. Tells how that leaves the connection where not all is sent.
-fn send<S: Write>(guest: &mut Guest<S, Talk>) -> Option<Left> {
+fn send<S: Write>(guest: &mut Guest<S, Talk>) -> Option<Left>
+    ensures all { (result ≡ None) ↔ (guest.new.unsent.rest ≡ []) }
+    ensures rest { guest.new ≡ record guest.old { socket = guest.new.socket; unsent = guest.new.unsent } }
+{
     let before = guest.unsent.len();
     match guest.unsent.send(&mut guest.socket) {
         Ok(Sent::All) => None,
@@ -116,17 +147,18 @@ fn step<K: Label, R: Wait, G: Gate, C: Clock, S: Read + Write>(
     clock: &mut C,
     visit: &mut Visit<S, Talk>,
 ) -> Progress
-    ensures { IsAsked seat.old.pass seat.new.pass }
+    requires sent { visit.old.guest.unsent.rest ≡ [] }
+    ensures asked { IsAsked seat.old.pass seat.new.pass }
+    ensures sent { result ≡ Progress.Answered → visit.new.guest.unsent.rest ≡ [] }
 {
-    let guest = &mut visit.guest;
-    if guest.has_ended {
+    if visit.guest.has_ended {
         return Progress::Over(Left::Waits(Phase::Lingering, Happened::Nothing));
     }
-    if visit.leaves_long && is_long(guest.talk.inbox.as_slice()) {
+    if visit.leaves_long && is_long(visit.guest.talk.inbox.as_slice()) {
         return Progress::Over(Left::Long);
     }
-    match turn(site, who, room, seat, clock, guest) {
-        Progress::Answered => match send(guest) {
+    match turn(site, who, room, seat, clock, visit) {
+        Progress::Answered => match send(&mut visit.guest) {
             Some(left) => Progress::Over(after_answers(left)),
             None => Progress::Answered,
         },
@@ -176,13 +208,14 @@ fn visit<K: Label, R: Wait, G: Gate, S: Incoming<Talk = Talk>, C: Clock>(
     lend(&mut visit.guest.talk, &mut workplace.inbox);
     let left = serve(site, who, &mut workplace.room, seat, clock, &mut visit);
     lend(&mut visit.guest.talk, &mut workplace.inbox);
+    workplace.inbox.begin_anew(site.alloc);
     source.take_back(visit, left);
     seat.pass.trim();
     if left == Left::Gone { Err(()) } else { Ok(()) }
 }
 
 /// Visits one connection after the other, until there is none, the gate stops it or it had so many turns, and gives its pass back.
-/// `who` is the worker's number at the gate, 1 to 16.
+/// `who` is the worker's number at the gate, 1 to 19.
 ///
 /// A turn passes the gate, takes the next connection for which there is something to do, sends what is to be sent of it, takes turns of
 /// its session (`eu_session::take_turn`), gives it back, and trims the log of the pass (`Pass::trim`). Each read of the connection passes

@@ -214,3 +214,29 @@ fn an_empty_inbox_gives_its_memory_back(rt: HostRuntime) {
     assert!(rt; released(alloc, b"GET / HTTP/1.1\r\nHost: x\r\n\r\n") == (0, true));
     assert!(rt; released(alloc, b"GET / HTTP/1.1\r\nHost") == (20, false));
 }
+
+/// A request whose body waits for its last line, behind one chunk of 65,000 bytes.
+fn large_chunk(alloc: Global) -> Result<Vec<u8>, AllocError> {
+    let head = b"PUT / HTTP/1.1\r\nHost: x\r\nTransfer-Encoding: chunked\r\n\r\nfde8\r\n";
+    let mut text = Vec::from_slice(alloc, head.as_slice())?;
+    text.resize(text.len().saturating_add(65_000), b'x')?;
+    text.extend_from_slice(b"\r\n")?;
+    Ok(text)
+}
+
+/// How many bytes an inbox holds that waits there, and whether its memory is said to be as much and that of the body.
+fn held_in_a_body(alloc: Global) -> Result<(usize, bool), AllocError> {
+    let text = large_chunk(alloc)?;
+    let mut inbox = Inbox::new(alloc);
+    let mut room = EMPTY_ROOM;
+    let mut reader = Drip::new(&text);
+    let answer = next_of(alloc, &mut reader, &mut inbox, &mut room);
+    drop(answer);
+    let held = inbox.as_slice().len();
+    Ok((held, inbox.capacity() >= held.saturating_add(65_000)))
+}
+
+#[test]
+fn the_memory_of_a_body_that_waits_is_counted(rt: HostRuntime) {
+    assert!(rt; held_in_a_body(rt.alloc()) == Ok((65_063, true)));
+}

@@ -13,7 +13,7 @@ use eu_stream::Writing;
 use libc::net::{SHUT_RDWR, shutdown};
 use std::alloc::Global;
 use std::marker::Brand;
-use std::net::{Net, TcpListener, TcpStream};
+use std::net::{Net, Shutdown, TcpListener, TcpStream};
 use std::os::fd::AsRawFd;
 use std::sync::Wait;
 use std::test::Fail;
@@ -187,6 +187,7 @@ pub fn plan(sessions: u32, workers: u32, waits: Waits) -> Result<Plan, Fault> {
             },
             linger_bytes,
         },
+        input: None,
     })
 }
 
@@ -300,6 +301,64 @@ const GIVEN_UP: [Row; 2] = [
         ],
     ),
 ];
+
+/// What a client is told whose request doesn't come in time (RFC 9110, section 15.5.9).
+const SLOW: &str = "HTTP/1.1 408 Request Timeout\r\nContent-Length: 0\r\nConnection: close\r\n\r\n";
+
+/// Half a request, after which nothing comes; and one of which a byte comes now and then: bytes don't prolong its time.
+const TOO_SLOW: [Row; 2] = [
+    (
+        1,
+        1,
+        (700, 1_000, 100, 65_536),
+        &[
+            Step::Connect(1),
+            Step::Send(0, &[("PUT /eureka/apps/A", 1)]),
+            Step::Read(0, SLOW),
+            Step::Within(3_000),
+        ],
+    ),
+    (
+        1,
+        1,
+        (700, 1_000, 100, 65_536),
+        &[
+            Step::Connect(1),
+            Step::CutOff(0, &[("x", 1)], 150, 20),
+            Step::Within(3_000),
+        ],
+    ),
+];
+
+#[test]
+fn a_request_that_is_too_slow_is_given_up(rt: HostRuntime) -> Result<(), Fail> {
+    assert_eq!(rt; first_wrong(&rt, rt.alloc(), TOO_SLOW.as_slice())?, None);
+    Ok(())
+}
+
+/// What a client is told for which there is no room (RFC 9110, section 15.6.4).
+const FULL: &str =
+    "HTTP/1.1 503 Service Unavailable\r\nContent-Length: 0\r\nRetry-After: 30\r\nConnection: close\r\n\r\n";
+
+/// A server with room for two connections: the next ones are told so, those that are held go on, and once they have left there is room. Who was
+/// refused isn't counted as served.
+#[test]
+fn a_client_is_told_that_there_is_no_room(rt: HostRuntime) -> Result<(), Fail> {
+    let mut plan = plan(3, 1, USUAL)?;
+    plan.limits.connections = 2;
+    let steps = [
+        Step::Connect(2),
+        Step::Sleep(500),
+        Step::Ask(3, RENEWAL, FULL),
+        Step::Send(0, RENEWAL),
+        Step::Read(0, LAST_MISSING),
+        Step::Leave(2),
+        Step::Sleep(500),
+        Step::Ask(1, RENEWAL, LAST_MISSING),
+    ];
+    assert!(rt; plays(&rt, rt.alloc(), &plan, Way::Served, steps.as_slice())?);
+    Ok(())
+}
 
 #[test]
 fn clients_that_do_nothing_are_given_up(rt: HostRuntime) -> Result<(), Fail> {
@@ -464,6 +523,48 @@ fn a_failed_accept_ends_the_server(rt: HostRuntime) -> Result<(), Fail> {
     Ok(())
 }
 
+/// Whether a server that takes as many connections as come ends at the end of its input, and serves two before: one that is answered, and one that
+/// is idle then.
+fn stops<R: Threads + Wait + Clock + Sync + Net<Listener = TcpListener, Stream = TcpStream>>(
+    rt: &R,
+    alloc: Global,
+    listener: &TcpListener,
+) -> Result<bool, Fail> {
+    let inputs = TcpListener::bind(rt, "127.0.0.1:0")?;
+    let far = TcpStream::connect(rt, inputs.local_addr()?)?;
+    let (near, _) = inputs.accept()?;
+    let mut plan = plan(0, 2, USUAL)?;
+    plan.sessions = u64::MAX;
+    plan.input = Some(near.as_raw_fd());
+    let mut client = Client::new(rt, alloc, listener.local_addr()?)?;
+    let mut out = Vec::new(alloc);
+    let steps = [
+        Step::Ask(1, REGISTRATION, REGISTERED),
+        Step::Connect(1),
+        Step::Sleep(300),
+    ];
+    let (left, wrong) = thread::join(
+        rt,
+        || serve_by(rt, alloc, listener, &plan, FirstChooser, &mut out),
+        || {
+            let wrong = client.first_wrong(&steps);
+            let ended = far.shutdown(Shutdown::Both);
+            wrong.is_none() && ended.is_ok()
+        },
+    );
+    Ok(left.is_ok() && wrong && out.as_slice() == b"served 2\n".as_slice())
+}
+
+/// The one that is idle isn't waited for.
+#[test]
+fn a_server_ends_at_the_end_of_its_input(rt: HostRuntime) -> Result<(), Fail> {
+    let began = Instant::now(&rt)?;
+    let listener = TcpListener::bind(&rt, "127.0.0.1:0")?;
+    assert!(rt; stops(&rt, rt.alloc(), &listener)?);
+    assert!(rt; began.elapsed(&rt)? < Duration::from_secs(8));
+    Ok(())
+}
+
 /// Whether preservation is on, the percentage, the interval and the time between evictions.
 type Settings = (bool, u32, u32, u32);
 
@@ -484,7 +585,7 @@ const PAGE_OF_NOBODY: &str =
 type Ordinary = (Settings, u32, u32, u32, &'static [Step<'static>]);
 
 const ORDINARY: [Ordinary; 3] = [
-    // Sixteen at once: a silent client is waited for longer than the other one waits here.
+    // Fifteen silent clients are waited for longer than the other one waits here.
     (
         (true, 85, 30, 60_000),
         1,
@@ -497,7 +598,7 @@ const ORDINARY: [Ordinary; 3] = [
             Step::Leave(15),
         ],
     ),
-    // One waits for as long as another one, which says nothing, is connected.
+    // None waits for another one, which says nothing.
     (
         (false, 50, 20, 1_000),
         70_007,
@@ -506,9 +607,9 @@ const ORDINARY: [Ordinary; 3] = [
         &[
             Step::Connect(2),
             Step::Send(1, LOOK),
-            Step::Silence(1),
-            Step::Leave(1),
             Step::Read(1, PAGE),
+            Step::Within(8_000),
+            Step::Leave(1),
         ],
     ),
     // Nobody is counted anew within the first quarter of an hour.

@@ -43,5 +43,7 @@ pub fn visit<S>(alloc: Global, socket: S, most_turns: u32) -> Visit<S, Talk> {
         awaited: Awaited::begin(PATIENCE, Phase::Idle, 0),
         most_turns,
         leaves_long: false,
+        reads_on: true,
+        is_drained: false,
     }
 }

@@ -14,6 +14,7 @@ sends-preserved g c =
     record {
       within = omega (arith, took.1, length-drop sent bytes);
       wrote = rw take-add (Appends-trans _ _ _ (take sent bytes) (take count (drop sent bytes)) c.sends.invariant.wrote took.2);
+      no_wait = c.in-Took.ensures.waits ∙ c.sends.invariant.no_wait;
       sound = c.in-Took.ensures.has_failed ∙ c.sends.invariant.sound;
       same_stream = c.in-Took.ensures.same_stream ∙ c.sends.invariant.same_stream;
     }

@@ -1,0 +1,43 @@
+-- How a visit leaves a connection
+use Rattle.std.specs.Prelude.{ℕ, List, [], ◌∷◌, Bool, true, false, Result, Ok, Err, ◌||◌}
+use Rattle.eu_hall.specs.declared.guest.Left.{Left}
+use Rattle.eu_hall.specs.declared.guest.Left.TheVariants.{Waits, GoesOn, Long, Gone}
+use Rattle.eu_hall.specs.declared.phase.Happened.TheVariants as happened
+use Rattle.eu_hall.specs.declared.phase.Phase.{Phase}
+use Rattle.eu_hall.specs.declared.phase.Phase.TheVariants.{Idle, Asking}
+use Rattle.eu_session.specs.declared.faults.SessionFault.{SessionFault}
+use Rattle.eu_session.specs.declared.faults.SessionFault.TheVariants as fault
+use Rattle.eu_session.specs.declared.talk.Turned.{Turned}
+use Rattle.eu_session.specs.declared.talk.Turned.TheVariants as turned
+use Rattle.eu_workers.specs.declared.sessions.Progress.{Progress}
+use Rattle.eu_workers.specs.declared.sessions.Progress.TheVariants.{Answered, Over}
+
+-- what is awaited of a peer of whose session these bytes were read and not yet used: a request, or the rest of one
+abbrev pub phase_of : List ℕ → Phase
+phase_of [] = Idle
+phase_of (byte ∷ bytes) = Asking
+
+-- the same, of a visit at which a request was answered
+abbrev pub after_answers : Left → Left
+after_answers (Waits phase what) = Waits phase happened.Answered
+after_answers GoesOn = GoesOn
+after_answers Long = Long
+after_answers Gone = Gone
+
+-- what came of a turn, where the last read would have waited, or not, and these bytes weren't used: a session that waits for more isn't over, one that has failed is gone;
+-- that there was no memory for an answer may have been told
+abbrev pub judged : Result Turned SessionFault → Bool → List ℕ → Progress
+judged (Ok turned.GoesOn) waits inbox = Answered
+judged (Ok (turned.Ended requests)) waits inbox = Answered
+judged (Err fault.Read) true inbox = Over (Waits (phase_of inbox) happened.Nothing)
+judged (Err fault.Read) false inbox = Over Gone
+judged (Err fault.Write) waits inbox = Over Gone
+judged (Err fault.OutOfMemory) waits inbox = Answered
+
+-- whether the session has ended by the turn, and what was told is to be sent
+abbrev pub has_ended : Result Turned SessionFault → Bool
+has_ended (Ok turned.GoesOn) = false
+has_ended (Ok (turned.Ended requests)) = true
+has_ended (Err fault.OutOfMemory) = true
+has_ended (Err fault.Read) = false
+has_ended (Err fault.Write) = false

@@ -1,5 +1,5 @@
 -- What the command line takes, and what its options say
-use Rattle.std.specs.Prelude.{ℕ, Bool, Option, List, [], ◌∷◌, None, Some, ◌≡◌, true, false, codes, map, option_map, pos}
+use Rattle.std.specs.Prelude.{ℕ, Bool, Option, [], ◌∷◌, None, Some, ◌≡◌, true, false, codes, map, option_map, pos}
 use Rattle.std.specs.Str.{bytes_eq}
 use Rattle.std.specs.Str.Parse.{IsNumeral, digits_value, without_leading_plus}
 use Rattle.std.specs.Net.Grammar.{IsIpText}

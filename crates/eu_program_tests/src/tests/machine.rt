@@ -1,5 +1,6 @@
 //! A machine whose words and input are given, and which keeps what is written to it.
 use crate::tests::files::{Kept, Place, open_kept};
+use libc::net::{SHUT_RDWR, shutdown};
 use std::alloc::{Alloc, Allocator, Global};
 use std::env::FillError;
 use std::fmt::Display;
@@ -7,6 +8,7 @@ use std::fs::{Metadata, OpenOptions};
 use std::io;
 use std::io::{BufRead, Error, ErrorKind, Lines, Read, Write};
 use std::net::{Net, SocketAddr, TcpListener, TcpStream};
+use std::os::fd::AsRawFd;
 use std::random::RandomSource;
 use std::rt::{Env, Files};
 use std::sync::{Mutex, Wait};
@@ -128,7 +130,9 @@ impl<R: Net<Listener = TcpListener, Stream = TcpStream>> Net for Machine<'_, R> 
 
     fn bind(&self, address: SocketAddr) -> io::Result<TcpListener> {
         let listener = self.rt.bind(address)?;
-        listener.set_nonblocking(matches!(self.broken, Broken::Accept))?;
+        if matches!(self.broken, Broken::Accept) {
+            let _ = shutdown(listener.as_raw_fd(), SHUT_RDWR);
+        }
         Ok(listener)
     }
 

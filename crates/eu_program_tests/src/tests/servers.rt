@@ -96,15 +96,18 @@ const TWO: [Step; 7] = [
     Step::Within(5_000),
 ];
 
-/// A client that registers waits until another, which came before it and is silent for a second, has read that nothing is held.
-const IN_TURN: [Step; 7] = [
+/// The page where one lease is held: 7 + 1 are expected.
+const ONE_HELD: &str =
+    "HTTP/1.1 200 OK\r\nContent-Type: text/plain; charset=utf-8\r\nContent-Length: 84\r\nConnection: close\r\n\r\nheld 1\nexpected 8\nthreshold 12\nlast 0\npreservation off\npermitted yes\nstatuses UP_1_\n";
+
+/// A client that registers doesn't wait for another, which came before it and is silent.
+const PASSED: [Step; 6] = [
     Step::Connect,
     Step::Connect,
     Step::Send(1, I1),
-    Step::Sleep(1_000),
-    Step::Send(0, LOOK),
-    Step::Read(0, LOOKED),
     Step::Read(1, DONE),
+    Step::Send(0, LOOK),
+    Step::Read(0, ONE_HELD),
 ];
 
 /// A server's run, and what a client does meanwhile.
@@ -135,13 +138,15 @@ const SLOW: [Step; 4] = [
     Step::Within(5_000),
 ];
 
-/// A client that comes while as many are there as may be is told so.
-const CROWDED: [Step; 5] = [
+/// A client that comes while as many are there as may be is told so, and one that comes later is served.
+const CROWDED: [Step; 7] = [
     Step::Connect,
     Step::Connect,
     Step::Read(1, "HTTP/1.1 503 *"),
     Step::Send(0, LOOK),
     Step::Read(0, "HTTP/1.1 200 *"),
+    Step::Sleep(3_000),
+    Step::Ask(LOOK, "HTTP/1.1 200 *"),
 ];
 
 /// Servers that keep the limits of their connections that they are given.
@@ -155,7 +160,7 @@ const LIMITED: [Served; 3] = [
         &SLOW,
     ),
     (
-        r#"eureka serve --port 0 --sessions 1 --connections 1 = 0 "served 1\n" "listening on 127.0.0.1:*\n""#,
+        r#"eureka serve --port 0 --sessions 2 --connections 1 = 0 "served 2\n" "listening on 127.0.0.1:*\n""#,
         &CROWDED,
     ),
 ];
@@ -213,7 +218,7 @@ const SERVED: [Served; 3] = [
     ),
     (
         r#"eureka serve --port 0 --sessions 2 --workers 1 --expected 7 --preservation off --percent 50 --interval 20 --evict-ms 4000 --seed 3 --journal kept.journal = 0 "served 2\n" "listening on 127.0.0.1:*\n""#,
-        &IN_TURN,
+        &PASSED,
     ),
 ];
 

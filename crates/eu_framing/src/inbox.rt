@@ -1,8 +1,13 @@
 //! The bytes of a connection that were read and not yet used.
-ghost use Rattle.std.specs.Prelude.{◌≡◌, ◌≤◌, ◌+◌, ◌-◌, ◌^◌, [], List, ℕ, IfSome, length, min, vec_capacity};
+ghost use Rattle.std.specs.Prelude.{◌≡◌, ◌≢◌, ◌⊎◌, ◌≤◌, ◌+◌, ◌-◌, ◌^◌, [], List, ℕ, true, IfErr, IfSome, OnOk, length, min, vec_capacity};
+ghost use Rattle.std.specs.Io.KnownBytes.{Keeps};
+ghost use Rattle.eu_framing.specs.Message.{pending};
 ghost use Rattle.eu_framing.specs.Walking.{IsBegun, waiting_memory};
 
+use crate::buffer::{Room, fill};
 use crate::request::Begun;
+use eu_base::Fault;
+use eu_stream::Source;
 use std::alloc::Global;
 use std::marker::Model;
 
@@ -65,6 +70,24 @@ impl Inbox {
         ensures { result.now ≡ self.now }
     {
         self.bytes.as_slice()
+    }
+
+    /// Reads once, where it holds no byte, so that the first bytes of a request can be looked at before it is read. None come only at the end.
+    ///
+    /// `Read` comes where the read failed, and `OutOfMemory` where there was no memory for what might come. After a fault no byte is lost.
+    pub fn read_ahead<R: Source>(&mut self, reader: &mut R, room: &mut Room) -> Result<(), Fault>
+        ensures kept { Keeps (pending self.old (R.remaining reader.old)) (pending self.new (R.remaining reader.new)) }
+        ensures sound { OnOk result (R.failed reader.new ≡ R.failed reader.old) }
+        ensures fault { IfErr result (λ fault. (fault ≡ Fault.OutOfMemory) ⊎ ((fault ≡ Fault.Read) × (R.failed reader.new ≡ true))) }
+        ensures told { IfErr result (λ fault. fault ≢ Fault.Read → R.failed reader.new ≡ R.failed reader.old) }
+        ensures same_stream { R.stream reader.new ≡ R.stream reader.old }
+    {
+        if !self.bytes.is_empty() {
+            return Ok(());
+        }
+        self.begun = None;
+        fill(reader, &mut self.bytes, &mut room.piece)?;
+        Ok(())
     }
 
     /// How many bytes of memory it holds: for its bytes, and for what was taken of a request that isn't whole yet (`memory_of`).

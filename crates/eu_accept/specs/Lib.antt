@@ -1,3 +1,4 @@
 pub mod Admissions
+pub mod Calls
 pub mod Limits
 pub mod Passing

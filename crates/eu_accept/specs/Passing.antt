@@ -17,12 +17,12 @@ is_passing HostUnreachable = true
 is_passing Interrupted = true
 is_passing _ = false
 
--- the process has no descriptor left, or the system has none
-abbrev pub wants_descriptor : Option ℤ → Bool
-wants_descriptor (Some (pos number)) = number == 24 || number == 23
-wants_descriptor (Some (negsuc number)) = false
-wants_descriptor None = false
+-- there is no descriptor (24, 23) or no memory (12, 105) now, or the connection's network had failed before it was accepted (64, 71, 92, 95, 112)
+abbrev pub may_pass : Option ℤ → Bool
+may_pass (Some (pos n)) = n == 12 || n == 23 || n == 24 || n == 64 || n == 71 || n == 92 || n == 95 || n == 105 || n == 112
+may_pass (Some (negsuc n)) = false
+may_pass None = false
 
 -- an accept that failed so is tried again later, or has failed for good
 abbrev pub accepted_by : Error → Accepted
-accepted_by error = if is_passing (error_kind error) || wants_descriptor (raw_os_error error) then Later else Failed
+accepted_by error = if is_passing (error_kind error) || may_pass (raw_os_error error) then Later else Failed

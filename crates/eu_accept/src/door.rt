@@ -28,6 +28,9 @@ enum Accepted {
     Failed,
 }
 
+/// How many connections the door accepts before it looks whether the input has ended.
+const MOST_ACCEPTS: u32 = 1_024;
+
 /// The token of the listener.
 const LISTENER: Token = Token(0);
 
@@ -42,11 +45,9 @@ pub struct Door<'a, R: Wait + Clock> {
     poll: Poll,
     events: Events,
     next: usize,
+    has_input: bool,
+    is_behind: bool,
 }
-
-/// The number of the system's error where the process has no descriptor left (EMFILE), and where the system has none (ENFILE; accept(2) of Linux).
-const NO_DESCRIPTOR: i32 = 24;
-const NO_DESCRIPTOR_OF_ALL: i32 = 23;
 
 /// Whether an accept that failed by such an error is tried again: none waits; or one was aborted before it was accepted, its network failed, or a
 /// signal came (accept(2) of Linux, "Error handling").
@@ -64,18 +65,23 @@ fn is_passing(kind: ErrorKind) -> bool
     )
 }
 
-/// Whether an error of that number means that there is no descriptor: one may be free soon.
-fn wants_descriptor(number: Option<i32>) -> bool
-    ensures { result ≡ spec.wants_descriptor number }
+/// Whether an error of that number of Linux may pass (accept(2), "Error handling"): there is no descriptor (EMFILE 24, ENFILE 23) or no memory
+/// (ENOMEM 12, ENOBUFS 105), of which some may be free soon; or the connection's network had failed before (ENONET 64, EPROTO 71, ENOPROTOOPT 92,
+/// EOPNOTSUPP 95, EHOSTDOWN 112).
+fn may_pass(number: Option<i32>) -> bool
+    ensures { result ≡ spec.may_pass number }
 {
-    number == Some(NO_DESCRIPTOR) || number == Some(NO_DESCRIPTOR_OF_ALL)
+    match number {
+        Some(12 | 23 | 24 | 64 | 71 | 92 | 95 | 105 | 112) => true,
+        _ => false,
+    }
 }
 
 /// What an accept came to that failed so.
 fn failed(error: &io::Error) -> Accepted
     ensures { result ≡ spec.accepted_by error.now }
 {
-    if !is_passing(error.kind()) && !wants_descriptor(error.raw_os_error()) {
+    if !is_passing(error.kind()) && !may_pass(error.raw_os_error()) {
         return Accepted::Failed;
     }
     Accepted::Later
@@ -106,6 +112,8 @@ impl<'a, R: Wait + Clock> Door<'a, R> {
             poll,
             events: Events::with_capacity(hub.alloc, 16)?,
             next: 0,
+            has_input: input.is_some(),
+            is_behind: false,
         })
     }
 
@@ -151,28 +159,47 @@ impl<'a, R: Wait + Clock> Door<'a, R> {
         false
     }
 
-    /// Accepts what waits. An error where accepting has failed for good.
-    fn accept_all(&mut self) -> Result<(), ()> {
-        'accepts: while self.is_open() {
+    /// Accepts what waits, at most `MOST_ACCEPTS`, and tells whether more may wait. An error where accepting has failed for good.
+    fn accept_all(&mut self) -> Result<bool, ()> {
+        for _accept in 0..MOST_ACCEPTS {
+            if !self.is_open() {
+                return Ok(false);
+            }
             match self.accept() {
                 Accepted::One(stream) => self.deal(stream),
-                Accepted::Later => return Ok(()),
+                Accepted::Later => return Ok(false),
                 Accepted::Failed => return Err(()),
             }
         }
-        Ok(())
+        Ok(true)
     }
 
     /// Waits for connections, and accepts them.
     fn round(&mut self) -> Result<(), ()> {
-        let time = Duration::from_millis(TICK_MS);
+        let time = Duration::from_millis(if self.is_behind { 0 } else { TICK_MS });
         if self.poll.poll(&mut self.events, Some(time)).is_err() {
             return Err(());
         }
         if self.has_input_ended() {
             self.hub.stop();
         }
-        self.accept_all()
+        self.is_behind = self.accept_all()?;
+        Ok(())
+    }
+
+    /// Once no more are accepted, sees to the end of the input until the loops have ended.
+    fn see_out(&mut self) {
+        let time = Duration::from_millis(TICK_MS);
+        for _ in self.hub.rt.forever() {
+            let is_over = !self.has_input || self.hub.counts().loops == 0;
+            if is_over || self.poll.poll(&mut self.events, Some(time)).is_err() {
+                return;
+            }
+            if self.has_input_ended() {
+                self.hub.stop();
+                return;
+            }
+        }
     }
 
     /// Accepts connections until as many came as are wanted, or accepting has failed for good.
@@ -185,5 +212,6 @@ impl<'a, R: Wait + Clock> Door<'a, R> {
             has_failed = self.round().is_err();
         }
         self.hub.close_door(has_failed);
+        self.see_out();
     }
 }

@@ -1,5 +1,5 @@
 //! What the threads of a server share beside the book.
-ghost use Rattle.std.specs.Prelude.{◌≡◌, ◌+◌, ◌-◌, ◌^◌, IfOk, min, vec_len};
+ghost use Rattle.std.specs.Prelude.{◌≡◌, ◌+◌, ◌-◌, ◌/◌, ◌^◌, IfOk, min, vec_len};
 ghost use Rattle.eu_accept.specs.Limits.{server_limits};
 
 use crate::admission::{Admission, Entry, SPARE};
@@ -21,7 +21,7 @@ use std::time::Clock;
 pub struct Limits {
     /// The most connections at once.
     pub connections: usize,
-    /// The most bytes that are kept of connections which wait. Each loop has its part of them.
+    /// The most bytes that are kept of connections which wait. Each loop has its part of them, and the pool a part as large.
     pub bytes: usize,
     /// How long a peer is awaited.
     pub patience: Patience,
@@ -30,6 +30,13 @@ pub struct Limits {
 }
 
 impl Limits {
+    /// The part of the bytes that each of so many loops has, and the pool as much as one of them.
+    pub(crate) fn share(&self, loops: usize) -> usize
+        ensures { result ≡ self.now.bytes / min (loops + 1) (2 ^ 64 - 1) }
+    {
+        self.bytes / loops.saturating_add(1)
+    }
+
     /// How many places a loop has: one for each connection, and those of the ones that are refused.
     pub(crate) fn places(&self) -> usize
         ensures { result ≡ min (self.now.connections + 64) (2 ^ 64 - 1) }
@@ -95,7 +102,7 @@ impl<'a, R: Wait + Clock + Net> Hub<'a, R> {
             alloc,
             limits,
             boxes,
-            pool: Pool::new(alloc, limits.places())?,
+            pool: Pool::new(alloc, limits.places(), limits.share(loops as usize))?,
             admission: Mutex::new(admission),
             pace: Pace::new(rt, periods)?,
         };

@@ -1,9 +1,15 @@
 //! A loop of a server: it polls its connections, and calls those for which there is something to do.
+ghost use Rattle.std.specs.Prelude.{◌≡◌, ◌||◌, not, true};
+ghost use Rattle.mio.specs.Event.{event_token, is_read_closed, is_error};
+ghost use Rattle.eu_accept.specs.Calls.{asks_still};
+
 use crate::hub::Hub;
 use crate::mail::Mail;
+use crate::pool::Job;
 use eu_hall::{Awaited, Guest, Hall, Happened, Left, Phase, Unsent, Visit};
 use eu_session::Talk;
 use eu_stream::write_whole;
+use mio::event::Event;
 use mio::net::TcpStream;
 use mio::{Events, Interest, Poll, Token};
 use std::alloc::{AllocError, Global};
@@ -47,6 +53,29 @@ struct Call {
     reads_on: bool,
 }
 
+/// The visit that an event calls for. Where the peer's side has ended it is read to its end, since no further event tells of that.
+fn call_of(event: &Event) -> Call
+    ensures { result ≡ record { key = (event_token event.now).0; leaves_long = true; reads_on = is_read_closed event.now || is_error event.now } }
+{
+    Call {
+        key: event.token().0,
+        leaves_long: true,
+        reads_on: event.is_read_closed() || event.is_error(),
+    }
+}
+
+/// The visit of a connection that was at the pool, which left it so: it is read on, since events were passed over meanwhile. A request that isn't whole
+/// doesn't go back at once, or it would go to and fro.
+fn back_of(key: usize, left: Left) -> Call
+    ensures { result ≡ record { key = key; leaves_long = not (asks_still left); reads_on = true } }
+{
+    Call {
+        key,
+        leaves_long: !matches!(left, Left::Waits(Phase::Asking, _)),
+        reads_on: true,
+    }
+}
+
 /// A loop of a server. It alone has its connections, but for those that are away at a worker.
 #[derive(Drop)]
 pub struct Loop<'a, R: Wait + Clock> {
@@ -60,6 +89,7 @@ pub struct Loop<'a, R: Wait + Clock> {
     mail: Vec<Mail>,
     began: Instant,
     swept: u64,
+    is_due: bool,
 }
 
 /// A connection that has just come, and whose session begins.
@@ -71,6 +101,12 @@ fn guest(alloc: Global, socket: TcpStream) -> Connection {
         has_ended: false,
         dropped: 0,
     }
+}
+
+/// How many bytes of memory a connection holds: what was read of it, and what is to be sent.
+fn held_by(guest: &Connection) -> usize {
+    let unsent = guest.unsent.memory();
+    guest.talk.inbox.capacity().saturating_add(unsent)
 }
 
 /// Ends the session of a connection by a response that is to be sent. Tells whether there was memory for that.
@@ -101,12 +137,13 @@ impl<'a, R: Wait + Clock> Loop<'a, R> {
             number,
             poll,
             events: Events::with_capacity(hub.alloc, MOST_EVENTS)?,
-            hall: Hall::new(hub.alloc, most, hub.limits.bytes / hub.boxes.len().max(1))?,
+            hall: Hall::new(hub.alloc, most, hub.limits.share(hub.boxes.len()))?,
             ready: VecDeque::with_capacity(hub.alloc, most.saturating_add(MOST_EVENTS))?,
-            again: Vec::new(hub.alloc),
+            again: Vec::with_capacity(hub.alloc, most)?,
             mail: Vec::with_capacity(hub.alloc, most)?,
             began: Instant::now(hub.rt)?,
             swept: 0,
+            is_due: false,
         })
     }
 
@@ -129,11 +166,7 @@ impl<'a, R: Wait + Clock> Loop<'a, R> {
     fn park(&mut self, key: usize, guest: Connection, awaited: Awaited) {
         let mut guest = guest;
         guest.talk.inbox.release(self.hub.alloc);
-        let bytes = guest
-            .talk
-            .inbox
-            .capacity()
-            .saturating_add(guest.unsent.memory());
+        let bytes = held_by(&guest);
         if self.hall.come_back(key, guest, awaited, bytes).is_err() {
             self.leave(key);
         }
@@ -180,6 +213,21 @@ impl<'a, R: Wait + Clock> Loop<'a, R> {
         self.park(key, guest, awaited);
     }
 
+    /// Hands a connection to the pool, whose next request takes long. One with which those there would hold too much is closed.
+    fn hand_over(&mut self, visit: Visit<TcpStream, Talk>) {
+        let key = visit.key;
+        let bytes = held_by(&visit.guest);
+        let number = self.number;
+        let job = Job {
+            number,
+            visit,
+            bytes,
+        };
+        if self.hub.pool.put(self.hub.rt, job).is_err() {
+            self.leave(key);
+        }
+    }
+
     /// Takes a connection back after a visit, which left it so.
     pub(crate) fn take_back(&mut self, visit: Visit<TcpStream, Talk>, left: Left) {
         let key = visit.key;
@@ -188,18 +236,11 @@ impl<'a, R: Wait + Clock> Loop<'a, R> {
             Left::Waits(phase, happened) => self.park_after(visit, phase, happened),
             Left::GoesOn => {
                 self.park_after(visit, Phase::Asking, Happened::Answered);
-                let _ = self.again.push(key);
-            }
-            Left::Long => {
-                if self
-                    .hub
-                    .pool
-                    .put(self.hub.rt, (self.number, visit))
-                    .is_err()
-                {
+                if self.again.push(key).is_err() {
                     self.leave(key);
                 }
             }
+            Left::Long => self.hand_over(visit),
             Left::Gone => {
                 drop(visit);
                 self.leave(key);
@@ -268,13 +309,11 @@ impl<'a, R: Wait + Clock> Loop<'a, R> {
                 }
             }
             Mail::Back(visit, left) => {
-                let call = Call {
-                    key: visit.key,
-                    leaves_long: left == Left::GoesOn,
-                    reads_on: true,
-                };
+                let call = back_of(visit.key, left);
                 self.take_back(visit, left);
-                let _ = self.ready.push_back(call);
+                if self.ready.push_back(call).is_err() {
+                    self.leave(call.key);
+                }
             }
         }
     }
@@ -320,11 +359,12 @@ impl<'a, R: Wait + Clock> Loop<'a, R> {
             from = key.saturating_add(1);
         }
         self.swept = now;
+        self.is_due = false;
     }
 
-    /// How long a poll waits: not at all where some go on at once, else until the next sweep.
+    /// How long a poll waits: not at all where there is something to do at once, else until the next sweep.
     fn time(&self) -> Duration {
-        if !self.again.is_empty() {
+        if !self.again.is_empty() || !self.ready.is_empty() {
             return Duration::from_millis(0);
         }
         let since = self.now().saturating_sub(self.swept);
@@ -338,18 +378,18 @@ impl<'a, R: Wait + Clock> Loop<'a, R> {
             if event.token() == WAKER {
                 is_woken = true;
             } else {
-                self.ready.push_back(Call {
-                    key: event.token().0,
-                    leaves_long: true,
-                    reads_on: event.is_read_closed() || event.is_error(),
-                })?;
+                self.ready.push_back(call_of(event))?;
             }
         }
         Ok(is_woken)
     }
 
-    /// Waits until there is something to do, or the next sweep is due.
+    /// Waits until there is something to do, or the next sweep is due. A sweep that is due comes once all were visited of whom was told before: who has
+    /// sent in time isn't late.
     fn round(&mut self) -> io::Result<()> {
+        if self.is_due {
+            self.sweep(self.now());
+        }
         let time = self.time();
         self.poll.poll(&mut self.events, Some(time))?;
         let is_woken = self.note_events()?;
@@ -363,10 +403,7 @@ impl<'a, R: Wait + Clock> Loop<'a, R> {
         if is_woken {
             self.take_mail();
         }
-        let now = self.now();
-        if now.saturating_sub(self.swept) >= SWEEP_MS {
-            self.sweep(now);
-        }
+        self.is_due = self.now().saturating_sub(self.swept) >= SWEEP_MS;
         Ok(())
     }
 

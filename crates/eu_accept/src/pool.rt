@@ -1,4 +1,6 @@
 //! Connections whose next request takes long.
+ghost use Rattle.std.specs.Prelude.{◌≡◌, true, false};
+
 use eu_hall::Visit;
 use eu_session::Talk;
 use mio::net::TcpStream;
@@ -6,13 +8,22 @@ use std::alloc::{AllocError, Global};
 use std::collections::VecDeque;
 use std::sync::{Condvar, Mutex, Wait};
 
-/// A connection for the pool, with the number of its loop.
-pub(crate) type Job = (usize, Visit<TcpStream, Talk>);
+/// A connection for the pool.
+#[derive(Drop)]
+pub(crate) struct Job {
+    /// The number of its loop.
+    pub(crate) number: usize,
+    /// The connection.
+    pub(crate) visit: Visit<TcpStream, Talk>,
+    /// How many bytes of memory it holds.
+    pub(crate) bytes: usize,
+}
 
 /// What lies behind the pool's lock.
 #[derive(Drop)]
 struct Queue {
     jobs: VecDeque<Job>,
+    bytes: usize,
     waiting: u32,
     is_closed: bool,
 }
@@ -20,16 +31,31 @@ struct Queue {
 /// Where connections wait for a thread of the pool.
 #[derive(Drop)]
 pub struct Pool {
+    most_bytes: usize,
     queue: Mutex<Queue>,
     called: Condvar,
 }
 
+/// A visit at the pool: one turn, of whatever request, and no more reads than are needed.
+pub(crate) fn at_pool<S, T>(visit: Visit<S, T>) -> Visit<S, T>
+    ensures { result ≡ record visit { most_turns = 1; leaves_long = false; reads_on = false } }
+{
+    Visit {
+        most_turns: 1,
+        leaves_long: false,
+        reads_on: false,
+        ..visit
+    }
+}
+
 impl Pool {
-    /// One with room for so many connections.
-    pub fn new(alloc: Global, most: usize) -> Result<Pool, AllocError> {
+    /// One with room for so many connections, which hold so many bytes at most. `AllocError` where there is no memory for that.
+    pub fn new(alloc: Global, most: usize, most_bytes: usize) -> Result<Pool, AllocError> {
         Ok(Pool {
+            most_bytes,
             queue: Mutex::new(Queue {
                 jobs: VecDeque::with_capacity(alloc, most)?,
+                bytes: 0,
                 waiting: 0,
                 is_closed: false,
             }),
@@ -37,11 +63,16 @@ impl Pool {
         })
     }
 
-    /// Hands a connection in.
+    /// Hands a connection in. One with which those that wait would hold too much is dropped: an error.
     pub(crate) fn put<R: Wait>(&self, rt: &R, job: Job) -> Result<(), AllocError> {
         let some_wait = {
             let mut queue = self.queue.lock(rt);
+            let bytes = queue.bytes.saturating_add(job.bytes);
+            if bytes > self.most_bytes {
+                return Err(AllocError);
+            }
             queue.jobs.push_back(job)?;
+            queue.bytes = bytes;
             queue.waiting > 0
         };
         if some_wait {
@@ -60,7 +91,9 @@ impl Pool {
             |queue| queue.jobs.is_empty() && !queue.is_closed,
         );
         queue.waiting = queue.waiting.saturating_sub(1);
-        queue.jobs.pop_front()
+        let job = queue.jobs.pop_front()?;
+        queue.bytes = queue.bytes.saturating_sub(job.bytes);
+        Some(job)
     }
 
     /// Ends its threads, once nothing is left.

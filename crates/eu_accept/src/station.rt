@@ -5,6 +5,7 @@ use crate::door::Door;
 use crate::hub::Hub;
 use crate::loops::Loop;
 use crate::mail::Mail;
+use crate::pool::at_pool;
 use eu_hall::{Incoming, Left, Visit};
 use eu_session::Talk;
 use mio::net::TcpStream;
@@ -25,14 +26,9 @@ impl<'a, R: Wait + Clock> Hand<'a, R> {
     }
 
     fn next(&mut self) -> Option<Visit<TcpStream, Talk>> {
-        let (number, visit) = self.hub.pool.next(self.hub.rt)?;
-        self.number = number;
-        Some(Visit {
-            most_turns: 1,
-            leaves_long: false,
-            reads_on: false,
-            ..visit
-        })
+        let job = self.hub.pool.next(self.hub.rt)?;
+        self.number = job.number;
+        Some(at_pool(job.visit))
     }
 
     fn take_back(&mut self, visit: Visit<TcpStream, Talk>, left: Left) {

@@ -291,7 +291,13 @@ fn gather<K: Label, R: Wait + Clock, H: Chooser + Drop>(
     }
 }
 
-/// Has all workers of a server work until the sessions have ended. Gives their passes, room for which is made before any
+/// Whether there is a thread for each of so many workers.
+fn has_threads<R: Threads + Wait + Clock + Sync>(rt: &R, alloc: Global, workers: usize) -> bool {
+    let patience = Duration::from_millis(GATHERING_MS);
+    can_gather(rt, alloc, workers, workers, patience).unwrap_or(false)
+}
+
+/// Has all workers of a server work until the sessions have ended, once there is a thread for each of them. Gives their passes, room for which is made before any
 /// works. `OutOfMemory`, and the faults of `make_workers`: all before any works.
 fn run_workers<
     'a,
@@ -311,6 +317,9 @@ fn run_workers<
     let routes = Routes::new(alloc)?;
     let mut workers = make_workers(rt, alloc, shared, stations, chooser)?;
     let mut passes = Vec::with_capacity(alloc, workers.len())?;
+    if !has_threads(rt, alloc, workers.len()) {
+        return Err(Fault::OutOfMemory);
+    }
     let site = Site {
         rt,
         alloc,
@@ -404,14 +413,6 @@ fn judge_accepts(has_failed: bool, outcome: Result<Finished, Fault>) -> Result<F
     Ok(outcome)
 }
 
-/// Whether there is a thread for each worker of a server with so many loops.
-fn has_threads<R: Threads + Wait + Clock + Sync>(rt: &R, alloc: Global, loops: u32) -> bool {
-    let stations = loops.saturating_add(OTHER_WORKERS) as usize;
-    let workers = stations.saturating_add(TIMERS);
-    let patience = Duration::from_millis(GATHERING_MS);
-    can_gather(rt, alloc, workers, workers, patience).unwrap_or(false)
-}
-
 /// Serves by a plan, and gives the book, closed and settled, rather than writing a line: its entries lead from the base to the end, and the
 /// log of each worker, from the first entry's number on, is its part of them.
 ///
@@ -437,9 +438,6 @@ pub fn serve_book<
     ensures fault { IfErr result IsEnd }
 {
     let shared: Shared<K> = Shared::open(alloc, plan.config, plan.expected, 0, blanks)?;
-    if !has_threads(rt, alloc, workers_of(plan.workers)) {
-        return Err(Fault::OutOfMemory);
-    }
     let (hub, polls) = open_hub(rt, alloc, plan)?;
     let stations = stations_of(&hub, listener, plan, polls)?;
     let outcome = serve_and_close(rt, alloc, shared, &hub, stations, chooser);

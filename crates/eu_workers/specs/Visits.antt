@@ -17,11 +17,11 @@ abbrev pub phase_of : List ℕ → Phase
 phase_of [] = Idle
 phase_of (byte ∷ bytes) = Asking
 
--- the same, of a visit at which a request was answered
+-- the same, of a visit at which a request was answered: what is left to others then is a request that begins anew
 abbrev pub after_answers : Left → Left
 after_answers (Waits phase what) = Waits phase happened.Answered
 after_answers GoesOn = GoesOn
-after_answers Long = Long
+after_answers Long = GoesOn
 after_answers Gone = Gone
 
 -- what came of a turn, where the last read would have waited, or not, and these bytes weren't used: a session that waits for more isn't over, one that has failed is gone;

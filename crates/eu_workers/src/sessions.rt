@@ -1,5 +1,5 @@
 //! Workers that serve sessions, visit by visit.
-ghost use Rattle.std.specs.Prelude.{◌≡◌, ◌<◌, ◌⊎◌, ◌↔◌, ◌||◌, [], None};
+ghost use Rattle.std.specs.Prelude.{◌≡◌, ◌<◌, ◌⊎◌, ◌↔◌, ◌||◌, [], None, Some, true};
 ghost use Rattle.eu_workers.specs.Returned.{HasTurn, IsAsked, TakesTurns};
 ghost use Rattle.eu_workers.specs.Visits.{has_ended, judged};
 ghost use Rattle.eu_workers.specs.Visits as spec;
@@ -8,6 +8,7 @@ use crate::ended::Ended;
 use crate::gated::{GatedSink, GatedSource};
 use crate::long::is_long;
 use crate::site::Site;
+use eu_base::Fault;
 use eu_clock::Clock;
 use eu_framing::{EMPTY_ROOM, Inbox, Room};
 use eu_gate::{Gate, Go, Point};
@@ -112,12 +113,13 @@ fn turn<K: Label, R: Wait, G: Gate, C: Clock, S: Read>(
     judge(turned, waits, guest)
 }
 
-/// How a visit left a connection, at which a request was answered before.
+/// How a visit left a connection, at which a request was answered before. Where the next one is left to others, it begins anew.
 fn after_answers(left: Left) -> Left
     ensures { result ≡ spec.after_answers left }
 {
     match left {
         Left::Waits(phase, _) => Left::Waits(phase, Happened::Answered),
+        Left::Long => Left::GoesOn,
         left => left,
     }
 }
@@ -138,6 +140,39 @@ fn send<S: Write>(guest: &mut Guest<S, Talk>) -> Option<Left>
     }
 }
 
+/// Looks at the first bytes of the next request, where one that takes long is left to others: reads them, where none are there. Tells how that leaves the
+/// connection, where the turn is not to be taken.
+fn look_ahead<K: Label, R: Wait, G: Gate, S: Read>(
+    site: &Site<'_, K, R, G>,
+    who: u32,
+    room: &mut Room,
+    visit: &mut Visit<S, Talk>,
+) -> Option<Left>
+    ensures kept { visit.new.guest ≡ record visit.old.guest { socket = visit.new.guest.socket; talk = visit.new.guest.talk } }
+    ensures long { result ≡ Some Left.Long → visit.old.leaves_long ≡ true }
+{
+    if !visit.leaves_long {
+        return None;
+    }
+    let guest = &mut visit.guest;
+    let mut source = GatedSource::new(
+        &mut guest.socket,
+        site.gate,
+        who,
+        visit.reads_on,
+        visit.is_drained,
+    );
+    let read = guest.talk.inbox.read_ahead(&mut source, room);
+    let waits = source.waits();
+    visit.is_drained = source.is_drained();
+    match read {
+        Ok(()) if is_long(guest.talk.inbox.as_slice()) => Some(Left::Long),
+        Err(Fault::Read) if waits => Some(Left::Waits(phase_of(&guest.talk), Happened::Nothing)),
+        Err(Fault::Read) => Some(Left::Gone),
+        _ => None,
+    }
+}
+
 /// Takes one turn of the session of a connection, of which all is sent, if the session goes on and its next request isn't left to others; and sends the response.
 fn step<K: Label, R: Wait, G: Gate, C: Clock, S: Read + Write>(
     site: &Site<'_, K, R, G>,
@@ -150,12 +185,13 @@ fn step<K: Label, R: Wait, G: Gate, C: Clock, S: Read + Write>(
     requires sent { visit.old.guest.unsent.rest ≡ [] }
     ensures asked { IsAsked seat.old.pass seat.new.pass }
     ensures sent { result ≡ Progress.Answered → visit.new.guest.unsent.rest ≡ [] }
+    ensures ended { visit.old.guest.has_ended ≡ true → result ≡ Progress.Over (Left.Waits Phase.Lingering Happened.Nothing) }
 {
     if visit.guest.has_ended {
         return Progress::Over(Left::Waits(Phase::Lingering, Happened::Nothing));
     }
-    if visit.leaves_long && is_long(visit.guest.talk.inbox.as_slice()) {
-        return Progress::Over(Left::Long);
+    if let Some(left) = look_ahead(site, who, room, visit) {
+        return Progress::Over(left);
     }
     match turn(site, who, room, seat, clock, visit) {
         Progress::Answered => match send(&mut visit.guest) {

@@ -281,11 +281,11 @@ const GIVEN_UP: [Row; 2] = [
     (
         3,
         2,
-        (100, 1_000, 100, 65_536),
+        (400, 1_000, 100, 65_536),
         &[
             Step::Connect(2),
             Step::Ask(1, REGISTRATION, REGISTERED),
-            Step::Within(2_000),
+            Step::Within(3_000),
         ],
     ),
     (

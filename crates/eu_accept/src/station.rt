@@ -58,10 +58,8 @@ impl<'a, R: Wait + Clock> Station<'a, R> {
     }
 }
 
-impl<'a, R: Wait + Clock> Incoming for Station<'a, R> {
+impl<'a, R: Wait + Clock> Incoming<Talk> for Station<'a, R> {
     type Socket = TcpStream;
-
-    type Talk = Talk;
 
     fn next(&mut self) -> Option<Visit<TcpStream, Talk>> {
         match self {

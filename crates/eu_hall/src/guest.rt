@@ -52,21 +52,18 @@ pub enum Left {
     Gone,
 }
 
-/// Where the connections come from that a worker visits.
-pub trait Incoming {
+/// Where the connections come from that a worker visits, whose sessions are such values.
+pub trait Incoming<T> {
     // What holds where no more will come. Nothing is to be told of it but where a caller wants that.
     ghost ended: { Self → Type 0 } = { λ _. Unit {0} };
 
     /// The socket of a connection.
     type Socket: Read + Write;
 
-    /// The session of a connection.
-    type Talk;
-
     /// The next connection for which there is something to do, or none where no more will come. It may take as long as it wants.
-    fn next(&mut self) -> Option<Visit<Self::Socket, Self::Talk>>
+    fn next(&mut self) -> Option<Visit<Self::Socket, T>>
         ensures { result ≡ None → ended self.new };
 
     /// Takes a connection back after a visit, which left it so.
-    fn take_back(&mut self, visit: Visit<Self::Socket, Self::Talk>, left: Left);
+    fn take_back(&mut self, visit: Visit<Self::Socket, T>, left: Left);
 }

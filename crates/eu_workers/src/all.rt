@@ -109,7 +109,7 @@ fn number_all<K: Label, S: Drop, C: Drop, H: Drop, P: Drop>(workers: &mut [Worke
 }
 
 /// Does a work, turn after turn, to its end.
-fn take_turns<K: Label, R: Wait, G: Gate, S: Incoming<Talk = Talk>, C: Clock, H: Chooser, P: Peer>(
+fn take_turns<K: Label, R: Wait, G: Gate, S: Incoming<Talk>, C: Clock, H: Chooser, P: Peer>(
     site: &Site<'_, K, R, G>,
     who: u32,
     work: &mut Work<S, H, P>,
@@ -135,7 +135,7 @@ fn run_worker<
     K: Label,
     R: Wait,
     G: Gate,
-    S: Incoming<Talk = Talk> + Drop,
+    S: Incoming<Talk> + Drop,
     C: Clock + Drop,
     H: Chooser + Drop,
     P: Peer + Drop,
@@ -169,7 +169,7 @@ fn run_backwards<
     K: Label + Send + Sync,
     R: Threads + Wait + Sync,
     G: Gate + Sync,
-    S: Incoming<Talk = Talk> + Send + Drop,
+    S: Incoming<Talk> + Send + Drop,
     C: Clock + Send + Drop,
     H: Chooser + Send + Drop,
     P: Peer + Send + Drop,
@@ -190,7 +190,7 @@ fn run_each<
     K: Label + Send + Sync,
     R: Threads + Wait + Sync,
     G: Gate + Sync,
-    S: Incoming<Talk = Talk> + Send + Drop,
+    S: Incoming<Talk> + Send + Drop,
     C: Clock + Send + Drop,
     H: Chooser + Send + Drop,
     P: Peer + Send + Drop,
@@ -213,7 +213,7 @@ pub fn run_all<
     K: Label + Send + Sync,
     R: Threads + Wait + Sync,
     G: Gate + Sync,
-    S: Incoming<Talk = Talk> + Send + Drop,
+    S: Incoming<Talk> + Send + Drop,
     C: Clock + Send + Drop,
     H: Chooser + Send + Drop,
     P: Peer + Send + Drop,

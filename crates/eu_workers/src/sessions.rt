@@ -229,7 +229,7 @@ fn serve<K: Label, R: Wait, G: Gate, C: Clock, S: Read + Write>(
 }
 
 /// A turn of a worker: visits a connection, gives it back, and trims the log of the pass. Tells whether the connection goes on.
-fn visit<K: Label, R: Wait, G: Gate, S: Incoming<Talk = Talk>, C: Clock>(
+fn visit<K: Label, R: Wait, G: Gate, S: Incoming<Talk>, C: Clock>(
     site: &Site<'_, K, R, G>,
     who: u32,
     workplace: &mut Workplace,
@@ -257,7 +257,7 @@ fn visit<K: Label, R: Wait, G: Gate, S: Incoming<Talk = Talk>, C: Clock>(
 /// its session (`eu_session::take_turn`), gives it back, and trims the log of the pass (`Pass::trim`). Each read of the connection passes
 /// the gate first, and fails where that says `Stop`; and each response passes it before it is flushed. A connection that has failed is
 /// counted as refused, and the next one follows.
-pub fn run_sessions<K: Label, R: Wait, G: Gate, S: Incoming<Talk = Talk>, C: Clock>(
+pub fn run_sessions<K: Label, R: Wait, G: Gate, S: Incoming<Talk>, C: Clock>(
     site: &Site<'_, K, R, G>,
     who: u32,
     pass: Pass<K>,

@@ -104,10 +104,8 @@ struct Once<'a> {
     answered: &'a AtomicU64,
 }
 
-impl<'a> Incoming for Once<'a> {
+impl<'a> Incoming<Talk> for Once<'a> {
     type Socket = Sides<&'static [u8], Keeping<'a>>;
-
-    type Talk = Talk;
 
     fn next(&mut self) -> Option<Visit<Sides<&'static [u8], Keeping<'a>>, Talk>> {
         self.taken.fetch_add(1, Ordering::SeqCst);

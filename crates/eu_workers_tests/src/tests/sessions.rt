@@ -104,10 +104,8 @@ struct Once<'a> {
     answered: &'a AtomicU64,
 }
 
-impl Incoming for Once<'_> {
+impl Incoming<Talk> for Once<'_> {
     type Socket = Sides<Pieces, Vec<u8>>;
-
-    type Talk = Talk;
 
     fn next(&mut self) -> Option<Visit<Sides<Pieces, Vec<u8>>, Talk>> {
         self.connection.take()

@@ -6,8 +6,9 @@ use crate::hub::Hub;
 use crate::loops::Loop;
 use crate::mail::Mail;
 use crate::pool::at_pool;
-use eu_hall::{Incoming, Left, Visit};
+use eu_hall::{Left, Visit};
 use eu_session::Talk;
+use eu_workers::Incoming;
 use mio::net::TcpStream;
 use std::sync::Wait;
 use std::time::Clock;
@@ -58,7 +59,7 @@ impl<'a, R: Wait + Clock> Station<'a, R> {
     }
 }
 
-impl<'a, R: Wait + Clock> Incoming<Talk> for Station<'a, R> {
+impl<'a, R: Wait + Clock> Incoming for Station<'a, R> {
     type Socket = TcpStream;
 
     fn next(&mut self) -> Option<Visit<TcpStream, Talk>> {

@@ -1,9 +1,6 @@
 //! A connection, as it goes from its place to a worker and back.
-ghost use Rattle.std.specs.Prelude.{◌≡◌, None};
-
 use crate::phase::{Awaited, Happened, Phase};
 use crate::unsent::Unsent;
-use std::io::{Read, Write};
 
 /// A connection: its socket, its session, and what is to be sent of it.
 #[derive(Drop)]
@@ -50,20 +47,4 @@ pub enum Left {
     Long,
     /// It has failed, and is to be closed.
     Gone,
-}
-
-/// Where the connections come from that a worker visits, whose sessions are such values.
-pub trait Incoming<T> {
-    // What holds where no more will come. Nothing is to be told of it but where a caller wants that.
-    ghost ended: { Self → Type 0 } = { λ _. Unit {0} };
-
-    /// The socket of a connection.
-    type Socket: Read + Write;
-
-    /// The next connection for which there is something to do, or none where no more will come. It may take as long as it wants.
-    fn next(&mut self) -> Option<Visit<Self::Socket, T>>
-        ensures { result ≡ None → ended self.new };
-
-    /// Takes a connection back after a visit, which left it so.
-    fn take_back(&mut self, visit: Visit<Self::Socket, T>, left: Left);
 }

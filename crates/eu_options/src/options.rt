@@ -196,7 +196,7 @@ fn with_work<'a>(alloc: Global, command: Command<'a>) -> Result<Command<'a>, All
     let forever = forever_option(alloc);
     let until = until_option(alloc);
     let workers = option(alloc, "workers", "N", value_parser!(u32).range(1..=16), "2").help(
-        "How many threads serve the connections",
+        "How many loops serve the connections",
     );
     let expected = option(alloc, "expected", "N", value_parser!(u32), "1").help(
         "How many clients are expected at first",

@@ -12,7 +12,7 @@ pub struct Serving {
     pub bind: IpAddr,
     /// How many connections are served before it ends. None where it doesn't end by their number.
     pub sessions: Option<u32>,
-    /// How many workers serve them.
+    /// How many loops serve them.
     pub workers: u32,
     /// How many clients are expected at first.
     pub expected: u32,
@@ -47,7 +47,8 @@ const OTHER_DESCRIPTORS: u64 = 64;
 /// How many connections a server has at most that is asked to have so many, where the process may have so many descriptors: 64 of these are for
 /// the rest, and one connection there is always.
 pub fn connections_within(wanted: u32, descriptors: u64) -> u32
-    ensures { result ≡ min wanted (max 1 (descriptors - 64)) }
+    ensures value { result ≡ min wanted (max 1 (descriptors - 64)) }
+    ensures few { result ≤ wanted }
 {
     let most = descriptors.saturating_sub(OTHER_DESCRIPTORS).max(1);
     match u32::try_from(most) {

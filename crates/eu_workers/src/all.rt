@@ -3,15 +3,14 @@ ghost use Rattle.std.specs.Prelude.{◌≡◌, ℕ, ◌<◌, length, max, slice_
 ghost use Rattle.eu_workers.specs.All.{HasRun, IsEnded, IsNumbered, IsWorked};
 
 use crate::ended::Ended;
+use crate::incoming::Incoming;
 use crate::replicator::run_replicator;
 use crate::sessions::run_sessions;
 use crate::site::Site;
 use crate::timers::{run_bucket, run_evictor, run_threshold};
 use eu_clock::{Chooser, Clock};
 use eu_gate::Gate;
-use eu_hall::Incoming;
 use eu_peer::Peer;
-use eu_session::Talk;
 use eu_shared::{Label, Pass};
 use std::mem;
 use std::sync::Wait;
@@ -109,7 +108,7 @@ fn number_all<K: Label, S: Drop, C: Drop, H: Drop, P: Drop>(workers: &mut [Worke
 }
 
 /// Does a work, turn after turn, to its end.
-fn take_turns<K: Label, R: Wait, G: Gate, S: Incoming<Talk>, C: Clock, H: Chooser, P: Peer>(
+fn take_turns<K: Label, R: Wait, G: Gate, S: Incoming, C: Clock, H: Chooser, P: Peer>(
     site: &Site<'_, K, R, G>,
     who: u32,
     work: &mut Work<S, H, P>,
@@ -135,7 +134,7 @@ fn run_worker<
     K: Label,
     R: Wait,
     G: Gate,
-    S: Incoming<Talk> + Drop,
+    S: Incoming + Drop,
     C: Clock + Drop,
     H: Chooser + Drop,
     P: Peer + Drop,
@@ -169,7 +168,7 @@ fn run_backwards<
     K: Label + Send + Sync,
     R: Threads + Wait + Sync,
     G: Gate + Sync,
-    S: Incoming<Talk> + Send + Drop,
+    S: Incoming + Send + Drop,
     C: Clock + Send + Drop,
     H: Chooser + Send + Drop,
     P: Peer + Send + Drop,
@@ -190,7 +189,7 @@ fn run_each<
     K: Label + Send + Sync,
     R: Threads + Wait + Sync,
     G: Gate + Sync,
-    S: Incoming<Talk> + Send + Drop,
+    S: Incoming + Send + Drop,
     C: Clock + Send + Drop,
     H: Chooser + Send + Drop,
     P: Peer + Send + Drop,
@@ -213,7 +212,7 @@ pub fn run_all<
     K: Label + Send + Sync,
     R: Threads + Wait + Sync,
     G: Gate + Sync,
-    S: Incoming<Talk> + Send + Drop,
+    S: Incoming + Send + Drop,
     C: Clock + Send + Drop,
     H: Chooser + Send + Drop,
     P: Peer + Send + Drop,

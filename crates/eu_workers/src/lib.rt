@@ -4,6 +4,7 @@
 mod all;
 mod ended;
 mod gated;
+mod incoming;
 mod long;
 mod replicator;
 mod sessions;
@@ -15,7 +16,8 @@ mod timers;
 pub use all::{Job, Work, Worker, run_all};
 pub use ended::Ended;
 pub use eu_gate::{Gate, Go, Point};
-pub use eu_hall::{Guest, Happened, Incoming, Left, Phase, Unsent, Visit};
+pub use eu_hall::{Guest, Happened, Left, Phase, Unsent, Visit};
+pub use incoming::Incoming;
 pub use replicator::run_replicator;
 pub use sessions::run_sessions;
 pub use site::Site;

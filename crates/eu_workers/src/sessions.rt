@@ -6,13 +6,14 @@ ghost use Rattle.eu_workers.specs.Visits as spec;
 
 use crate::ended::Ended;
 use crate::gated::{GatedSink, GatedSource};
+use crate::incoming::Incoming;
 use crate::long::is_long;
 use crate::site::Site;
 use eu_base::Fault;
 use eu_clock::Clock;
 use eu_framing::{EMPTY_ROOM, Inbox, Room};
 use eu_gate::{Gate, Go, Point};
-use eu_hall::{Guest, Happened, Incoming, Left, Phase, Sent, Visit};
+use eu_hall::{Guest, Happened, Left, Phase, Sent, Visit};
 use eu_session::{SessionFault, Talk, Turned, take_turn};
 use eu_shared::{Label, Pass, Seat};
 use std::io::{Read, Write};
@@ -229,7 +230,7 @@ fn serve<K: Label, R: Wait, G: Gate, C: Clock, S: Read + Write>(
 }
 
 /// A turn of a worker: visits a connection, gives it back, and trims the log of the pass. Tells whether the connection goes on.
-fn visit<K: Label, R: Wait, G: Gate, S: Incoming<Talk>, C: Clock>(
+fn visit<K: Label, R: Wait, G: Gate, S: Incoming, C: Clock>(
     site: &Site<'_, K, R, G>,
     who: u32,
     workplace: &mut Workplace,
@@ -257,7 +258,7 @@ fn visit<K: Label, R: Wait, G: Gate, S: Incoming<Talk>, C: Clock>(
 /// its session (`eu_session::take_turn`), gives it back, and trims the log of the pass (`Pass::trim`). Each read of the connection passes
 /// the gate first, and fails where that says `Stop`; and each response passes it before it is flushed. A connection that has failed is
 /// counted as refused, and the next one follows.
-pub fn run_sessions<K: Label, R: Wait, G: Gate, S: Incoming<Talk>, C: Clock>(
+pub fn run_sessions<K: Label, R: Wait, G: Gate, S: Incoming, C: Clock>(
     site: &Site<'_, K, R, G>,
     who: u32,
     pass: Pass<K>,

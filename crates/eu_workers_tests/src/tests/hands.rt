@@ -64,7 +64,7 @@ pub fn work_through<
     K: Label + Send + Sync,
     R: Threads + Wait + Sync,
     G: Gate + Sync,
-    S: Incoming<Talk> + Send + Drop,
+    S: Incoming + Send + Drop,
     P: Peer + Send + Drop,
 >(
     rt: &R,

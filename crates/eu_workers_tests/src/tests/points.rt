@@ -104,7 +104,7 @@ struct Once<'a> {
     answered: &'a AtomicU64,
 }
 
-impl<'a> Incoming<Talk> for Once<'a> {
+impl<'a> Incoming for Once<'a> {
     type Socket = Sides<&'static [u8], Keeping<'a>>;
 
     fn next(&mut self) -> Option<Visit<Sides<&'static [u8], Keeping<'a>>, Talk>> {

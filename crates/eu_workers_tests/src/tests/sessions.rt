@@ -104,7 +104,7 @@ struct Once<'a> {
     answered: &'a AtomicU64,
 }
 
-impl Incoming<Talk> for Once<'_> {
+impl Incoming for Once<'_> {
     type Socket = Sides<Pieces, Vec<u8>>;
 
     fn next(&mut self) -> Option<Visit<Sides<Pieces, Vec<u8>>, Talk>> {

@@ -115,7 +115,7 @@ struct Renewing<'a, K: Label, R: Wait> {
     other: Pass<K>,
 }
 
-impl<K: Label, R: Wait> Incoming<Talk> for Renewing<'_, K, R> {
+impl<K: Label, R: Wait> Incoming for Renewing<'_, K, R> {
     type Socket = Sides<&'static [u8], Vec<u8>>;
 
     fn next(&mut self) -> Option<Visit<Sides<&'static [u8], Vec<u8>>, Talk>> {

@@ -3,7 +3,6 @@ use eu_base::Fault;
 use eu_clock::{FirstChooser, ListClock};
 use eu_peer::Peer;
 use eu_routes::Routes;
-use eu_session::Talk;
 use eu_shared::{Label, Pass, Shared};
 use eu_workers::{Gate, Incoming, Job, Site, Work, Worker, run_all};
 use std::alloc::Global;

@@ -11,7 +11,7 @@ pub trait Incoming {
     ghost ended: { Self → Type 0 } = { λ _. Unit {0} };
 
     /// The socket of a connection.
-    type Socket: Read + Write;
+    type Socket: Read + Write + Send;
 
     /// The next connection for which there is something to do, or none where no more will come. It may take as long as it wants.
     fn next(&mut self) -> Option<Visit<Self::Socket, Talk>>

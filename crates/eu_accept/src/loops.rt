@@ -118,7 +118,10 @@ fn end_by(guest: &mut Connection, response: &str) -> bool {
 /// Reads what has come and drops it. Tells whether more may come.
 fn drop_what_came(guest: &mut Connection, most: usize) -> bool {
     let mut piece = [0u8; PIECE];
-    'pieces: while guest.dropped < most {
+    for _piece in 0..most {
+        if guest.dropped >= most {
+            break;
+        }
         match guest.socket.read(&mut piece) {
             Ok(count) if count > 0 => guest.dropped = guest.dropped.saturating_add(count),
             Ok(_) => return false,
@@ -250,7 +253,8 @@ impl<'a, R: Wait + Clock> Loop<'a, R> {
 
     /// The next connection for which there is something to do.
     fn next_ready(&mut self) -> Option<Visit<TcpStream, Talk>> {
-        'ready: while let Some(call) = self.ready.pop_front() {
+        for _call in 0..self.ready.len() {
+            let call = self.ready.pop_front()?;
             let Some((guest, awaited)) = self.hall.call(call.key) else {
                 continue;
             };
@@ -325,8 +329,10 @@ impl<'a, R: Wait + Clock> Loop<'a, R> {
             mailbox.take(self.hub.rt, &mut mail);
         }
         mail.reverse();
-        'mail: while let Some(one) = mail.pop() {
-            self.take_one(one);
+        for _one in 0..mail.len() {
+            if let Some(one) = mail.pop() {
+                self.take_one(one);
+            }
         }
         self.mail = mail;
     }
@@ -354,7 +360,10 @@ impl<'a, R: Wait + Clock> Loop<'a, R> {
     fn sweep(&mut self, now: u64) {
         let stops = self.hub.counts().is_stopping;
         let mut from = 0;
-        'sweep: while let Some(key) = self.hall.late(from, now, stops) {
+        for _place in 0..self.hub.limits.places() {
+            let Some(key) = self.hall.late(from, now, stops) else {
+                break;
+            };
             self.give_up(key);
             from = key.saturating_add(1);
         }
@@ -384,6 +393,20 @@ impl<'a, R: Wait + Clock> Loop<'a, R> {
         Ok(is_woken)
     }
 
+    /// Has those visited that had all their turns, and may have more to do.
+    fn call_again(&mut self) -> Result<(), AllocError> {
+        for _key in 0..self.again.len() {
+            if let Some(key) = self.again.pop() {
+                self.ready.push_back(Call {
+                    key,
+                    leaves_long: true,
+                    reads_on: true,
+                })?;
+            }
+        }
+        Ok(())
+    }
+
     /// Waits until there is something to do, or the next sweep is due. A sweep that is due comes once all were visited of whom was told before: who has
     /// sent in time isn't late.
     fn round(&mut self) -> io::Result<()> {
@@ -393,13 +416,7 @@ impl<'a, R: Wait + Clock> Loop<'a, R> {
         let time = self.time();
         self.poll.poll(&mut self.events, Some(time))?;
         let is_woken = self.note_events()?;
-        'again: while let Some(key) = self.again.pop() {
-            self.ready.push_back(Call {
-                key,
-                leaves_long: true,
-                reads_on: true,
-            })?;
-        }
+        self.call_again()?;
         if is_woken {
             self.take_mail();
         }

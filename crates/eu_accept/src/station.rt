@@ -1,6 +1,4 @@
 //! Where a worker of a server gets its connections from.
-ghost use Rattle.std.specs.Prelude.{◌≡◌, ◌↔◌, false};
-
 use crate::door::Door;
 use crate::hub::Hub;
 use crate::loops::Loop;
@@ -52,9 +50,7 @@ pub enum Station<'a, R: Wait + Clock> {
 
 impl<'a, R: Wait + Clock> Station<'a, R> {
     /// Whether it visits connections, so that its worker asks the book.
-    pub fn visits(&self) -> bool
-        ensures { result ≡ false ↔ ((door : _) × (self.now ≡ Station.Door door)) }
-    {
+    pub fn visits(&self) -> bool {
         !matches!(self, Station::Door(_))
     }
 }

@@ -103,7 +103,7 @@ pub(crate) struct GatedSink<'a, W: Sink, G: Gate> {
 impl<'a, W: Sink, G: Gate> GatedSink<'a, W, G> {
     /// A writer for the worker of that number.
     pub(crate) fn new(sink: &'a mut W, gate: &'a G, who: u32) -> GatedSink<'a, W, G>
-        ensures stream { ⟦<GatedSink<'a, W, G> as Sink>⟧.stream result ≡ W.stream sink.old }
+        ensures stream { ⟦<GatedSink<'a, W, G> as Sink>⟧.stream result ≡ sink.entry.ghost_name }
         ensures contents { ⟦<GatedSink<'a, W, G> as Sink>⟧.contents result ≡ W.contents sink.old }
         ensures failed { ⟦<GatedSink<'a, W, G> as Sink>⟧.failed result ≡ W.failed sink.old }
     {
@@ -112,7 +112,7 @@ impl<'a, W: Sink, G: Gate> GatedSink<'a, W, G> {
 }
 
 impl<'a, W: Sink, G: Gate> Sink for GatedSink<'a, W, G> {
-    ghost stream = { λ s. W.stream s.sink.now };
+    ghost stream = { λ s. s.sink.ghost_name };
 
     ghost contents = { λ s. W.contents s.sink.now };
 

@@ -6,17 +6,20 @@ const LISTINGS: [&[u8]; 2] = [b"GET /eureka/apps", b"GET /eureka/v2/apps"];
 /// The path of a peer's batch.
 const BATCH: &[u8] = b"POST /eureka/peerreplication";
 
-/// Whether the rest of a path names no instance: none of it, or one part.
+/// Whether the rest of a path names no instance: it has one part at most.
 fn names_no_instance(rest: &[u8]) -> bool {
-    let mut parts = 0u32;
-    for i in 0..rest.len() {
-        match rest[i] {
-            b'/' if i + 1 < rest.len() && rest[i + 1] != b' ' => parts += 1,
+    let mut has_part = false;
+    let mut is_behind_slash = false;
+    for byte in rest {
+        match byte {
             b' ' | b'?' => break,
+            b'/' => is_behind_slash = true,
+            _ if is_behind_slash && has_part => return false,
+            _ if is_behind_slash => {
+                has_part = true;
+                is_behind_slash = false;
+            }
             _ => {}
-        }
-        if parts > 1 {
-            return false;
         }
     }
     true

@@ -9,7 +9,7 @@ loop-turn-init g c = record { takes = takes_none c.args.pass c.default-ended.res
 pub loop-turn-preserved : goal.loop-turn-preserved
 loop-turn-preserved g c =
     record {
-      takes = takes_turn c.loop-turn._turn c.args.pass c.loop-turn.seat.pass c.turn-served.new.seat.pass c.loop-turn.ended c.count.new.self (is_err c.turn-served.result) c.loop-turn.invariant.takes c.turn-served.ensures c.count.ensures;
+      takes = takes_turn c.loop-turn._turn c.args.pass c.loop-turn.seat.pass c.visit-goes_on.new.seat.pass c.loop-turn.ended c.count.new.self (is_err c.visit-goes_on.result) c.loop-turn.invariant.takes c.visit-goes_on.ensures c.count.ensures;
       each = c.count.ensures.0 ∙ ap (λ n. n + 1) c.loop-turn.invariant.each;
     }
 

@@ -39,11 +39,11 @@ impl Gathering {
     fn come<R: Wait + Clock>(&self, rt: &R) {
         let mut arrivals = self.arrivals.lock(rt);
         arrivals.here = arrivals.here.saturating_add(1);
-        let (mut arrivals, _) =
-            self.changed
-                .wait_timeout_while(rt, arrivals, self.patience, |arrivals| {
-                    arrivals.here < self.wanted && !arrivals.is_broken_up
-                });
+        let (mut arrivals, _) = self
+            .changed
+            .wait_timeout_while(rt, arrivals, self.patience, |arrivals| {
+                arrivals.here < self.wanted && !arrivals.is_broken_up
+            });
         if arrivals.here < self.wanted {
             arrivals.is_broken_up = true;
         }

@@ -14,7 +14,15 @@ fn connections_are_admitted_refused_and_dropped(rt: HostRuntime) {
         assert!(rt; admission.admit(2) == Entry::Refused);
     }
     assert!(rt; admission.admit(2) == Entry::Dropped);
-    assert_eq!(rt; (admission.left, admission.came, admission.refused, admission.here), (3, 2, 65, 66));
+    assert_eq!(rt;
+        (
+            admission.left,
+            admission.came,
+            admission.refused,
+            admission.here
+        ),
+        (3, 2, 65, 66)
+    );
     for _ in 0..SPARE {
         admission.let_out();
     }
@@ -22,7 +30,15 @@ fn connections_are_admitted_refused_and_dropped(rt: HostRuntime) {
     admission.let_out();
     admission.let_out();
     assert!(rt; admission.admit(2) == Entry::Admitted);
-    assert_eq!(rt; (admission.left, admission.came, admission.refused, admission.here), (2, 3, 66, 2));
+    assert_eq!(rt;
+        (
+            admission.left,
+            admission.came,
+            admission.refused,
+            admission.here
+        ),
+        (2, 3, 66, 2)
+    );
 }
 
 #[test]
@@ -41,8 +57,14 @@ fn a_server_is_open_until_enough_have_come_or_it_is_closed(rt: HostRuntime) {
 #[test]
 fn an_ordinary_server_has_ten_thousand_connections(rt: HostRuntime) {
     let limits = Limits::of_server();
-    assert_eq!(rt; (limits.connections, limits.places(), limits.bytes), (10_000, 10_064, 268_435_456));
-    assert_eq!(rt; (limits.patience.idle, limits.patience.request), (90_000, 10_000));
+    assert_eq!(rt;
+        (limits.connections, limits.places(), limits.bytes),
+        (10_000, 10_064, 268_435_456)
+    );
+    assert_eq!(rt;
+        (limits.patience.idle, limits.patience.request),
+        (90_000, 10_000)
+    );
 }
 
 /// Three calls are made at once in three threads, and can't be in two; that is known when the time is up.
@@ -55,6 +77,8 @@ fn threads_gather_where_there_are_enough(rt: HostRuntime) -> Result<(), Fail> {
     assert!(rt; began.elapsed(&rt)? < Duration::from_secs(15));
     assert!(rt; !can_gather(&rt, rt.alloc(), 3, 2, short)?);
     assert!(rt; !can_gather(&rt, rt.alloc(), 2, 0, short)?);
-    assert!(rt; can_gather(&rt, rt.alloc(), 0, 1, short)? && can_gather(&rt, rt.alloc(), 1, 1, short)?);
+    assert!(rt;
+        can_gather(&rt, rt.alloc(), 0, 1, short)? && can_gather(&rt, rt.alloc(), 1, 1, short)?
+    );
     Ok(())
 }

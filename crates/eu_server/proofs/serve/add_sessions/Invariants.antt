@@ -9,4 +9,4 @@ invariant-loop-source g l =
     (goal.iterator-loop-source g).can_next l.source-iterator
     × (goal.iterator-loop-source g).is_finite l.source-iterator
     × ((count : ℕ) × (count + into_iter_len l.source-iterator ≡ vec_len l.fn.stations)
-        × (sessions : _) × AreSessions count sessions × (l.workers.items ≡ l.fn.workers.items ++ sessions))
+    × (sessions : _) × AreSessions count sessions × (l.workers.items ≡ l.fn.workers.items ++ sessions))

@@ -307,7 +307,7 @@ fn run_workers<
 >(
     rt: &'a R,
     alloc: Global,
-    shared: &'a Shared<K>,
+    shared: &Shared<K>,
     hub: &'a Hub<'a, R>,
     stations: Vec<Station<'a, R>>,
     chooser: H,
@@ -375,15 +375,16 @@ pub struct Finished {
 /// Has all workers of a server by this plan work until the sessions have ended, and then closes and settles the book, whether accepting
 /// a connection has failed or not. The faults are those of `run_workers` and `close_book`, never that of an accept.
 fn serve_and_close<
+    'a,
     K: Label + Send + Sync,
     R: Threads + Wait + Clock + Net + Sync,
     H: Chooser + Send + Drop,
 >(
-    rt: &R,
+    rt: &'a R,
     alloc: Global,
     shared: Shared<K>,
-    hub: &Hub<'_, R>,
-    stations: Vec<Station<'_, R>>,
+    hub: &'a Hub<'a, R>,
+    stations: Vec<Station<'a, R>>,
     chooser: H,
 ) -> Result<Finished, Fault>
     ensures lawful { IfOk result (λ o. IsLawful (account_of o.closed)) }

@@ -181,7 +181,7 @@ fn add_sessions<'a, K: Label, R: Wait + Clock, H: Chooser + Drop>(
     shared: &Shared<K>,
     stations: Vec<Station<'a, R>>,
 ) -> Result<(), Fault>
-    ensures made { OnOk result ((sessions : _) × AreSessions (vec_len stations) sessions × (workers.new.items ≡ workers.old.items ++ sessions)) }
+    ensures made { OnOk result ((sessions : _) × AreSessions (vec_len stations.entry) sessions × (workers.new.items ≡ workers.old.items ++ sessions)) }
     ensures fault { IfErr result IsStart }
 {
     for source in stations {
@@ -266,7 +266,7 @@ fn make_workers<'a, K: Label, R: Wait + Clock, H: Chooser + Drop>(
     stations: Vec<Station<'a, R>>,
     chooser: H,
 ) -> Result<Vec<ServerWorker<'a, K, R, H>>, Fault>
-    ensures staff { IfOk result (λ staff. IsStaff (vec_len stations) chooser staff.items) }
+    ensures staff { IfOk result (λ staff. IsStaff (vec_len stations.entry) chooser staff.items) }
     ensures fault { IfErr result IsStart }
 {
     let mut workers = Vec::with_capacity(alloc, stations.len().saturating_add(TIMERS))?;

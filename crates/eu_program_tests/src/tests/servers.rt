@@ -29,6 +29,7 @@ fn idle(port: u16) -> Serving {
         connections: 100,
         idle_ms: 90_000,
         request_ms: 10_000,
+        until_input_ends: false,
     }
 }
 

@@ -14,6 +14,10 @@ use std::test::Fail;
 /// A renewal.
 const RENEWAL: &str = "PUT /eureka/apps/A/i1 HTTP/1.1\r\nHost: x\r\n\r\n";
 
+/// The same in two pieces.
+const BEGUN: &str = "PUT /eureka/apps/A/i1 HTTP/1.1";
+const REST: &str = "\r\nHost: x\r\n\r\n";
+
 /// What it is answered.
 const ANSWER: &str = "HTTP/1.1 404 Not Found\r\nContent-Length: 0\r\n\r\n";
 
@@ -82,7 +86,7 @@ fn turns_follow_one_another(rt: HostRuntime) -> Result<(), Fail> {
 #[test]
 fn a_turn_that_waits_is_taken_again(rt: HostRuntime) -> Result<(), Fail> {
     let mut talking = Talking::new(rt.alloc())?;
-    let (begun, rest) = RENEWAL.as_bytes().split_at(30);
+    let (begun, rest) = (BEGUN.as_bytes(), REST.as_bytes());
     let mut reader = Parts::failing(begun, b"");
     assert!(rt; talking.turn(&mut reader) == Err(SessionFault::Read));
     assert!(rt; talking.out.is_empty() && talking.talk.inbox.as_slice() == begun);

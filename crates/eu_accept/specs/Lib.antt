@@ -1,4 +1,5 @@
 pub mod Admissions
 pub mod Calls
 pub mod Limits
+pub mod Messages
 pub mod Passing

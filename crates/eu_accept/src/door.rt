@@ -13,7 +13,7 @@ use std::io::ErrorKind;
 use std::net::{self, Net};
 use std::os::fd::RawFd;
 use std::sync::Wait;
-use std::time::{Clock, Duration};
+use std::time::{Clock, Duration, Instant};
 
 /// How long the door waits before it tries again what may have failed for want of descriptors, in milliseconds.
 const TICK_MS: u64 = 250;
@@ -47,6 +47,7 @@ pub struct Door<'a, R: Wait + Clock> {
     next: usize,
     has_input: bool,
     is_behind: bool,
+    began: Instant,
 }
 
 /// Whether an accept that failed by such an error is tried again: none waits; or one was aborted before it was accepted, its network failed, or a
@@ -89,7 +90,7 @@ fn failed(error: &io::Error) -> Accepted
 
 impl<'a, R: Wait + Clock> Door<'a, R> {
     /// The door at a listener, which waits no more from now on. Where an input is named, the server stops at its end: a pipe or a socket, by its
-    /// descriptor, that is open as long as the door is. An error is the system's; one comes also where the input can't be polled, as a file.
+    /// descriptor, that is open as long as the door is. An error is the system's or the clock's; one comes also where the input can't be polled, as a file.
     pub fn new(
         hub: &'a Hub<'a, R>,
         net: &impl Net,
@@ -114,9 +115,12 @@ impl<'a, R: Wait + Clock> Door<'a, R> {
             next: 0,
             has_input: input.is_some(),
             is_behind: false,
+            began: Instant::now(hub.rt)?,
         })
     }
+}
 
+impl<'a, R: Wait + Clock + Eprint> Door<'a, R> {
     /// Accepts one connection.
     fn accept(&self) -> Accepted {
         match self.listener.accept() {
@@ -141,6 +145,14 @@ impl<'a, R: Wait + Clock> Door<'a, R> {
         };
         if mailbox.put(self.hub.rt, mail).is_err() {
             self.hub.let_out();
+        }
+    }
+
+    /// The milliseconds since the door was opened; 0 where the clock can't be read.
+    fn now(&self) -> u64 {
+        match self.began.elapsed(self.hub.rt) {
+            Ok(time) => u64::try_from(time.as_millis()).unwrap_or(u64::MAX),
+            Err(_) => 0,
         }
     }
 
@@ -183,7 +195,9 @@ impl<'a, R: Wait + Clock> Door<'a, R> {
         if self.has_input_ended() {
             self.hub.stop();
         }
-        self.is_behind = self.accept_all()?;
+        let accepted = self.accept_all();
+        self.hub.tell_refusals(self.now());
+        self.is_behind = accepted?;
         Ok(())
     }
 

@@ -5,9 +5,10 @@ ghost use Rattle.eu_accept.specs.Limits.{server_limits};
 use crate::admission::{Admission, Entry, SPARE};
 use crate::loops::WAKER;
 use crate::mail::Mailbox;
+use crate::messages::{Message, Told};
 use crate::pace::Pace;
 use crate::pool::Pool;
-use eu_gate::Periods;
+use eu_gate::{Gate, Go, News, Periods, Point};
 use eu_hall::{PATIENCE, Patience};
 use mio::{Poll, Waker};
 use std::alloc::Global;
@@ -72,19 +73,22 @@ pub struct Hub<'a, R: Wait + Clock> {
     pub pool: Pool,
     /// What is counted.
     pub admission: Mutex<Admission>,
-    /// The gate of the workers.
+    /// What paces the timers.
     pub pace: Pace<'a, R>,
+    /// What was told of messages, where they are told.
+    pub told: Option<Mutex<Told>>,
 }
 
 impl<'a, R: Wait + Clock + Net> Hub<'a, R> {
-    /// What the threads of a server share that begins now, with as many loops as the admission says; and what each loop polls with. An error is the
-    /// system's or the clock's; `OutOfMemory` comes where no memory is left.
+    /// What the threads of a server share that begins now, with as many loops as the admission says; and what each loop polls with. Where it is known
+    /// what was told of messages, they are told from now on. An error is the system's or the clock's; `OutOfMemory` comes where no memory is left.
     pub fn open(
         rt: &'a R,
         alloc: Global,
         limits: Limits,
         periods: Periods,
         admission: Admission,
+        told: Option<Told>,
     ) -> io::Result<(Hub<'a, R>, Vec<Poll>)>
         ensures { IfOk result (λ opened. vec_len opened.1 ≡ admission.loops) }
     {
@@ -105,6 +109,7 @@ impl<'a, R: Wait + Clock + Net> Hub<'a, R> {
             pool: Pool::new(alloc, limits.places(), limits.share(loops as usize))?,
             admission: Mutex::new(admission),
             pace: Pace::new(rt, periods)?,
+            told: told.map(Mutex::new),
         };
         Ok((hub, polls))
     }
@@ -159,5 +164,40 @@ impl<'a, R: Wait + Clock> Hub<'a, R> {
             self.pool.close(self.rt);
             self.pace.end();
         }
+    }
+}
+
+impl<R: Wait + Clock + Eprint> Hub<'_, R> {
+    /// Tells how many connections were refused since that was told before, at that time, in milliseconds: at most once a second.
+    pub(crate) fn tell_refusals(&self, now: u64) {
+        let Some(told) = &self.told else {
+            return;
+        };
+        let refused = self.counts().refused;
+        let message = told.lock(self.rt).refusals(refused, now);
+        self.tell(message);
+    }
+
+    /// Tells a message, if there is one.
+    fn tell(&self, message: Option<Message>) {
+        if let Some(message) = message {
+            message.tell(self.rt);
+        }
+    }
+}
+
+/// The gate of a server's workers: it paces the timers, and tells of evictions.
+impl<R: Wait + Clock + Eprint> Gate for Hub<'_, R> {
+    fn pass(&self, who: u32, point: Point) -> Go {
+        self.pace.pass(who, point)
+    }
+
+    fn hear(&self, news: News) {
+        let Some(told) = &self.told else {
+            return;
+        };
+        let change = told.lock(self.rt).change(&news);
+        self.tell(change);
+        self.tell(Message::of_pass(&news));
     }
 }

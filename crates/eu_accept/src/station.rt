@@ -55,7 +55,7 @@ impl<'a, R: Wait + Clock> Station<'a, R> {
     }
 }
 
-impl<'a, R: Wait + Clock> Incoming for Station<'a, R> {
+impl<'a, R: Wait + Clock + Eprint> Incoming for Station<'a, R> {
     type Socket = TcpStream;
 
     fn next(&mut self) -> Option<Visit<TcpStream, Talk>> {

@@ -2,6 +2,8 @@
 use crate::admission::{Admission, Entry, SPARE};
 use crate::gathering::can_gather;
 use crate::hub::Limits;
+use crate::messages::{Message, Told};
+use eu_gate::News;
 use std::test::Fail;
 use std::time::{Duration, Instant};
 
@@ -81,4 +83,53 @@ fn threads_gather_where_there_are_enough(rt: HostRuntime) -> Result<(), Fail> {
         can_gather(&rt, rt.alloc(), 0, 1, short)? && can_gather(&rt, rt.alloc(), 1, 1, short)?
     );
     Ok(())
+}
+
+/// What the evictor sees at a turn where so many are due and so many go.
+fn news(permitted: bool, due: u64, evicted: u64) -> News {
+    News {
+        permitted,
+        renewals: 12,
+        threshold: 20,
+        due,
+        evicted,
+    }
+}
+
+/// A pass is told where it evicted, and a change where there is one.
+#[test]
+fn passes_and_changes_are_told(rt: HostRuntime) {
+    let mut told = Told::new(false);
+    assert_eq!(rt; Message::of_pass(&news(true, 7, 0)), None);
+    assert_eq!(rt;
+        Message::of_pass(&news(true, 7, 3)),
+        Some(Message::Evicted { evicted: 3, due: 7 })
+    );
+    assert_eq!(rt; told.change(&news(false, 7, 0)), None);
+    assert_eq!(rt;
+        told.change(&news(true, 7, 0)),
+        Some(Message::Permitted {
+            renewals: 12,
+            threshold: 20
+        })
+    );
+    assert_eq!(rt; told.change(&news(true, 7, 3)), None);
+    assert_eq!(rt;
+        told.change(&news(false, 4, 0)),
+        Some(Message::HeldBack {
+            renewals: 12,
+            threshold: 20
+        })
+    );
+}
+
+/// Refusals are told once a second: all that came since.
+#[test]
+fn refusals_are_told_once_a_second(rt: HostRuntime) {
+    let mut told = Told::new(true);
+    assert_eq!(rt; told.refusals(0, 5), None);
+    assert_eq!(rt; told.refusals(2, 10), Some(Message::Refused(2)));
+    assert_eq!(rt; told.refusals(5, 1_009), None);
+    assert_eq!(rt; told.refusals(5, 1_010), Some(Message::Refused(3)));
+    assert_eq!(rt; told.refusals(5, 9_000), None);
 }

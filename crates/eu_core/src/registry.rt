@@ -9,7 +9,7 @@ ghost use Rattle.eu_model.specs.Server.{key_of};
 ghost use Rattle.eu_model.specs.Machine.{opening, is_permitted};
 ghost use Rattle.eu_model.specs.Plain.{plain};
 ghost use Rattle.eu_model.specs.Answers.{Answers, Shows};
-ghost use Rattle.eu_model.specs.View.{counts, one, listing, status_counts};
+ghost use Rattle.eu_model.specs.View.{counts, gauges, one, listing, status_counts};
 ghost use Rattle.eu_model.specs.PlainSteps.{plain_join_fault, plain_seen};
 ghost use Rattle.eu_model.specs.Step.{extra_time};
 ghost use Rattle.eu_core.specs.Decided.{count_fault, counted, left, Decides, IsFrugal, IsReady};
@@ -34,7 +34,9 @@ use eu_base::{
 use eu_clock::Chooser;
 use eu_eviction::{Eviction, Overrides, Removed, run_eviction};
 use eu_lease::{Rate, Threshold};
-use eu_model::{Command, Counts, Listed, Listing, Queues, Reply, State, StatusCounts, Times};
+use eu_model::{
+    Command, Counts, Gauges, Listed, Listing, Queues, Reply, State, StatusCounts, Times,
+};
 use eu_store::{HeldLease, Leases, Place, Snapshot};
 use std::alloc::{AllocError, Global};
 use std::marker::Model;
@@ -95,6 +97,19 @@ impl Registry {
             permitted: self.threshold.permitted(last),
             preservation: self.threshold.config().preservation,
         }
+    }
+
+    /// The counts, and how many leases are due at the moment: those that an eviction may take, where it is permitted. `AllocError` where no memory is
+    /// left.
+    pub fn gauges(&self, alloc: Global, moment: Moment) -> Result<Gauges, AllocError>
+        ensures { IfOk result (λ g. Shows self.now (λ s. gauges s moment) g) }
+    {
+        let extra = extra_time(&self.threshold.config(), self.previous, moment);
+        let due = self.leases.expired_number(alloc, moment, extra)?;
+        Ok(Gauges {
+            counts: self.counts(),
+            due: due as u64,
+        })
     }
 
     /// How many leases are held of each status, expired or not. Takes no memory, and looks at no lease.

@@ -41,6 +41,21 @@ pub enum Go {
     Stop,
 }
 
+/// What a turn of the evictor saw and did.
+#[derive(Clone, Copy, Debug, PartialEq, Eq)]
+pub struct News {
+    /// Whether eviction was permitted.
+    pub permitted: bool,
+    /// The renewals of the last whole minute.
+    pub renewals: u64,
+    /// The renewals a minute above which eviction is permitted.
+    pub threshold: u64,
+    /// How many leases were due.
+    pub due: u64,
+    /// How many were evicted.
+    pub evicted: u64,
+}
+
 /// What the workers of a server pass before they go on. So a server paces its timers and stops its workers, and a test holds them
 /// where it wants them.
 pub trait Gate {
@@ -50,4 +65,7 @@ pub trait Gate {
     /// Lets the worker of that number go on from a point, or stops it. It may take as long as it wants.
     fn pass(&self, who: u32, point: Point) -> Go
         ensures { result ≡ Go.Stop → stops self.now };
+
+    /// Hears what a turn of the evictor saw and did. Nothing comes of it but where it is to be told.
+    fn hear(&self, _news: News) {}
 }

@@ -5,6 +5,7 @@ mod gate;
 mod timers;
 
 pub use gate::{
-    BUCKET, EVICTOR, FIRST_REPLICATOR, Gate, Go, MOST_WORKERS, OTHER_WORKERS, Point, THRESHOLD,
+    BUCKET, EVICTOR, FIRST_REPLICATOR, Gate, Go, MOST_WORKERS, News, OTHER_WORKERS, Point,
+    THRESHOLD,
 };
 pub use timers::{BUCKET_MS, Periods, Schedule, Schedules, THRESHOLD_MS, Timer};

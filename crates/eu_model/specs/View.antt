@@ -1,5 +1,5 @@
 -- What is seen of the lease machine
-use Rattle.std.specs.Prelude.{ℕ, ◌==◌, ◌+◌, ◌-◌, Bool, true, if◌then◌else◌, List, [], ◌∷◌, ◌++◌, Option, Some, None, map, filter, count_by, codes}
+use Rattle.std.specs.Prelude.{ℕ, ◌==◌, ◌+◌, ◌-◌, Bool, true, if◌then◌else◌, List, [], ◌∷◌, ◌++◌, Option, Some, None, length, map, filter, count_by, codes}
 use Rattle.std.specs.Option.{option_map}
 use Rattle.std.specs.FinMap.{len, entries}
 use Rattle.std.specs.Fmt.{decimal}
@@ -9,6 +9,7 @@ use Rattle.eu_base.specs.declared.statuses.Status.TheVariants.{Up, Down, Startin
 use Rattle.eu_base.specs.Values.{name_eq, status_name}
 use Rattle.eu_model.specs.declared.status_counts.StatusCounts.{StatusCounts}
 use Rattle.eu_model.specs.declared.views.Counts.{Counts}
+use Rattle.eu_model.specs.declared.views.Gauges.{Gauges}
 use Rattle.eu_model.specs.declared.views.Listed.{Listed}
 use Rattle.eu_model.specs.declared.views.Query.{Query}
 use Rattle.eu_model.specs.declared.views.Query.TheVariants as asked
@@ -17,6 +18,7 @@ use Rattle.eu_model.specs.declared.views.View.TheVariants as seen
 use Rattle.eu_model.specs.Machine.{last, threshold, Machine, permits, visible}
 use Rattle.eu_model.specs.Change.{is_status}
 use Rattle.eu_model.specs.Plain.{listed}
+use Rattle.eu_model.specs.Step.{due}
 
 abbrev pub counts : Machine → Counts
 counts s = record {
@@ -27,6 +29,10 @@ counts s = record {
   permitted = permits s;
   preservation = s.config.preservation;
 }
+
+-- what is watched at a moment: the counts, and how many leases are due
+abbrev pub gauges : Machine → ℕ → Gauges
+gauges s t = record { counts = counts s; due = length (due s t) }
 
 -- the lease at a key, where it is visible
 abbrev pub one : Machine → Key → ℕ → Option Listed

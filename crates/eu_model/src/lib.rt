@@ -27,4 +27,4 @@ pub use queues::{Queue, Queues};
 pub use states::{OverrideRows, State};
 pub use status_counts::StatusCounts;
 pub use tallies::Tally;
-pub use views::{Counts, Listed, Listing, Query, Times, View};
+pub use views::{Counts, Gauges, Listed, Listing, Query, Times, View};

@@ -50,6 +50,15 @@ pub struct Counts {
     pub preservation: bool,
 }
 
+/// What an operator watches of a registry.
+#[derive(Clone, Copy, Debug)]
+pub struct Gauges {
+    /// The counts.
+    pub counts: Counts,
+    /// The leases that are due: those that an eviction may take, where it is permitted.
+    pub due: u64,
+}
+
 /// The moments of a lease, in milliseconds.
 #[derive(Clone, Copy, Debug)]
 pub struct Times {

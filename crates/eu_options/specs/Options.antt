@@ -75,6 +75,10 @@ forever_rule = record (new_rule (codes "forever")) { long = Some (codes "forever
 abbrev pub until_rule : Rule
 until_rule = record (new_rule (codes "until-input-ends")) { long = Some (codes "until-input-ends"); action = Some SetTrue }
 
+-- the option `--quiet`, which has no value
+abbrev pub quiet_rule : Rule
+quiet_rule = record (new_rule (codes "quiet")) { long = Some (codes "quiet"); action = Some SetTrue }
+
 -- a command with the two options more that say where a server listens: a port of 16 bits, which has to be given, and an address
 abbrev pub with_address : App → App
 with_address app =
@@ -101,10 +105,10 @@ with_limits app =
     (option_rule (codes "idle-ms") (Signed (pos 1) (pos 4294967295)) (codes "90000")))
     (option_rule (codes "request-ms") (Signed (pos 1) (pos 4294967295)) (codes "10000"))
 
--- a command with the fifteen options of a server more
+-- a command with the sixteen options of a server more
 abbrev pub with_server_options : App → ValueParser → App
 with_server_options app switch =
-    with_limits (with_work (with_address (with_rule (with_settings app switch) drawing_rule)))
+    with_rule (with_limits (with_work (with_address (with_rule (with_settings app switch) drawing_rule)))) quiet_rule
 
 -- the option `--journal FILE`, which may be left out
 abbrev pub journal_rule : Rule
@@ -169,4 +173,4 @@ IsServing m s =
     × IsEnd m s.sessions × IsNumber m (codes "workers") s.workers
     × IsNumber m (codes "expected") s.expected × IsNumber m (codes "connections") s.connections
     × IsNumber m (codes "idle-ms") s.idle_ms × IsNumber m (codes "request-ms") s.request_ms
-    × IsFlag m (codes "until-input-ends") s.until_input_ends
+    × IsFlag m (codes "until-input-ends") s.until_input_ends × IsFlag m (codes "quiet") s.is_quiet

@@ -6,7 +6,7 @@ ghost use Rattle.std.specs.declared.net.ip_addr.IpAddr.{IpAddr};
 ghost use Rattle.eu_options.specs.declared.serving.Drawing.{Drawing};
 ghost use Rattle.eu_options.specs.declared.serving.Drawing.TheVariants.{FirstOnes, Seeded, FromSystem};
 ghost use Rattle.eu_options.specs.declared.serving.Serving.{Serving};
-ghost use Rattle.eu_options.specs.Options.{option_rule, needed_rule, bind_rule, drawing_rule, forever_rule, until_rule, sessions_rule, with_journal, with_address, with_limits, with_options, with_server_options, with_settings, with_work, seed_rule, program_app, IsSwitchParser, IsAddress, IsConfig, IsDrawing, IsEnd, IsFlag, IsNumber, IsServing};
+ghost use Rattle.eu_options.specs.Options.{option_rule, needed_rule, bind_rule, drawing_rule, forever_rule, until_rule, quiet_rule, sessions_rule, with_journal, with_address, with_limits, with_options, with_server_options, with_settings, with_work, seed_rule, program_app, IsSwitchParser, IsAddress, IsConfig, IsDrawing, IsEnd, IsFlag, IsNumber, IsServing};
 
 use crate::serving::{Drawing, Serving};
 use clap::builder::ValueParser;
@@ -176,6 +176,17 @@ fn until_option<'a>(alloc: Global) -> Arg<'a>
         .help("Ends at the end of standard input, too, which has to be a pipe or a socket")
 }
 
+/// The option `--quiet`.
+fn quiet_option<'a>(alloc: Global) -> Arg<'a>
+    ensures rule { rule_of result ≡ quiet_rule }
+    ensures local { result.global ≡ false }
+{
+    Arg::new(alloc, "quiet")
+        .long("quiet")
+        .action(ArgAction::SetTrue)
+        .help("Tells nothing of evictions and of connections that are refused")
+}
+
 /// The options that say where a server listens.
 fn with_address<'a>(alloc: Global, command: Command<'a>) -> Result<Command<'a>, AllocError>
     ensures app { IfOk result (λ c. app_of c ≡ with_address (app_of command.entry)) }
@@ -281,7 +292,8 @@ fn with_server<'a>(alloc: Global, command: Command<'a>) -> Result<Command<'a>, A
     let drawing = settings.arg(drawing_option(alloc))?;
     let address = with_address(alloc, drawing)?;
     let work = with_work(alloc, address)?;
-    with_limits(alloc, work)
+    let limits = with_limits(alloc, work)?;
+    limits.arg(quiet_option(alloc))
 }
 
 /// The command `serve` with its options.
@@ -416,12 +428,12 @@ pub fn drawing_of(matches: &ArgMatches<'_>) -> Option<Drawing>
     Some(Drawing::Seeded(seed))
 }
 
-/// Whether a server ends with its input, as the options say. None where they don't say it.
-fn until_of(matches: &ArgMatches<'_>) -> Option<bool>
-    ensures some { IfSome result (IsFlag matches.now (codes "until-input-ends")) }
-    ensures none { (b : Bool) → IsFlag matches.now (codes "until-input-ends") b → IsSome result }
+/// Whether the option of that name is given, which has no value. None where the options don't say it.
+fn flag_of(matches: &ArgMatches<'_>, name: &str) -> Option<bool>
+    ensures some { IfSome result (IsFlag matches.now name.now) }
+    ensures none { (b : Bool) → IsFlag matches.now name.now b → IsSome result }
 {
-    let text = matches.get_str("until-input-ends")?;
+    let text = matches.get_str(name)?;
     Some(text == "true")
 }
 
@@ -439,7 +451,8 @@ pub fn serving_of(matches: &ArgMatches<'_>) -> Option<Serving>
     let connections = number_within(matches, "connections", 1, MOST_CONNECTIONS)?;
     let idle_ms = number_within(matches, "idle-ms", 1, u32::MAX)?;
     let request_ms = number_within(matches, "request-ms", 1, u32::MAX)?;
-    let until_input_ends = until_of(matches)?;
+    let until_input_ends = flag_of(matches, "until-input-ends")?;
+    let is_quiet = flag_of(matches, "quiet")?;
     Some(Serving {
         port,
         bind,
@@ -450,5 +463,6 @@ pub fn serving_of(matches: &ArgMatches<'_>) -> Option<Serving>
         idle_ms,
         request_ms,
         until_input_ends,
+        is_quiet,
     })
 }

@@ -24,6 +24,8 @@ pub struct Serving {
     pub request_ms: u32,
     /// Whether it ends at the end of its input, too.
     pub until_input_ends: bool,
+    /// Whether it tells nothing of evictions and of connections that are refused.
+    pub is_quiet: bool,
     ghost workers_bound: { (1 ≤ workers) × (workers ≤ 16) },
     ghost connections_bound: { (1 ≤ connections) × (connections ≤ 1000000) },
     ghost idle_bound: { 1 ≤ idle_ms },

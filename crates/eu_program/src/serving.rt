@@ -90,6 +90,7 @@ fn plan_of(config: Config, serving: Serving, connections: u32) -> Plan
     ensures idle { result.limits.patience.idle ≡ serving.idle_ms }
     ensures request { result.limits.patience.request ≡ serving.request_ms }
     ensures input { result.input ≡ (if serving.until_input_ends then Some (pos 0) else None) }
+    ensures quiet { result.is_quiet ≡ serving.is_quiet }
     ensures limits { result.limits ≡ record server_limits { connections = connections; patience = record server_limits.patience { idle = serving.idle_ms; request = serving.request_ms } } }
 {
     let sessions = match serving.sessions {
@@ -101,6 +102,7 @@ fn plan_of(config: Config, serving: Serving, connections: u32) -> Plan
     plan.limits.patience.idle = serving.idle_ms;
     plan.limits.patience.request = serving.request_ms;
     plan.input = input_of(serving.until_input_ends);
+    plan.is_quiet = serving.is_quiet;
     plan
 }
 

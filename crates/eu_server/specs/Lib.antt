@@ -2,3 +2,4 @@ pub mod Ends
 pub mod Served
 pub mod Staff
 pub mod Journal
+pub mod Messages

@@ -7,6 +7,7 @@ ghost use Rattle.eu_book.specs.Peers.{state_of};
 ghost use Rattle.eu_accept.specs.Limits.{server_limits};
 ghost use Rattle.eu_server.specs.Ends.{IsBegin, IsClose, IsEnd, IsStart};
 ghost use Rattle.eu_server.specs.Journal.{IsUntold, closed_text};
+ghost use Rattle.eu_server.specs.Messages.{told_first};
 ghost use Rattle.eu_server.specs.Served.{served_text};
 ghost use Rattle.eu_server.specs.Staff.{AreSessions, AreTimers, IsReadyFor, IsStaff};
 ghost use Rattle.eu_settle.specs.Settled.{IsMismatch, IsSettled};
@@ -15,7 +16,7 @@ ghost use Rattle.eu_shared.specs.Closing.{account_of};
 ghost use Rattle.eu_shared.specs.Shares.{HasNames, HasParts};
 
 use crate::no_peer::NoPeer;
-use eu_accept::{Admission, Door, Hand, Hub, Limits, Loop, Station, can_gather};
+use eu_accept::{Admission, Door, Hand, Hub, Limits, Loop, Station, Told, can_gather};
 use eu_base::{Config, Fault};
 use eu_clock::{Chooser, SystemClock};
 use eu_gate::{BUCKET_MS, MOST_WORKERS, OTHER_WORKERS, Periods, THRESHOLD_MS};
@@ -59,6 +60,8 @@ pub struct Plan {
     pub limits: Limits,
     /// The descriptor of a pipe or a socket at whose end the server ends, too, if there is one.
     pub input: Option<RawFd>,
+    /// Whether nothing is told on standard error of evictions and of connections that are refused.
+    pub is_quiet: bool,
 }
 
 impl Plan {
@@ -70,6 +73,7 @@ impl Plan {
         ensures periods { result.periods ≡ record { evictor = config.evict_ms; bucket = BUCKET_MS; threshold = THRESHOLD_MS } }
         ensures limits { result.limits ≡ server_limits }
         ensures input { result.input ≡ None }
+        ensures quiet { result.is_quiet ≡ false }
     {
         Plan {
             config,
@@ -79,6 +83,7 @@ impl Plan {
             periods: Periods::of_server(config.evict_ms),
             limits: Limits::of_server(),
             input: None,
+            is_quiet: false,
         }
     }
 }
@@ -97,6 +102,16 @@ fn admission_of(plan: &Plan) -> Admission
 {
     let loops = workers_of(plan.workers);
     Admission::new(plan.sessions, loops)
+}
+
+/// What a server by a plan has told at first, if it tells anything: without self-preservation evictions are permitted from the start.
+fn told_of(plan: &Plan) -> Option<Told>
+    ensures { result ≡ told_first plan.now.is_quiet plan.now.config }
+{
+    if plan.is_quiet {
+        return None;
+    }
+    Some(Told::new(!plan.config.preservation))
 }
 
 /// What a server ends by that can't begin, since the system refuses something: `OutOfMemory` where that is memory, else `Read`.
@@ -120,7 +135,14 @@ fn open_hub<'a, R: Wait + Clock + Net>(
     ensures fault { IfErr result IsBegin }
 {
     let admission = admission_of(plan);
-    match Hub::open(rt, alloc, plan.limits, plan.periods, admission) {
+    match Hub::open(
+        rt,
+        alloc,
+        plan.limits,
+        plan.periods,
+        admission,
+        told_of(plan),
+    ) {
         Ok(opened) => Ok(opened),
         Err(error) => Err(fault_of(&error)),
     }
@@ -302,7 +324,7 @@ fn has_threads<R: Threads + Wait + Clock + Sync>(rt: &R, alloc: Global, workers:
 fn run_workers<
     'a,
     K: Label + Send + Sync,
-    R: Threads + Wait + Clock + Net + Sync,
+    R: Threads + Wait + Clock + Net + Eprint + Sync,
     H: Chooser + Send + Drop,
 >(
     rt: &'a R,
@@ -325,7 +347,7 @@ fn run_workers<
         alloc,
         shared,
         routes: &routes,
-        gate: &hub.pace,
+        gate: hub,
     };
     run_all(&site, workers.as_mut_slice());
     gather(workers, &mut passes);
@@ -377,7 +399,7 @@ pub struct Finished {
 fn serve_and_close<
     'a,
     K: Label + Send + Sync,
-    R: Threads + Wait + Clock + Net + Sync,
+    R: Threads + Wait + Clock + Net + Eprint + Sync,
     H: Chooser + Send + Drop,
 >(
     rt: &'a R,
@@ -421,7 +443,7 @@ fn judge_accepts(has_failed: bool, outcome: Result<Finished, Fault>) -> Result<F
 /// do there, but for `Write`: nothing is written.
 pub fn serve_book<
     K: Label + Send + Sync,
-    R: Threads + Wait + Clock + Net + Sync,
+    R: Threads + Wait + Clock + Net + Eprint + Sync,
     H: Chooser + Send + Drop,
 >(
     rt: &R,
@@ -457,7 +479,7 @@ fn tell<W: Write>(writer: &mut W, served: u64) -> Result<(), Fault>
 }
 
 /// Serves by a plan as `serve_book` does, over a book of its own.
-fn serve_new<R: Threads + Wait + Clock + Net + Sync, H: Chooser + Send + Drop>(
+fn serve_new<R: Threads + Wait + Clock + Net + Eprint + Sync, H: Chooser + Send + Drop>(
     rt: &R,
     alloc: Global,
     listener: &TcpListener,
@@ -473,6 +495,9 @@ fn serve_new<R: Threads + Wait + Clock + Net + Sync, H: Chooser + Send + Drop>(
 }
 
 /// Serves so many connections of a listener as the plan says, by its workers, and then writes `served N`, N being how many there were.
+///
+/// Unless the plan is quiet, standard error is told of each eviction that took leases, of each turn of the evictor at which evictions are permitted and
+/// weren't before, or the other way round, and of connections that are refused, at most once a second (`eu_accept::Message`).
 ///
 /// A book is opened with the settings and the number expected, without peers. Each accepted connection is one session of
 /// HTTP/1.1 (`eu_session::take_turn`, turn by turn), at the machine's time. Each belongs to one of the loops, which visits it whenever something has come,
@@ -498,7 +523,11 @@ fn serve_new<R: Threads + Wait + Clock + Net + Sync, H: Chooser + Send + Drop>(
 /// - `Write` where `served N` can't be written or flushed.
 ///
 /// In all cases but the last nothing is written.
-pub fn serve_by<R: Threads + Wait + Clock + Net + Sync, H: Chooser + Send + Drop, W: Write>(
+pub fn serve_by<
+    R: Threads + Wait + Clock + Net + Eprint + Sync,
+    H: Chooser + Send + Drop,
+    W: Write,
+>(
     rt: &R,
     alloc: Global,
     listener: &TcpListener,
@@ -557,7 +586,7 @@ fn flush<J: Sink>(journal: &mut J) -> Result<(), Fault>
 /// neither there nor of `served N`. `Write` comes also where a write or a flush of the journal failed, now or before: then a front of the
 /// text was written there, and nothing of `served N`. Where `Write` comes of `served N`, the text was written whole.
 pub fn serve_with_journal<
-    R: Threads + Wait + Clock + Net + Sync,
+    R: Threads + Wait + Clock + Net + Eprint + Sync,
     H: Chooser + Send + Drop,
     J: Sink,
     W: Write,

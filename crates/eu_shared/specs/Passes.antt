@@ -9,6 +9,7 @@ use Rattle.eu_clock.specs.Front.{Asks}
 use Rattle.eu_model.specs.declared.commands.Command.{Command}
 use Rattle.eu_model.specs.declared.commands.Entry.{Entry}
 use Rattle.eu_model.specs.declared.tallies.Tally.{Tally}
+use Rattle.eu_model.specs.declared.views.Gauges.{Gauges}
 use Rattle.eu_model.specs.declared.views.Query.{Query}
 use Rattle.eu_model.specs.declared.views.View.{View}
 use Rattle.eu_model.specs.Answers.{Shows}
@@ -67,6 +68,10 @@ IsRefusedBySome c t f = (a : Account) × IsLawful a × Refuses a c t f × (f ≡
 -- some lawful book, of at least the pass's own steps, shows it to the pass, which has then seen where its journal begins
 abbrev pub IsShownBySome : PassAccount → Query → ℕ → View → PassAccount → Type 0
 IsShownBySome p q t v p' = (a : Account) × IsLawful a × (p.tally.steps ≤ a.totals.steps) × Shows a.state.registry (λ s. model_view.view s q t) v × (p'.journal_first ≡ max p.journal_first a.first)
+
+-- some lawful book has these counts, and so many leases due
+abbrev pub IsSeenOfSome : ℕ → Gauges → Type 0
+IsSeenOfSome t g = (a : Account) × IsLawful a × Shows a.state.registry (λ s. model_view.gauges s t) g
 
 -- some lawful book's journal begins anew for the pass, which has then seen where: after all steps
 abbrev pub IsBegunBySome : PassAccount → PassAccount → Type 0

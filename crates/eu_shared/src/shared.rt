@@ -12,7 +12,7 @@ ghost use Rattle.eu_book.specs.Peers.{state_of};
 ghost use Rattle.eu_model.specs.Delta.{delta, plus};
 ghost use Rattle.eu_settle.specs.declared.closed.PassLog.{PassLog};
 ghost use Rattle.eu_shared.specs.Closing.{account_of, log_of, logged_by, IsReason};
-ghost use Rattle.eu_shared.specs.Passes.{done_for, new_pass, IsAnsweredBySome, IsBegunBySome, IsRefusedBySome, IsShownBySome};
+ghost use Rattle.eu_shared.specs.Passes.{done_for, new_pass, IsAnsweredBySome, IsBegunBySome, IsRefusedBySome, IsSeenOfSome, IsShownBySome};
 ghost use Rattle.eu_shared.specs.Shares.{HasNames, HasParts};
 
 use crate::closing::Unclosed;
@@ -22,7 +22,7 @@ use crate::shares::{Blanks, Label, PARTS};
 use eu_base::{Config, Fault, MOST_PEERS, Moment};
 use eu_book::{Journal, Receipt};
 use eu_clock::Chooser;
-use eu_model::{Command, Query, View};
+use eu_model::{Command, Gauges, Query, View};
 use eu_settle::Closed;
 use std::alloc::{AllocError, Global};
 use std::hint::spin_loop;
@@ -84,6 +84,18 @@ impl<K: Label> Shared<K> {
             spin_loop();
         }
         None
+    }
+
+    /// The counts of the shared book, and how many leases are due at the moment (`Registry::gauges`). `AllocError` where no memory is left.
+    pub fn gauges<R: Wait>(
+        &self,
+        rt: &R,
+        alloc: Global,
+        moment: Moment,
+    ) -> Result<Gauges, AllocError>
+        ensures { IfOk result (λ g. IsSeenOfSome moment g) }
+    {
+        self.lock(rt).book().registry().gauges(alloc, moment)
     }
 
     /// A new pass (`Held::pass`). Its number is how many were made before it. Takes no memory.

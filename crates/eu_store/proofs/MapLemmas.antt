@@ -9,8 +9,8 @@ use Rattle.eu_base.specs.declared.names.Key.{Key}
 use Rattle.eu_model.specs.declared.views.Listed.{Listed}
 use Rattle.eu_model.specs.PlainSteps.{plain_expired}
 use Rattle.eu_store.specs.Stored.{expired_keys}
-use Rattle.eu_store.proofs.SortedLemmas.{gathered}
-use Rattle.eu_store.proofs.FoundLemmas.{found_apart, found_alike, key_there}
+use Rattle.eu_store.proofs.SortedLemmas.{gathered, gathered_many}
+use Rattle.eu_store.proofs.FoundLemmas.{entry_there, found_apart, found_alike, key_there}
 use Rattle.eu_store.proofs.IndexLemmas.{length-deadlines}
 use Rattle.eu_deadlines.specs.Indexed.{AreBefore}
 use Rattle.std.proofs.Common.{◌-◌, ◌<◌, get_or, slice_get}
@@ -56,26 +56,58 @@ deadline_there (e ∷ es) (suc p) k v h = deadline_there es p k v h
 abbrev pub nobody : Key
 nobody = record { app = []; id = [] }
 
--- the keys at the places of what has expired, each once and sorted, are those of the map
-pub sorted_expired : (moment extra : ℕ) (es : List (Key × Listed)) (found : List ℕ) (ks sorted : List Key) → IsDistinct key_eq (keys_of es) → length ks ≡ length found
-    → ((j : ℕ) → j < length found → (v : Listed) × (slice_get es (get_or found j 0) ≡ Some (get_or ks j nobody, v)))
-    → AreBefore (deadlines es) (moment - extra) found → IsPermutation ks sorted → IsSorted key_cmp sorted → sorted ≡ expired_keys (map_of es) moment extra
-sorted_expired moment extra es found ks sorted apart long told before moved up =
-    gathered late keys_total keys_exact nobody es sorted tied
-    (IsDistinct-IsPermutation (eq_by_cmp key_cmp) ((eq_by_cmp_equiv keys_total).symm) ks sorted moved
-    (found_apart keys_total late es found ks nobody tied long told sound before.once complete))
-    (λ q. sym (list_any-IsPermutation (eq_by_cmp key_cmp q) ks sorted moved) ∙ found_alike keys_total late es found ks nobody tied long told sound before.once complete q) up
-  where
-    late : Listed → Bool
-    late l = plain_expired l moment extra
+-- the keys at these places
+abbrev pub keys_at : List (Key × Listed) → List ℕ → List Key
+keys_at es [] = []
+keys_at es (p ∷ ps) = get_or (keys_of es) p nobody ∷ keys_at es ps
 
-    tied : IsDistinct (eq_by_cmp key_cmp) (keys_of es)
-    tied = subst (λ (e : Key → Key → Bool). IsDistinct e (keys_of es)) key_eq-tie apart
+length-keys_at : (es : List (Key × Listed)) (ps : List ℕ) → length (keys_at es ps) ≡ length ps
+length-keys_at es [] = refl
+length-keys_at es (p ∷ ps) = omega (arith, length-keys_at es ps)
 
-    sound : (j : ℕ) (k : Key) (v : Listed) → j < length found → slice_get es (get_or found j 0) ≡ Some (k, v) → late v ≡ true
-    sound j k v h at = lt-ltb (deadline_of v + extra) moment (omega (arith, deadline_there es (get_or found j 0) k v at, (before.sound j h).1))
+key_at : (es : List (Key × Listed)) (ps : List ℕ) (j : ℕ) → j < length ps → get_or (keys_at es ps) j nobody ≡ get_or (keys_of es) (get_or ps j 0) nobody
+key_at es [] j h = absurd (omega arith)
+key_at es (p ∷ ps) zero h = refl
+key_at es (p ∷ ps) (suc j) h = key_at es ps j (omega arith)
 
-    complete : (p : ℕ) (k : Key) (v : Listed) → slice_get es p ≡ Some (k, v) → late v ≡ true → (j : ℕ) × (j < length found) × (get_or found j 0 ≡ p)
-    complete p k v at due =
-        let d = deadline_there es p k v at in
-        before.complete p (omega (arith, (key_there es p k v nobody at).0, length-deadlines es, length-keys es)) (omega (arith, d, ltb-true (deadline_of v + extra) moment due))
+-- what has expired is at these places, each once
+module _ (moment extra : ℕ) (es : List (Key × Listed)) (found : List ℕ) (apart : IsDistinct key_eq (keys_of es)) (before : AreBefore (deadlines es) (moment - extra) found) where
+  late : Listed → Bool
+  late l = plain_expired l moment extra
+
+  tied : IsDistinct (eq_by_cmp key_cmp) (keys_of es)
+  tied = subst (λ (e : Key → Key → Bool). IsDistinct e (keys_of es)) key_eq-tie apart
+
+  sound : (j : ℕ) (k : Key) (v : Listed) → j < length found → slice_get es (get_or found j 0) ≡ Some (k, v) → late v ≡ true
+  sound j k v h at = lt-ltb (deadline_of v + extra) moment (omega (arith, deadline_there es (get_or found j 0) k v at, (before.sound j h).1))
+
+  complete : (p : ℕ) (k : Key) (v : Listed) → slice_get es p ≡ Some (k, v) → late v ≡ true → (j : ℕ) × (j < length found) × (get_or found j 0 ≡ p)
+  complete p k v at due =
+      let d = deadline_there es p k v at in
+      before.complete p (omega (arith, (key_there es p k v nobody at).0, length-deadlines es, length-keys es)) (omega (arith, d, ltb-true (deadline_of v + extra) moment due))
+
+  -- the keys there, sorted, are those of the map
+  pub sorted_expired : (ks sorted : List Key) → length ks ≡ length found
+      → ((j : ℕ) → j < length found → (v : Listed) × (slice_get es (get_or found j 0) ≡ Some (get_or ks j nobody, v)))
+      → IsPermutation ks sorted → IsSorted key_cmp sorted → sorted ≡ expired_keys (map_of es) moment extra
+  sorted_expired ks sorted long told moved up =
+      gathered late keys_total keys_exact nobody es sorted tied
+      (IsDistinct-IsPermutation (eq_by_cmp key_cmp) ((eq_by_cmp_equiv keys_total).symm) ks sorted moved
+      (found_apart keys_total late es found ks nobody tied long told sound before.once complete))
+      (λ q. sym (list_any-IsPermutation (eq_by_cmp key_cmp q) ks sorted moved) ∙ found_alike keys_total late es found ks nobody tied long told sound before.once complete q) up
+
+  told_there : (j : ℕ) → j < length found → (v : Listed) × (slice_get es (get_or found j 0) ≡ Some (get_or (keys_at es found) j nobody, v))
+  told_there j h =
+      let p = get_or found j 0 in
+      let e = entry_there es p (omega (arith, (before.sound j h).0, length-deadlines es)) in
+      let k = (key_there es p e.0.0 e.0.1 nobody e.1).1 in
+      (e.0.1, e.1 ∙ ap (λ (x : Key). Some (x, e.0.1)) (sym (key_at es found j h ∙ k)))
+
+  -- as many have expired as there are places
+  pub expired_many : length found ≡ length (expired_keys (map_of es) moment extra)
+  expired_many =
+      let ks = keys_at es found in
+      let long = length-keys_at es found in
+      sym long
+      ∙ gathered_many late keys_total es ks tied (found_apart keys_total late es found ks nobody tied long told_there sound before.once complete)
+      (found_alike keys_total late es found ks nobody tied long told_there sound before.once complete)

@@ -1,5 +1,5 @@
 -- Keys that pass a test, taken in any order and sorted, are those of the finite map in its order.
-use Rattle.std.proofs.Common.{◌≡◌, ◌+◌, T, true≢false, Bool, true, false, cond, ◌||◌, ◌&&◌, List, [], ◌∷◌, map, filter, refl, ap, sym, subst, ◌∙◌, None, Some, arith, IsSorted}
+use Rattle.std.proofs.Common.{◌≡◌, ◌+◌, T, true≢false, Bool, true, false, cond, ◌||◌, ◌&&◌, List, [], ◌∷◌, length, map, filter, refl, ap, sym, subst, ◌∙◌, None, Some, arith, IsSorted}
 use Rattle.std.specs.declared.cmp.Ordering.{Ordering}
 use Rattle.std.specs.declared.cmp.Ordering.TheVariants.{Less, Equal, Greater}
 use Rattle.std.specs.Option.{option_map_or}
@@ -12,6 +12,7 @@ use Rattle.std.specs.Cmp.{IsTotalOrder, eq_by_cmp_equiv}
 use Rattle.std.proofs.lemmas.Map.Keys.{IsDistinct-cons, IsDistinct-head, IsDistinct-tail, IsDistinct-from_sorted, apart_from_distinct, sorted_from_all_adjacent, sorted_head, sorted_tail}
 use Rattle.eu_model.proofs.EvictionLemmas.{first, second, less}
 use Rattle.std.proofs.lemmas.Map.Lookups.{CmpEqualImpliesEq}
+use Rattle.std.proofs.lemmas.Map.Made.{length-from_same_keys}
 
 pub both : (a b : Bool) → T a → T b → T (a && b)
 both true b p q = q
@@ -136,13 +137,28 @@ module _ {K X : Type 0} (t : X → Bool) where
         by false true h g r = left true g ∙ ap (λ b. b || list_any (eq_by_cmp R q) (passing es)) h ∙ r ∙ sym (right false h)
         by false false h g r = left false g ∙ r ∙ sym (right false h)
 
+  -- the keys that pass are the same in entries in any order and in their map
+  pub alike_passing : {R : K → K → Ordering} (o : IsTotalOrder R) (es : List (K × X)) → IsDistinct (eq_by_cmp R) (map (λ e. e.0) es)
+      → (q : K) → list_any (eq_by_cmp R q) (passing es) ≡ list_any (eq_by_cmp R q) (passing (entries (from_entries {R = R} es)))
+  alike_passing {R} o es apart q =
+      let m = from_entries {R = R} es in
+      any-passing o q es apart
+      ∙ ap (λ v. option_map_or t v false) (sym (get-from_entries o es q) ∙ get-entries m q)
+      ∙ sym (any-passing o q (entries m) (IsDistinct-from_sorted R (map (λ e. e.0) (entries m)) (sorted_keys R (entries m) (entries_sorted m))))
+
   -- the keys that pass, gathered from entries in any order and sorted
   pub gathered : {R : K → K → Ordering} (o : IsTotalOrder R) (same : CmpEqualImpliesEq R) (d : K) (es : List (K × X)) (ks : List K) → IsDistinct (eq_by_cmp R) (map (λ e. e.0) es)
       → IsDistinct (eq_by_cmp R) ks → ((q : K) → list_any (eq_by_cmp R q) ks ≡ list_any (eq_by_cmp R q) (passing es)) → IsSorted R ks → ks ≡ passing (entries (from_entries {R = R} es))
   gathered {R} o same d es ks apart ks_apart alike up =
       let m = from_entries {R = R} es in
-      let in_order = sorted_keys R (entries m) (entries_sorted m) in
-      same_keys o same ks (passing (entries m)) (strictly_sorted o same ks d up ks_apart) (sorted-passing R (entries m) in_order)
-      (λ q. alike q ∙ any-passing o q es apart
-      ∙ ap (λ v. option_map_or t v false) (sym (get-from_entries o es q) ∙ get-entries m q)
-      ∙ sym (any-passing o q (entries m) (IsDistinct-from_sorted R (map (λ e. e.0) (entries m)) in_order)))
+      same_keys o same ks (passing (entries m)) (strictly_sorted o same ks d up ks_apart) (sorted-passing R (entries m) (sorted_keys R (entries m) (entries_sorted m)))
+      (λ q. alike q ∙ alike_passing o es apart q)
+
+  -- and how many they are
+  pub gathered_many : {R : K → K → Ordering} (o : IsTotalOrder R) (es : List (K × X)) (ks : List K) → IsDistinct (eq_by_cmp R) (map (λ e. e.0) es)
+      → IsDistinct (eq_by_cmp R) ks → ((q : K) → list_any (eq_by_cmp R q) ks ≡ list_any (eq_by_cmp R q) (passing es)) → length ks ≡ length (passing (entries (from_entries {R = R} es)))
+  gathered_many {R} o es ks apart ks_apart alike =
+      let m = from_entries {R = R} es in
+      let in_order = sorted-passing R (entries m) (sorted_keys R (entries m) (entries_sorted m)) in
+      length-from_same_keys (eq_by_cmp_equiv o) ks (passing (entries m)) ks_apart (IsDistinct-from_sorted R (passing (entries m)) in_order)
+      (λ q. alike q ∙ alike_passing o es apart q)

@@ -265,6 +265,23 @@ impl Leases {
         Ok((keys, readings))
     }
 
+    /// How many leases have expired, if each is granted some extra milliseconds. Looks at no lease: only at the index of deadlines. `AllocError` where
+    /// no memory is left.
+    pub fn expired_number(
+        &self,
+        alloc: Global,
+        moment: Moment,
+        extra: u64,
+    ) -> Result<usize, AllocError>
+        ensures { IfOk result (λ number. number ≡ length (expired_keys self.now.held moment extra)) }
+    {
+        let mut looked = 0;
+        let limit = moment.ms().saturating_sub(extra);
+        let places = self.index.before(alloc, limit, &mut looked)?;
+        let _entries = self.table.as_slice();
+        Ok(places.len())
+    }
+
     /// What is held of an application, or everything where none is given: expired or not, in key order. `AllocError` where no memory is
     /// left.
     pub fn listed(&self, alloc: Global, app: Option<&App>) -> Result<Vec<Listed>, AllocError>

@@ -6,6 +6,7 @@ mod ended;
 mod gated;
 mod incoming;
 mod long;
+mod news;
 mod replicator;
 mod sessions;
 mod site;
@@ -15,7 +16,7 @@ mod timers;
 
 pub use all::{Job, Work, Worker, run_all};
 pub use ended::Ended;
-pub use eu_gate::{Gate, Go, Point};
+pub use eu_gate::{Gate, Go, News, Point};
 pub use eu_hall::{Guest, Happened, Left, Phase, Unsent, Visit};
 pub use incoming::Incoming;
 pub use replicator::run_replicator;

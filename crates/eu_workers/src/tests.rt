@@ -8,7 +8,7 @@ use eu_base::{Config, Fault, Moment};
 use eu_book::Receipt;
 use eu_clock::{Chooser, Clock, FirstChooser, ListClock};
 use eu_gate::{Gate, Go, Point, Timer};
-use eu_model::Command;
+use eu_model::{Command, Gauges};
 use eu_shared::{Blanks, Label, PARTS, Seat, Shared};
 use std::alloc::{AllocError, Global};
 use std::marker::Brand;
@@ -35,6 +35,10 @@ struct RefusedOnce<'a, K: Label, R: Wait> {
 
 impl<K: Label, R: Wait> Asker for RefusedOnce<'_, K, R> {
     ghost pass = { λ r. r.seat.pass };
+
+    fn gauges(&self, alloc: Global, moment: Moment) -> Result<Gauges, AllocError> {
+        self.seat.gauges(alloc, moment)
+    }
 
     fn ask_once<C: Chooser>(
         &mut self,

@@ -1,19 +1,20 @@
 //! Workers that ask for the same command, turn after turn.
-ghost use Rattle.std.specs.Prelude.{◌≡◌, ◌<◌, ◌≤◌, ◌∷◌, ◌++◌, [], true, false, IfOk, OnOk, OnErr};
+ghost use Rattle.std.specs.Prelude.{◌≡◌, ◌≢◌, ◌<◌, ◌≤◌, ◌∷◌, ◌++◌, [], None, true, false, IfOk, IfSome, OnOk, OnErr};
 ghost use Rattle.eu_book.specs.Account.{entry, logged};
 ghost use Rattle.eu_model.specs.Delta.{delta, plus};
 ghost use Rattle.eu_model.specs.declared.commands.Command.TheVariants as command;
-ghost use Rattle.eu_shared.specs.Passes.{PassAccount, IsAnsweredBySome};
+ghost use Rattle.eu_shared.specs.Passes.{PassAccount, IsAnsweredBySome, IsSeenOfSome};
 ghost use Rattle.eu_workers.specs.Returned.{Tidies};
 ghost use Rattle.eu_workers.specs.Timers.{command_of, is_due_after, AsksBy, AsksOnly};
 
 use crate::ended::Ended;
+use crate::news::news_of;
 use crate::site::Site;
 use eu_base::{Fault, Moment};
 use eu_book::Receipt;
 use eu_clock::{Chooser, Clock, FirstChooser};
 use eu_gate::{Gate, Go, Point, Timer};
-use eu_model::Command;
+use eu_model::{Command, Gauges};
 use eu_shared::{Label, Pass, Seat};
 use std::alloc::{AllocError, Global};
 use std::sync::Wait;
@@ -47,6 +48,10 @@ pub(crate) trait Asker {
     // The pass.
     ghost pass: { Self → PassAccount };
 
+    /// What is seen of the book that it asks (`Shared::gauges`). `AllocError` where no memory is left.
+    fn gauges(&self, alloc: Global, moment: Moment) -> Result<Gauges, AllocError>
+        ensures { IfOk result (λ g. IsSeenOfSome moment g) };
+
     /// Asks once (`Pass::ask`).
     fn ask_once<C: Chooser>(
         &mut self,
@@ -74,6 +79,10 @@ pub(crate) trait Asker {
 impl<K: Label, R: Wait> Asker for Seat<'_, K, R> {
     ghost pass = { λ s. s.pass };
 
+    fn gauges(&self, alloc: Global, moment: Moment) -> Result<Gauges, AllocError> {
+        self.shared.gauges(self.rt, alloc, moment)
+    }
+
     fn ask_once<C: Chooser>(
         &mut self,
         alloc: Global,
@@ -93,6 +102,24 @@ impl<K: Label, R: Wait> Asker for Seat<'_, K, R> {
         };
         self.pass.trim();
         ended
+    }
+}
+
+/// What is seen before a timer's worker asks: by the evictor, since that is to be told. None where no memory is left for it.
+fn look<A: Asker>(asker: &A, alloc: Global, timer: Timer, moment: Moment) -> Option<Gauges>
+    ensures seen { IfSome result (λ g. IsSeenOfSome moment g) }
+    ensures others { timer ≢ Timer.Evictor → result ≡ None }
+{
+    match timer {
+        Timer::Evictor => asker.gauges(alloc, moment).ok(),
+        Timer::Bucket | Timer::Threshold => None,
+    }
+}
+
+/// Has the gate hear of an ask that was answered so, where something was seen before it.
+fn tell<G: Gate>(gate: &G, seen: Option<Gauges>, asked: &Result<Receipt, Fault>) {
+    if let Some(seen) = seen {
+        gate.hear(news_of(&seen, asked));
     }
 }
 
@@ -116,8 +143,10 @@ pub(crate) fn take_turns<G: Gate, A: Asker, C: Clock, H: Chooser>(
             break;
         }
         let moment = clock.now();
+        let seen = look(asker, alloc, timer, moment);
         let asked = asker.ask_once(alloc, command(timer), moment, chooser);
         ended.count(&asked);
+        tell(gate, seen, &asked);
         drop(asked);
         let _ = asker.end_turn(alloc, timer, ended.turns);
     }
@@ -155,7 +184,8 @@ fn run<K: Label, R: Wait, G: Gate, C: Clock, H: Chooser>(
 /// The evictor (`AbstractInstanceRegistry.EvictionTask` in Eureka): asks for `Evict`, turn after turn, until the gate stops it or it
 /// had so many turns, and gives its pass back.
 ///
-/// A turn passes the gate, reads the clock, asks once, and trims the log of the pass (`Pass::trim`). What it was answered is in that log,
+/// A turn passes the gate, reads the clock, looks at the counts and at how many leases are due, asks once, has the gate hear of it (`Gate::hear`), and
+/// trims the log of the pass (`Pass::trim`). What it was answered is in that log,
 /// as far as the journal has it; a turn whose ask was refused is counted as such, and the next one follows.
 pub fn run_evictor<K: Label, R: Wait, G: Gate, C: Clock, H: Chooser>(
     site: &Site<'_, K, R, G>,

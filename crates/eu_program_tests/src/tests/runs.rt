@@ -75,12 +75,23 @@ fn port_of(told: &[u8]) -> Option<u16> {
     None
 }
 
-/// Whether a server tells nothing else than where it listens, a seed, and by which limit it has fewer connections than were asked for.
-fn tells_its_start(told: &[u8]) -> bool {
+/// Whether a server tells such a line at its start: where it listens, a seed, or by which limit it has fewer connections than were asked for.
+fn is_of_start(line: &str) -> bool {
+    let is_limit = line.starts_with("at most ") && line.contains(": the limit of descriptors is ");
+    is_limit || line.starts_with("listening on ") || line.starts_with("seed ")
+}
+
+/// Whether a server tells such a line later, unless it is quiet.
+fn is_message(line: &str) -> bool {
+    line.starts_with("leases evicted: ")
+        || line.starts_with("evictions ")
+        || line.starts_with("connections refused: ")
+}
+
+/// Whether a server tells nothing but its start, and what one tells that isn't quiet.
+fn tells_no_more(told: &[u8], is_quiet: bool) -> bool {
     for line in str::from_utf8(told).unwrap_or("?").lines() {
-        let is_limit = line.starts_with("at most ")
-            && line.contains(": the limit of descriptors is ");
-        if !is_limit && !line.starts_with("listening on ") && !line.starts_with("seed ") {
+        if !is_of_start(line) && (is_quiet || !is_message(line)) {
             return false;
         }
     }
@@ -144,7 +155,8 @@ fn run<'a, R: Threads + Wait + Clock + Net<Listener = TcpListener, Stream = TcpS
     )
 }
 
-/// Whether a run with these words is as it is to be. Of a server with a client, standard error is told its start alone.
+/// Whether a run with these words is as it is to be. Of a server with a client, standard error is told its start and messages alone, and of a quiet one
+/// no message.
 fn is_so<R: Threads + Wait + Clock + Net<Listener = TcpListener, Stream = TcpStream> + Sync>(
     rt: &R,
     alloc: Global,
@@ -156,7 +168,8 @@ fn is_so<R: Threads + Wait + Clock + Net<Listener = TcpListener, Stream = TcpStr
     let words: Vec<&str> = line.0.split(' ').collect(alloc)?;
     let told = Told::new(alloc);
     let (status, is_served) = run(rt, alloc, place, steps, setting, words.as_slice(), &told);
-    let is_alone = steps.is_empty() || tells_its_start(&told.err.lock(rt));
+    let is_quiet = words.as_slice().contains(&"--quiet");
+    let is_alone = steps.is_empty() || tells_no_more(&told.err.lock(rt), is_quiet);
     let mut out = format!(in alloc; "{status}")?;
     tell(rt, &told.out, &mut out)?;
     tell(rt, &told.err, &mut out)?;

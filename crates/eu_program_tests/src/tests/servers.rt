@@ -30,6 +30,7 @@ fn idle(port: u16) -> Serving {
         idle_ms: 90_000,
         request_ms: 10_000,
         until_input_ends: false,
+        is_quiet: false,
     }
 }
 
@@ -161,7 +162,7 @@ const LIMITED: [Served; 3] = [
         &SLOW,
     ),
     (
-        r#"eureka serve --port 0 --sessions 2 --connections 1 = 0 "served 2\n" "listening on 127.0.0.1:*\n""#,
+        r#"eureka serve --port 0 --sessions 2 --connections 1 = 0 "served 2\n" "listening on 127.0.0.1:*\nconnections refused: 1, as many are open as may be\n""#,
         &CROWDED,
     ),
 ];
@@ -270,18 +271,18 @@ const FIRST: [Step; 11] = [
 ];
 
 /// Servers of seven sessions, three at once, which evict after four seconds: by the words of the seed 3, of the same one from the system, and without
-/// a seed.
+/// a seed. The last one is quiet, the others tell how many have gone.
 const EVICTING: [Served; 3] = [
     (
-        r#"eureka serve --port 0 --sessions 7 --workers 3 --expected 7 --preservation off --percent 50 --interval 20 --evict-ms 4000 --seed 3 = 0 "served 7\n" "listening on 127.0.0.1:*\n""#,
+        r#"eureka serve --port 0 --sessions 7 --workers 3 --expected 7 --preservation off --percent 50 --interval 20 --evict-ms 4000 --seed 3 = 0 "served 7\n" "listening on 127.0.0.1:*\nleases evicted: 2 of 4 that were due\n""#,
         &SEEDED,
     ),
     (
-        r#"eureka serve --port 0 --sessions 7 --workers 3 --expected 7 --preservation off --percent 50 --interval 20 --evict-ms 4000 --seed system = 0 "served 7\n" "seed 3\nlistening on 127.0.0.1:*\n""#,
+        r#"eureka serve --port 0 --sessions 7 --workers 3 --expected 7 --preservation off --percent 50 --interval 20 --evict-ms 4000 --seed system = 0 "served 7\n" "seed 3\nlistening on 127.0.0.1:*\nleases evicted: 2 of 4 that were due\n""#,
         &SEEDED,
     ),
     (
-        r#"eureka serve --port 0 --sessions 7 --workers 3 --expected 7 --preservation off --percent 50 --interval 20 --evict-ms 4000 = 0 "served 7\n" "listening on 127.0.0.1:*\n""#,
+        r#"eureka serve --port 0 --sessions 7 --workers 3 --expected 7 --preservation off --percent 50 --interval 20 --evict-ms 4000 --quiet = 0 "served 7\n" "listening on 127.0.0.1:*\n""#,
         &FIRST,
     ),
 ];
@@ -296,7 +297,7 @@ fn a_server_evicts_by_its_seed(rt: HostRuntime) {
 
 /// The first of these, which leaves a journal.
 const WITH_JOURNAL: &str =
-    r#"eureka serve --port 0 --sessions 7 --workers 3 --expected 7 --preservation off --percent 50 --interval 20 --evict-ms 4000 --seed 3 --journal kept.journal = 0 "served 7\n" "listening on 127.0.0.1:*\n""#;
+    r#"eureka serve --port 0 --sessions 7 --workers 3 --expected 7 --preservation off --percent 50 --interval 20 --evict-ms 4000 --seed 3 --journal kept.journal = 0 "served 7\n" "listening on 127.0.0.1:*\nleases evicted: 2 of 4 that were due\n""#;
 
 /// An audit of that.
 const AUDIT: &str = r#"eureka audit --journal kept.journal = 0 "audit yes *" """#;

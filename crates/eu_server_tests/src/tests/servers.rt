@@ -188,6 +188,7 @@ pub fn plan(sessions: u32, workers: u32, waits: Waits) -> Result<Plan, Fault> {
             linger_bytes,
         },
         input: None,
+        is_quiet: true,
     })
 }
 

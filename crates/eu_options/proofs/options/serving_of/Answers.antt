@@ -52,5 +52,10 @@ returns-in_err-request_ms-clause-none c = λ s _ _ _ _ small h.
 
 pub returns-in_err-until_input_ends-clause-none : goal.returns-in_err-until_input_ends-clause-none
 returns-in_err-until_input_ends-clause-none c = λ s _ _ _ _ _ h.
-    let found = c.until_of.ensures.none s.until_input_ends h.8 in
+    let found = c.flag_of.ensures.none s.until_input_ends h.8 in
+    search (rules, found)
+
+pub returns-in_err-is_quiet-clause-none : goal.returns-in_err-is_quiet-clause-none
+returns-in_err-is_quiet-clause-none c = λ s _ _ _ _ _ h.
+    let found = c.flag_of-2.ensures.none s.is_quiet h.9 in
     search (rules, found)

@@ -32,7 +32,7 @@ returns-clause-keys c =
     let all : c.loop-place.place-index ≡ length found = omega (arith, ap length was) in
     let before = subst (λ l. AreBefore l c.saturating_sub-limit.result found) c.self.invariant.1 c.in_ok-places.ensures.found in
     let late = subst (λ n. AreBefore (deadlines es) n found) (c.saturating_sub-limit.ensures ∙ ap (λ m. m - c.args.extra) c.ms.ensures.value) before in
-    sorted_expired c.args.moment c.args.extra es found c.loop-place.keys.items c.sort.new.self.items c.as_slice-entries.ensures.unique (c.loop-place.invariant.long ∙ all)
+    sorted_expired c.args.moment c.args.extra es found c.as_slice-entries.ensures.unique late c.loop-place.keys.items c.sort.new.self.items (c.loop-place.invariant.long ∙ all)
     (λ j h. let r = c.loop-place.invariant.told j (omega (arith, h, all)) in (r.0, (λ n. slice_get (sym c.as_slice-entries.ensures.entries n) (get_or (sym was n) j 0)) ∙ r.1))
-    late c.in_ok-sort.ensures.permutation c.in_ok-sort.ensures.sorted
+    c.in_ok-sort.ensures.permutation c.in_ok-sort.ensures.sorted
     ∙ ap (λ s. expired_keys s.held c.args.moment c.args.extra) c.self.view_is

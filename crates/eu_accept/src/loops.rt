@@ -43,7 +43,7 @@ const FULL: &str =
     "HTTP/1.1 503 Service Unavailable\r\nContent-Length: 0\r\nRetry-After: 30\r\nConnection: close\r\n\r\n";
 
 /// A connection.
-type Connection = Guest<TcpStream, Talk>;
+type Connection = Box<Guest<TcpStream, Talk>>;
 
 /// A connection that is to be visited.
 #[derive(Clone, Copy, Debug)]
@@ -88,19 +88,21 @@ pub struct Loop<'a, R: Wait + Clock> {
     again: Vec<usize>,
     mail: Vec<Mail>,
     began: Instant,
+    now: u64,
     swept: u64,
     is_due: bool,
 }
 
-/// A connection that has just come, and whose session begins.
-fn guest(alloc: Global, socket: TcpStream) -> Connection {
-    Guest {
+/// A connection that has just come, and whose session begins. `AllocError` where no memory is left for it.
+fn guest(alloc: Global, socket: TcpStream) -> Result<Connection, AllocError> {
+    let guest = Guest {
         socket,
         talk: Talk::new(alloc),
         unsent: Unsent::new(alloc),
         has_ended: false,
         dropped: 0,
-    }
+    };
+    Ok(Box::new(alloc, guest)?)
 }
 
 /// How many bytes of memory a connection holds: what was read of it, and what is to be sent.
@@ -145,16 +147,16 @@ impl<'a, R: Wait + Clock> Loop<'a, R> {
             again: Vec::with_capacity(hub.alloc, most)?,
             mail: Vec::with_capacity(hub.alloc, most)?,
             began: Instant::now(hub.rt)?,
+            now: 0,
             swept: 0,
             is_due: false,
         })
     }
 
-    /// The milliseconds since the loop began; as before where the clock can't be read.
-    fn now(&self) -> u64 {
-        match self.began.elapsed(self.hub.rt) {
-            Ok(time) => u64::try_from(time.as_millis()).unwrap_or(u64::MAX),
-            Err(_) => self.swept,
+    /// Reads the clock, once a round: the milliseconds since the loop began; as before where the clock can't be read.
+    fn look_at_clock(&mut self) {
+        if let Ok(time) = self.began.elapsed(self.hub.rt) {
+            self.now = u64::try_from(time.as_millis()).unwrap_or(u64::MAX);
         }
     }
 
@@ -200,7 +202,7 @@ impl<'a, R: Wait + Clock> Loop<'a, R> {
             return;
         }
         let patience = self.hub.limits.patience;
-        let awaited = awaited.next(patience, Phase::Lingering, Happened::Nothing, self.now());
+        let awaited = awaited.next(patience, Phase::Lingering, Happened::Nothing, self.now);
         self.linger(key, guest, awaited);
     }
 
@@ -212,7 +214,7 @@ impl<'a, R: Wait + Clock> Loop<'a, R> {
             awaited,
             ..
         } = visit;
-        let awaited = awaited.next(self.hub.limits.patience, phase, happened, self.now());
+        let awaited = awaited.next(self.hub.limits.patience, phase, happened, self.now);
         self.park(key, guest, awaited);
     }
 
@@ -284,7 +286,7 @@ impl<'a, R: Wait + Clock> Loop<'a, R> {
 
     /// Gives a connection a place, and has it polled, which tells at once what has come of it. It is closed where that fails.
     fn enter(&mut self, guest: Connection) {
-        let awaited = Awaited::begin(self.hub.limits.patience, Phase::Idle, self.now());
+        let awaited = Awaited::begin(self.hub.limits.patience, Phase::Idle, self.now);
         let Ok(key) = self.hall.enter(guest, awaited) else {
             self.hub.let_out();
             return;
@@ -300,18 +302,27 @@ impl<'a, R: Wait + Clock> Loop<'a, R> {
         }
     }
 
+    /// Takes in a connection for which there is no room, to tell it so. It is closed where there is no memory for that.
+    fn refuse(&mut self, socket: TcpStream) {
+        let Ok(mut guest) = guest(self.hub.alloc, socket) else {
+            self.hub.let_out();
+            return;
+        };
+        if end_by(&mut guest, FULL) {
+            self.enter(guest);
+        } else {
+            self.hub.let_out();
+        }
+    }
+
     /// Takes one mail.
     fn take_one(&mut self, mail: Mail) {
         match mail {
-            Mail::New(socket) => self.enter(guest(self.hub.alloc, socket)),
-            Mail::Refused(socket) => {
-                let mut guest = guest(self.hub.alloc, socket);
-                if end_by(&mut guest, FULL) {
-                    self.enter(guest);
-                } else {
-                    self.hub.let_out();
-                }
-            }
+            Mail::New(socket) => match guest(self.hub.alloc, socket) {
+                Ok(guest) => self.enter(guest),
+                Err(_) => self.hub.let_out(),
+            },
+            Mail::Refused(socket) => self.refuse(socket),
             Mail::Back(visit, left) => {
                 let call = back_of(visit.key, left);
                 self.take_back(visit, left);
@@ -347,7 +358,7 @@ impl<'a, R: Wait + Clock> Loop<'a, R> {
             self.leave(key);
             return;
         }
-        let awaited = Awaited::begin(self.hub.limits.patience, Phase::Answering, self.now());
+        let awaited = Awaited::begin(self.hub.limits.patience, Phase::Answering, self.now);
         self.park(key, guest, awaited);
         let _ = self.ready.push_back(Call {
             key,
@@ -376,7 +387,7 @@ impl<'a, R: Wait + Clock> Loop<'a, R> {
         if !self.again.is_empty() || !self.ready.is_empty() {
             return Duration::from_millis(0);
         }
-        let since = self.now().saturating_sub(self.swept);
+        let since = self.now.saturating_sub(self.swept);
         Duration::from_millis(SWEEP_MS.saturating_sub(since))
     }
 
@@ -411,16 +422,17 @@ impl<'a, R: Wait + Clock> Loop<'a, R> {
     /// sent in time isn't late.
     fn round(&mut self) -> io::Result<()> {
         if self.is_due {
-            self.sweep(self.now());
+            self.sweep(self.now);
         }
         let time = self.time();
         self.poll.poll(&mut self.events, Some(time))?;
+        self.look_at_clock();
         let is_woken = self.note_events()?;
         self.call_again()?;
         if is_woken {
             self.take_mail();
         }
-        self.is_due = self.now().saturating_sub(self.swept) >= SWEEP_MS;
+        self.is_due = self.now.saturating_sub(self.swept) >= SWEEP_MS;
         Ok(())
     }
 

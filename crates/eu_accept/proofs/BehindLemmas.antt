@@ -23,7 +23,7 @@ count_none false = refl
 -- what a read gave was dropped, and as much was counted
 read_drops : (old new : Option (List ℕ)) (read : Result ℕ Error) (buffer : List ℕ) → ReadsAtMost read buffer → ReadConsumes old new read buffer → Drops old new 0 (count_of (behind_by read))
 read_drops old new (Ok count) buffer bound gave =
-    let given = ConsumesCount-from_read old new (Ok count) buffer bound gave in
+    let given = ConsumesCount-from_read {E = Error} old new (Ok count) buffer bound gave in
     let told = count_some (count == 0) count (eqb-true count 0) in
     record { bytes = given.0; count = omega (arith, told, given.2); read = given.1 }
 read_drops old new (Err error) buffer bound kept =
@@ -41,11 +41,8 @@ read_most (Err error) buffer bound =
 pub told_drops : (old new : Option (List ℕ)) (read : Result ℕ Error) (buffer : List ℕ) (told : Behind) → told ≡ behind_by read → ReadsAtMost read buffer → ReadConsumes old new read buffer → Drops old new 0 (count_of told)
 told_drops old new read buffer told is bound gave = subst (λ t. Drops old new 0 (count_of t)) (sym is) (read_drops old new read buffer bound gave)
 
-pub told_most : (read : Result ℕ Error) (buffer : List ℕ) (told : Behind) (most : ℕ) → told ≡ behind_by read → ReadsAtMost read buffer → length buffer ≤ most → count_of told ≤ most
-told_most read buffer told most is bound small =
-    let counted = read_most read buffer bound in
-    let within : count_of (behind_by read) ≤ most = omega (arith, counted, small) in
-    subst (λ t. count_of t ≤ most) (sym is) within
+pub told_most : (read : Result ℕ Error) (buffer : List ℕ) (told : Behind) → told ≡ behind_by read → ReadsAtMost read buffer → count_of told ≤ length buffer
+told_most read buffer told is bound = subst (λ t. count_of t ≤ length buffer) (sym is) (read_most read buffer bound)
 
 -- so far nothing was dropped
 pub drops_nothing : (a : Option (List ℕ)) (before : ℕ) → Drops a a before before

@@ -8,12 +8,9 @@ pub record Line : Type 0 where
   pub most : ℕ
   pub most_bytes : ℕ
 
-abbrev pub bytes_at : Job → ℕ
-bytes_at job = job.bytes
-
 -- how many bytes those hold that wait
 abbrev pub bytes_of : List Job → ℕ
-bytes_of waits = sum_by bytes_at waits
+bytes_of waits = sum_by (λ job. job.bytes) waits
 
 -- no more wait than there is room for, each has its memory, and the sum of their bytes is known and within its limit
 pub record IsKept (waits : List Job) (capacity most bytes most_bytes : ℕ) : Type 0 where

@@ -64,7 +64,7 @@ impl Queue {
     /// Puts a connection behind those that wait.
     ///
     /// Where there is no room for it, or where with it they would hold more bytes than the limit, it is given back, and nothing changes.
-    #[tactic(auto, using(crate::proofs::QueueLemmas::counted_more, crate::proofs::QueueLemmas::few_more))]
+    #[tactic(auto, using(crate::proofs::QueueLemmas::bytes_more, crate::proofs::QueueLemmas::length_more))]
     pub(crate) fn put(&mut self, job: Job) -> Result<(), Job>
         ensures fits { IsOk result ↔ ((length self.old.waits < self.old.most) × (bytes_of self.old.waits + job.bytes ≤ self.old.most_bytes)) }
         ensures waits { OnOk result (self.new ≡ record self.old { waits = self.old.waits ++ job ∷ [] }) }
@@ -80,7 +80,7 @@ impl Queue {
     }
 
     /// Takes out the connection that waits longest, if one waits.
-    #[tactic(auto, using(crate::proofs::QueueLemmas::counted_less, crate::proofs::QueueLemmas::within_less))]
+    #[tactic(auto, using(crate::proofs::QueueLemmas::bytes_less))]
     pub(crate) fn take(&mut self) -> Option<Job>
         ensures first { MatchOption result (self.old.waits ≡ []) (λ job. self.old.waits ≡ job ∷ self.new.waits) }
         ensures rest { self.new ≡ record self.old { waits = drop 1 self.old.waits } }

@@ -1,4 +1,9 @@
 pub mod Admissions
+pub mod Behind
 pub mod Calls
 pub mod Limits
 pub mod Passing
+pub mod Queues
+pub mod Shares
+pub mod Stations
+pub mod Turns

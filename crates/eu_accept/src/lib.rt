@@ -3,7 +3,9 @@
 #![tactic(auto)]
 
 mod admission;
+mod behind;
 mod bell;
+mod calls;
 mod door;
 mod gathering;
 mod hub;
@@ -11,6 +13,7 @@ mod loops;
 mod mail;
 mod pace;
 mod pool;
+mod queue;
 mod station;
 #[cfg(test)]
 mod tests;

@@ -3,3 +3,4 @@ pub mod Returned
 pub mod Timers
 pub mod All
 pub mod Visits
+pub mod Long

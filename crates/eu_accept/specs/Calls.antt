@@ -2,7 +2,10 @@
 use Rattle.std.specs.Prelude.{Bool, true, false}
 use Rattle.eu_hall.specs.declared.guest.Left.{Left}
 use Rattle.eu_hall.specs.declared.guest.Left.TheVariants.{Waits, GoesOn, Long, Gone}
+use Rattle.eu_hall.specs.declared.phase.Happened.TheVariants.{Answered}
 use Rattle.eu_hall.specs.declared.phase.Phase.TheVariants.{Idle, Asking, Answering, Lingering}
+use Rattle.eu_accept.specs.declared.calls.NextStep.{NextStep}
+use Rattle.eu_accept.specs.declared.calls.NextStep.TheVariants.{Lingers, Parks, ParksForMore, GoesToPool, Leaves}
 
 -- the rest of a request is awaited
 abbrev pub asks_still : Left → Bool
@@ -13,3 +16,13 @@ asks_still (Waits Lingering what) = false
 asks_still GoesOn = false
 asks_still Long = false
 asks_still Gone = false
+
+-- what becomes of a connection that a visit left so. One that lingers has nothing more to send; one that had all its turns was answered, and is visited again at once
+abbrev pub next_step : Left → NextStep
+next_step (Waits Idle what) = Parks Idle what
+next_step (Waits Asking what) = Parks Asking what
+next_step (Waits Answering what) = Parks Answering what
+next_step (Waits Lingering what) = Lingers
+next_step GoesOn = ParksForMore Asking Answered
+next_step Long = GoesToPool
+next_step Gone = Leaves

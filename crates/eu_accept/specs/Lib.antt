@@ -1,5 +1,10 @@
 pub mod Admissions
+pub mod Behind
 pub mod Calls
 pub mod Limits
 pub mod Messages
 pub mod Passing
+pub mod Queues
+pub mod Shares
+pub mod Stations
+pub mod Turns

@@ -1,6 +1,7 @@
 //! The door of a server, at which connections are accepted.
 ghost use Rattle.std.specs.Prelude.{◌≡◌};
 ghost use Rattle.eu_accept.specs.Passing as spec;
+ghost use Rattle.eu_accept.specs.Turns.{turn_after, whose_turn};
 
 use crate::admission::Entry;
 use crate::hub::Hub;
@@ -88,6 +89,16 @@ fn failed(error: &io::Error) -> Accepted
     Accepted::Later
 }
 
+/// Which of so many loops has the turn, and which one has the next. Where there is none, both are 0.
+fn in_turn(turn: usize, loops: usize) -> (usize, usize)
+    ensures turn { result.0 ≡ whose_turn turn loops }
+    ensures next { result.1 ≡ turn_after result.0 loops }
+{
+    let count = loops.max(1);
+    let number = turn % count;
+    (number, (number + 1) % count)
+}
+
 impl<'a, R: Wait + Clock> Door<'a, R> {
     /// The door at a listener, which waits no more from now on. Where an input is named, the server stops at its end: a pipe or a socket, by its
     /// descriptor, that is open as long as the door is. An error is the system's or the clock's; one comes also where the input can't be polled, as a file.
@@ -137,9 +148,8 @@ impl<'a, R: Wait + Clock + Eprint> Door<'a, R> {
             Entry::Refused => Mail::Refused(stream),
             Entry::Dropped => return,
         };
-        let count = self.hub.boxes.len().max(1);
-        let number = self.next % count;
-        self.next = (number + 1) % count;
+        let (number, next) = in_turn(self.next, self.hub.boxes.len());
+        self.next = next;
         let Some(mailbox) = self.hub.boxes.get(number) else {
             return;
         };

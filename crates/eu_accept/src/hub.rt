@@ -1,6 +1,7 @@
 //! What the threads of a server share beside the book.
-ghost use Rattle.std.specs.Prelude.{◌≡◌, ◌+◌, ◌-◌, ◌/◌, ◌^◌, IfOk, min, vec_len};
+ghost use Rattle.std.specs.Prelude.{◌≡◌, IfOk, vec_len};
 ghost use Rattle.eu_accept.specs.Limits.{server_limits};
+ghost use Rattle.eu_accept.specs.Shares.{hall_of, places_of, queue_of, share_of};
 
 use crate::admission::{Admission, Entry, SPARE};
 use crate::loops::WAKER;
@@ -8,10 +9,11 @@ use crate::mail::Mailbox;
 use crate::messages::{Message, Told};
 use crate::pace::Pace;
 use crate::pool::Pool;
+use crate::queue::Queue;
 use eu_gate::{Gate, Go, News, Periods, Point};
-use eu_hall::{PATIENCE, Patience};
+use eu_hall::{Hall, PATIENCE, Patience};
 use mio::{Poll, Waker};
-use std::alloc::Global;
+use std::alloc::{AllocError, Global};
 use std::io;
 use std::net::Net;
 use std::sync::{Mutex, Wait};
@@ -33,16 +35,23 @@ pub struct Limits {
 impl Limits {
     /// The part of the bytes that each of so many loops has, and the pool as much as one of them.
     pub(crate) fn share(&self, loops: usize) -> usize
-        ensures { result ≡ self.now.bytes / min (loops + 1) (2 ^ 64 - 1) }
+        ensures { result ≡ share_of self.now loops }
     {
         self.bytes / loops.saturating_add(1)
     }
 
     /// How many places a loop has: one for each connection, and those of the ones that are refused.
     pub(crate) fn places(&self) -> usize
-        ensures { result ≡ min (self.now.connections + 64) (2 ^ 64 - 1) }
+        ensures { result ≡ places_of self.now }
     {
         self.connections.saturating_add(SPARE as usize)
+    }
+
+    /// The pool's queue beside so many loops. `AllocError` where there is no memory for it.
+    fn queue(&self, alloc: Global, loops: usize) -> Result<Queue, AllocError>
+        ensures { IfOk result (λ queue. queue ≡ queue_of self.now loops) }
+    {
+        Queue::new(alloc, self.places(), self.share(loops))
     }
 
     /// Those of a server: 10,000 connections, 256 MiB.
@@ -106,7 +115,7 @@ impl<'a, R: Wait + Clock + Net> Hub<'a, R> {
             alloc,
             limits,
             boxes,
-            pool: Pool::new(alloc, limits.places(), limits.share(loops as usize))?,
+            pool: Pool::new(limits.queue(alloc, loops as usize)?),
             admission: Mutex::new(admission),
             pace: Pace::new(rt, periods)?,
             told: told.map(Mutex::new),
@@ -116,6 +125,14 @@ impl<'a, R: Wait + Clock + Net> Hub<'a, R> {
 }
 
 impl<'a, R: Wait + Clock> Hub<'a, R> {
+    /// The hall of one of its loops. `AllocError` where there is no memory for it.
+    pub(crate) fn hall<G: Drop>(&self) -> Result<Hall<G>, AllocError>
+        ensures { IfOk result (λ hall. hall ≡ hall_of self.now.limits (vec_len self.now.boxes)) }
+    {
+        let most_bytes = self.limits.share(self.boxes.len());
+        Hall::new(self.alloc, self.limits.places(), most_bytes)
+    }
+
     /// What was counted so far.
     pub fn counts(&self) -> Admission {
         *self.admission.lock(self.rt)

@@ -3,7 +3,9 @@
 #![tactic(auto)]
 
 mod admission;
+mod behind;
 mod bell;
+mod calls;
 mod door;
 mod gathering;
 mod hub;
@@ -12,6 +14,7 @@ mod mail;
 mod messages;
 mod pace;
 mod pool;
+mod queue;
 mod station;
 #[cfg(test)]
 mod tests;

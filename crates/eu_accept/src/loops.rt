@@ -1,20 +1,18 @@
 //! A loop of a server: it polls its connections, and calls those for which there is something to do.
-ghost use Rattle.std.specs.Prelude.{◌≡◌, ◌||◌, not, true};
-ghost use Rattle.mio.specs.Event.{event_token, is_read_closed, is_error};
-ghost use Rattle.eu_accept.specs.Calls.{asks_still};
+ghost use Rattle.std.specs.Prelude.{◌≡◌, ◌≤◌, ◌+◌, ◌-◌, ◌^◌, ◌++◌, [], true, false, length, min};
 
+use crate::behind::drop_what_came;
+use crate::calls::{Call, NextStep, back_of, call_anew, call_of, next_step, visit_of};
 use crate::hub::Hub;
 use crate::mail::Mail;
-use crate::pool::Job;
+use crate::queue::Job;
 use eu_hall::{Awaited, Guest, Hall, Happened, Left, Phase, Unsent, Visit};
 use eu_session::Talk;
 use eu_stream::write_whole;
-use mio::event::Event;
 use mio::net::TcpStream;
 use mio::{Events, Interest, Poll, Token};
 use std::alloc::{AllocError, Global};
 use std::collections::VecDeque;
-use std::io::{ErrorKind, Read};
 use std::net::Shutdown;
 use std::sync::Wait;
 use std::time::{Clock, Duration, Instant};
@@ -29,12 +27,6 @@ const SWEEP_MS: u64 = 250;
 /// The most events of a poll.
 const MOST_EVENTS: usize = 1_024;
 
-/// The most turns that a session has before others have theirs.
-const MOST_TURNS: u32 = 8;
-
-/// The bytes that are dropped at once.
-const PIECE: usize = 4_096;
-
 /// What a connection is told whose request is too slow (RFC 9110, section 15.5.9).
 const SLOW: &str = "HTTP/1.1 408 Request Timeout\r\nContent-Length: 0\r\nConnection: close\r\n\r\n";
 
@@ -43,38 +35,7 @@ const FULL: &str =
     "HTTP/1.1 503 Service Unavailable\r\nContent-Length: 0\r\nRetry-After: 30\r\nConnection: close\r\n\r\n";
 
 /// A connection.
-type Connection = Guest<TcpStream, Talk>;
-
-/// A connection that is to be visited.
-#[derive(Clone, Copy, Debug)]
-struct Call {
-    key: usize,
-    leaves_long: bool,
-    reads_on: bool,
-}
-
-/// The visit that an event calls for. Where the peer's side has ended it is read to its end, since no further event tells of that.
-fn call_of(event: &Event) -> Call
-    ensures { result ≡ record { key = (event_token event.now).0; leaves_long = true; reads_on = is_read_closed event.now || is_error event.now } }
-{
-    Call {
-        key: event.token().0,
-        leaves_long: true,
-        reads_on: event.is_read_closed() || event.is_error(),
-    }
-}
-
-/// The visit of a connection that was at the pool, which left it so: it is read on, since events were passed over meanwhile. A request that isn't whole
-/// doesn't go back at once, or it would go to and fro.
-fn back_of(key: usize, left: Left) -> Call
-    ensures { result ≡ record { key = key; leaves_long = not (asks_still left); reads_on = true } }
-{
-    Call {
-        key,
-        leaves_long: !matches!(left, Left::Waits(Phase::Asking, _)),
-        reads_on: true,
-    }
-}
+type Connection = Box<Guest<TcpStream, Talk>>;
 
 /// A loop of a server. It alone has its connections, but for those that are away at a worker.
 #[derive(Drop)]
@@ -88,12 +49,17 @@ pub struct Loop<'a, R: Wait + Clock> {
     again: Vec<usize>,
     mail: Vec<Mail>,
     began: Instant,
+    now: u64,
     swept: u64,
     is_due: bool,
 }
 
 /// A connection that has just come, and whose session begins.
-fn guest(alloc: Global, socket: TcpStream) -> Connection {
+fn guest<S>(alloc: Global, socket: S) -> Guest<S, Talk>
+    ensures begins { result ≡ record { socket = socket; talk = result.talk; unsent = record { rest = []; has_failed = false }; has_ended = false; dropped = 0 } }
+    ensures inbox { result.talk.inbox ≡ [] }
+    ensures served { result.talk.served ≡ 0 }
+{
     Guest {
         socket,
         talk: Talk::new(alloc),
@@ -103,32 +69,28 @@ fn guest(alloc: Global, socket: TcpStream) -> Connection {
     }
 }
 
+/// The same, on the heap. `AllocError` where no memory is left for it.
+fn connection(alloc: Global, socket: TcpStream) -> Result<Connection, AllocError> {
+    Ok(Box::new(alloc, guest(alloc, socket))?)
+}
+
 /// How many bytes of memory a connection holds: what was read of it, and what is to be sent.
-fn held_by(guest: &Connection) -> usize {
+fn held_by<S>(guest: &Guest<S, Talk>) -> usize
+    ensures { min (length guest.now.talk.inbox + length guest.now.unsent.rest) (2 ^ 64 - 1) ≤ result }
+{
     let unsent = guest.unsent.memory();
     guest.talk.inbox.capacity().saturating_add(unsent)
 }
 
 /// Ends the session of a connection by a response that is to be sent. Tells whether there was memory for that.
-fn end_by(guest: &mut Connection, response: &str) -> bool {
+fn end_by<S, T>(guest: &mut Guest<S, T>, response: &str) -> bool
+    ensures ended { guest.new ≡ record guest.old { unsent = guest.new.unsent; has_ended = true } }
+    ensures told { result ≡ true → guest.new.unsent.rest ≡ guest.old.unsent.rest ++ response.now }
+    ensures sound { result ≡ true → guest.new.unsent.has_failed ≡ guest.old.unsent.has_failed }
+    ensures failed { result ≡ false → guest.new.unsent.has_failed ≡ true }
+{
     guest.has_ended = true;
     write_whole(&mut guest.unsent, response.as_bytes()).is_ok()
-}
-
-/// Reads what has come and drops it. Tells whether more may come.
-fn drop_what_came(guest: &mut Connection, most: usize) -> bool {
-    let mut piece = [0u8; PIECE];
-    for _piece in 0..most {
-        if guest.dropped >= most {
-            break;
-        }
-        match guest.socket.read(&mut piece) {
-            Ok(count) if count > 0 => guest.dropped = guest.dropped.saturating_add(count),
-            Ok(_) => return false,
-            Err(error) => return error.kind() == ErrorKind::WouldBlock,
-        }
-    }
-    false
 }
 
 impl<'a, R: Wait + Clock> Loop<'a, R> {
@@ -140,21 +102,21 @@ impl<'a, R: Wait + Clock> Loop<'a, R> {
             number,
             poll,
             events: Events::with_capacity(hub.alloc, MOST_EVENTS)?,
-            hall: Hall::new(hub.alloc, most, hub.limits.share(hub.boxes.len()))?,
+            hall: hub.hall()?,
             ready: VecDeque::with_capacity(hub.alloc, most.saturating_add(MOST_EVENTS))?,
             again: Vec::with_capacity(hub.alloc, most)?,
             mail: Vec::with_capacity(hub.alloc, most)?,
             began: Instant::now(hub.rt)?,
+            now: 0,
             swept: 0,
             is_due: false,
         })
     }
 
-    /// The milliseconds since the loop began; as before where the clock can't be read.
-    fn now(&self) -> u64 {
-        match self.began.elapsed(self.hub.rt) {
-            Ok(time) => u64::try_from(time.as_millis()).unwrap_or(u64::MAX),
-            Err(_) => self.swept,
+    /// Reads the clock, once a round: the milliseconds since the loop began; as before where the clock can't be read.
+    fn look_at_clock(&mut self) {
+        if let Ok(time) = self.began.elapsed(self.hub.rt) {
+            self.now = u64::try_from(time.as_millis()).unwrap_or(u64::MAX);
         }
     }
 
@@ -169,7 +131,7 @@ impl<'a, R: Wait + Clock> Loop<'a, R> {
     fn park(&mut self, key: usize, guest: Connection, awaited: Awaited) {
         let mut guest = guest;
         guest.talk.inbox.release(self.hub.alloc);
-        let bytes = held_by(&guest);
+        let bytes = held_by(guest.as_ref());
         if self.hall.come_back(key, guest, awaited, bytes).is_err() {
             self.leave(key);
         }
@@ -178,7 +140,7 @@ impl<'a, R: Wait + Clock> Loop<'a, R> {
     /// Lets what comes behind a session pass, until the peer closes, the time is up, or enough has come.
     fn linger(&mut self, key: usize, guest: Connection, awaited: Awaited) {
         let mut guest = guest;
-        if drop_what_came(&mut guest, self.hub.limits.linger_bytes) {
+        if drop_what_came(guest.as_mut(), self.hub.limits.linger_bytes) {
             self.park(key, guest, awaited);
         } else {
             drop(guest);
@@ -200,7 +162,7 @@ impl<'a, R: Wait + Clock> Loop<'a, R> {
             return;
         }
         let patience = self.hub.limits.patience;
-        let awaited = awaited.next(patience, Phase::Lingering, Happened::Nothing, self.now());
+        let awaited = awaited.next(patience, Phase::Lingering, Happened::Nothing, self.now);
         self.linger(key, guest, awaited);
     }
 
@@ -212,21 +174,22 @@ impl<'a, R: Wait + Clock> Loop<'a, R> {
             awaited,
             ..
         } = visit;
-        let awaited = awaited.next(self.hub.limits.patience, phase, happened, self.now());
+        let awaited = awaited.next(self.hub.limits.patience, phase, happened, self.now);
         self.park(key, guest, awaited);
     }
 
     /// Hands a connection to the pool, whose next request takes long. One with which those there would hold too much is closed.
     fn hand_over(&mut self, visit: Visit<TcpStream, Talk>) {
         let key = visit.key;
-        let bytes = held_by(&visit.guest);
+        let bytes = held_by(visit.guest.as_ref());
         let number = self.number;
         let job = Job {
             number,
             visit,
             bytes,
         };
-        if self.hub.pool.put(self.hub.rt, job).is_err() {
+        if let Err(job) = self.hub.pool.put(self.hub.rt, job) {
+            drop(job);
             self.leave(key);
         }
     }
@@ -234,17 +197,17 @@ impl<'a, R: Wait + Clock> Loop<'a, R> {
     /// Takes a connection back after a visit, which left it so.
     pub(crate) fn take_back(&mut self, visit: Visit<TcpStream, Talk>, left: Left) {
         let key = visit.key;
-        match left {
-            Left::Waits(Phase::Lingering, _) => self.begin_lingering(visit),
-            Left::Waits(phase, happened) => self.park_after(visit, phase, happened),
-            Left::GoesOn => {
-                self.park_after(visit, Phase::Asking, Happened::Answered);
+        match next_step(left) {
+            NextStep::Lingers => self.begin_lingering(visit),
+            NextStep::Parks(phase, happened) => self.park_after(visit, phase, happened),
+            NextStep::ParksForMore(phase, happened) => {
+                self.park_after(visit, phase, happened);
                 if self.again.push(key).is_err() {
                     self.leave(key);
                 }
             }
-            Left::Long => self.hand_over(visit),
-            Left::Gone => {
+            NextStep::GoesToPool => self.hand_over(visit),
+            NextStep::Leaves => {
                 drop(visit);
                 self.leave(key);
             }
@@ -262,15 +225,7 @@ impl<'a, R: Wait + Clock> Loop<'a, R> {
                 self.linger(call.key, guest, awaited);
                 continue;
             }
-            return Some(Visit {
-                key: call.key,
-                guest,
-                awaited,
-                most_turns: MOST_TURNS,
-                leaves_long: call.leaves_long,
-                reads_on: call.reads_on,
-                is_drained: false,
-            });
+            return Some(visit_of(call, guest, awaited));
         }
         None
     }
@@ -284,7 +239,7 @@ impl<'a, R: Wait + Clock> Loop<'a, R> {
 
     /// Gives a connection a place, and has it polled, which tells at once what has come of it. It is closed where that fails.
     fn enter(&mut self, guest: Connection) {
-        let awaited = Awaited::begin(self.hub.limits.patience, Phase::Idle, self.now());
+        let awaited = Awaited::begin(self.hub.limits.patience, Phase::Idle, self.now);
         let Ok(key) = self.hall.enter(guest, awaited) else {
             self.hub.let_out();
             return;
@@ -300,18 +255,27 @@ impl<'a, R: Wait + Clock> Loop<'a, R> {
         }
     }
 
+    /// Takes in a connection for which there is no room, to tell it so. It is closed where there is no memory for that.
+    fn refuse(&mut self, socket: TcpStream) {
+        let Ok(mut guest) = connection(self.hub.alloc, socket) else {
+            self.hub.let_out();
+            return;
+        };
+        if end_by(guest.as_mut(), FULL) {
+            self.enter(guest);
+        } else {
+            self.hub.let_out();
+        }
+    }
+
     /// Takes one mail.
     fn take_one(&mut self, mail: Mail) {
         match mail {
-            Mail::New(socket) => self.enter(guest(self.hub.alloc, socket)),
-            Mail::Refused(socket) => {
-                let mut guest = guest(self.hub.alloc, socket);
-                if end_by(&mut guest, FULL) {
-                    self.enter(guest);
-                } else {
-                    self.hub.let_out();
-                }
-            }
+            Mail::New(socket) => match connection(self.hub.alloc, socket) {
+                Ok(guest) => self.enter(guest),
+                Err(_) => self.hub.let_out(),
+            },
+            Mail::Refused(socket) => self.refuse(socket),
             Mail::Back(visit, left) => {
                 let call = back_of(visit.key, left);
                 self.take_back(visit, left);
@@ -342,18 +306,14 @@ impl<'a, R: Wait + Clock> Loop<'a, R> {
         let Some((mut guest, awaited)) = self.hall.call(key) else {
             return;
         };
-        if awaited.phase != Phase::Asking || !end_by(&mut guest, SLOW) {
+        if awaited.phase != Phase::Asking || !end_by(guest.as_mut(), SLOW) {
             drop(guest);
             self.leave(key);
             return;
         }
-        let awaited = Awaited::begin(self.hub.limits.patience, Phase::Answering, self.now());
+        let awaited = Awaited::begin(self.hub.limits.patience, Phase::Answering, self.now);
         self.park(key, guest, awaited);
-        let _ = self.ready.push_back(Call {
-            key,
-            leaves_long: true,
-            reads_on: true,
-        });
+        let _ = self.ready.push_back(call_anew(key));
     }
 
     /// Gives up all that are late, and where the server stops all that are idle.
@@ -376,7 +336,7 @@ impl<'a, R: Wait + Clock> Loop<'a, R> {
         if !self.again.is_empty() || !self.ready.is_empty() {
             return Duration::from_millis(0);
         }
-        let since = self.now().saturating_sub(self.swept);
+        let since = self.now.saturating_sub(self.swept);
         Duration::from_millis(SWEEP_MS.saturating_sub(since))
     }
 
@@ -397,11 +357,7 @@ impl<'a, R: Wait + Clock> Loop<'a, R> {
     fn call_again(&mut self) -> Result<(), AllocError> {
         for _key in 0..self.again.len() {
             if let Some(key) = self.again.pop() {
-                self.ready.push_back(Call {
-                    key,
-                    leaves_long: true,
-                    reads_on: true,
-                })?;
+                self.ready.push_back(call_anew(key))?;
             }
         }
         Ok(())
@@ -411,16 +367,17 @@ impl<'a, R: Wait + Clock> Loop<'a, R> {
     /// sent in time isn't late.
     fn round(&mut self) -> io::Result<()> {
         if self.is_due {
-            self.sweep(self.now());
+            self.sweep(self.now);
         }
         let time = self.time();
         self.poll.poll(&mut self.events, Some(time))?;
+        self.look_at_clock();
         let is_woken = self.note_events()?;
         self.call_again()?;
         if is_woken {
             self.take_mail();
         }
-        self.is_due = self.now().saturating_sub(self.swept) >= SWEEP_MS;
+        self.is_due = self.now.saturating_sub(self.swept) >= SWEEP_MS;
         Ok(())
     }
 

@@ -1,9 +1,13 @@
 //! Where a worker of a server gets its connections from.
+ghost use Rattle.std.specs.Prelude.{◌≡◌, false};
+ghost use Rattle.eu_accept.specs.Stations.{visits_connections};
+
 use crate::door::Door;
 use crate::hub::Hub;
 use crate::loops::Loop;
 use crate::mail::Mail;
 use crate::pool::at_pool;
+use crate::queue::Job;
 use eu_hall::{Left, Visit};
 use eu_session::Talk;
 use eu_workers::Incoming;
@@ -24,10 +28,18 @@ impl<'a, R: Wait + Clock> Hand<'a, R> {
         Hand { hub, number: 0 }
     }
 
+    /// Takes a connection, and tells how it is to be visited.
+    fn begin(&mut self, job: Job) -> Visit<TcpStream, Talk>
+        ensures number { self.new.number ≡ job.number }
+        ensures visit { result ≡ record job.visit { most_turns = 1; leaves_long = false; reads_on = false } }
+    {
+        self.number = job.number;
+        at_pool(job.visit)
+    }
+
     fn next(&mut self) -> Option<Visit<TcpStream, Talk>> {
         let job = self.hub.pool.next(self.hub.rt)?;
-        self.number = job.number;
-        Some(at_pool(job.visit))
+        Some(self.begin(job))
     }
 
     fn take_back(&mut self, visit: Visit<TcpStream, Talk>, left: Left) {
@@ -50,8 +62,14 @@ pub enum Station<'a, R: Wait + Clock> {
 
 impl<'a, R: Wait + Clock> Station<'a, R> {
     /// Whether it visits connections, so that its worker asks the book.
-    pub fn visits(&self) -> bool {
-        !matches!(self, Station::Door(_))
+    pub fn visits(&self) -> bool
+        ensures { result ≡ visits_connections self.now }
+    {
+        match self {
+            Station::Door(_) => false,
+            Station::Loop(_) => true,
+            Station::Pool(_) => true,
+        }
     }
 }
 

@@ -22,8 +22,8 @@ pub struct Guest<S, T> {
 pub struct Visit<S, T> {
     /// The key of its place.
     pub key: usize,
-    /// The connection.
-    pub guest: Guest<S, T>,
+    /// The connection. It lies on the heap, so that it goes from hand to hand at no cost.
+    pub guest: Box<Guest<S, T>>,
     /// What was awaited of its peer.
     pub awaited: Awaited,
     /// The most turns that its session may have now.

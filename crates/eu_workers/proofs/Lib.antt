@@ -2,3 +2,4 @@ pub mod TimerLemmas
 pub mod Crossing
 pub mod AllLemmas
 pub mod TurnLemmas
+pub mod PlaceLemmas

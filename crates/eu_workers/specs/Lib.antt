@@ -4,3 +4,4 @@ pub mod Timers
 pub mod All
 pub mod News
 pub mod Visits
+pub mod Long

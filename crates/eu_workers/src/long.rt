@@ -1,37 +1,85 @@
 //! Requests that take long.
+ghost use Rattle.std.specs.Prelude.{◌≡◌};
+ghost use Rattle.std.specs.List.{position_or_len};
+ghost use Rattle.eu_workers.specs.Long.{ends_path, is_other, is_slash};
+ghost use Rattle.eu_workers.specs.Long as spec;
 
-/// The paths under which the registry is listed, whole or by application.
-const LISTINGS: [&[u8]; 2] = [b"GET /eureka/apps", b"GET /eureka/v2/apps"];
+/// The path under which the registry is listed, whole or by application.
+const LISTING: &[u8] = b"GET /eureka/apps";
+
+/// The other such path.
+const LISTING_2: &[u8] = b"GET /eureka/v2/apps";
 
 /// The path of a peer's batch.
 const BATCH: &[u8] = b"POST /eureka/peerreplication";
 
-/// Whether the rest of a path names no instance: it has one part at most.
-fn names_no_instance(rest: &[u8]) -> bool {
-    let mut has_part = false;
-    let mut is_behind_slash = false;
-    for byte in rest {
-        match byte {
-            b' ' | b'?' => break,
-            b'/' => is_behind_slash = true,
-            _ if is_behind_slash && has_part => return false,
-            _ if is_behind_slash => {
-                has_part = true;
-                is_behind_slash = false;
-            }
-            _ => {}
+/// Where the first blank or `?` stands, which ends a path. The length where there is none.
+#[tactic(auto, using(crate::proofs::PlaceLemmas::place_is, crate::proofs::PlaceLemmas::place_none))]
+fn place_of_end(bytes: &[u8]) -> usize
+    ensures { result ≡ position_or_len ends_path bytes.now }
+{
+    for (i, byte) in bytes.iter().enumerate() {
+        if *byte == b' ' || *byte == b'?' {
+            return i;
         }
     }
-    true
+    bytes.len()
+}
+
+/// Where the first slash stands. The length where there is none.
+#[tactic(auto, using(crate::proofs::PlaceLemmas::place_is, crate::proofs::PlaceLemmas::place_none))]
+fn place_of_slash(bytes: &[u8]) -> usize
+    ensures { result ≡ position_or_len is_slash bytes.now }
+{
+    for (i, byte) in bytes.iter().enumerate() {
+        if *byte == b'/' {
+            return i;
+        }
+    }
+    bytes.len()
+}
+
+/// Where the first byte stands that is no slash. The length where there is none.
+#[tactic(auto, using(crate::proofs::PlaceLemmas::place_is, crate::proofs::PlaceLemmas::place_none))]
+fn place_of_other(bytes: &[u8]) -> usize
+    ensures { result ≡ position_or_len is_other bytes.now }
+{
+    for (i, byte) in bytes.iter().enumerate() {
+        if *byte != b'/' {
+            return i;
+        }
+    }
+    bytes.len()
+}
+
+/// What stands in a path behind its first slash, and behind those that follow that one.
+#[tactic(auto, using(crate::proofs::PlaceLemmas::place_within))]
+fn behind_slashes(path: &[u8]) -> &[u8]
+    ensures { result.now ≡ spec.behind_slashes path.now }
+{
+    let rest = &path[place_of_slash(path)..];
+    &rest[place_of_other(rest)..]
+}
+
+/// Whether the rest of a path names no instance: it has one part at most.
+#[tactic(auto, using(crate::proofs::PlaceLemmas::place_within))]
+fn names_no_instance(rest: &[u8]) -> bool
+    ensures { result ≡ spec.names_no_instance rest.now }
+{
+    let path = &rest[..place_of_end(rest)];
+    behind_slashes(behind_slashes(path)).is_empty()
 }
 
 /// Whether these bytes begin like a request that takes long: a listing, of all or of an application, or a peer's batch. It only tells who takes
 /// the turn: a wrong answer costs time alone.
-pub(crate) fn is_long(bytes: &[u8]) -> bool {
-    for path in &LISTINGS {
-        if let Some(rest) = bytes.strip_prefix(*path) {
-            return names_no_instance(rest);
-        }
+pub(crate) fn is_long(bytes: &[u8]) -> bool
+    ensures { result ≡ spec.is_long bytes.now }
+{
+    if bytes.starts_with(LISTING) {
+        names_no_instance(&bytes[LISTING.len()..])
+    } else if bytes.starts_with(LISTING_2) {
+        names_no_instance(&bytes[LISTING_2.len()..])
+    } else {
+        bytes.starts_with(BATCH)
     }
-    bytes.starts_with(BATCH)
 }

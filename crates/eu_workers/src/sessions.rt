@@ -87,10 +87,10 @@ fn turn<K: Label, R: Wait, G: Gate, C: Clock, S: Read>(
     clock: &mut C,
     visit: &mut Visit<S, Talk>,
 ) -> Progress
-    requires { visit.old.guest.unsent.rest ≡ [] }
+    requires { visit.old.guest.value.unsent.rest ≡ [] }
     ensures { IsAsked seat.old.pass seat.new.pass }
 {
-    let guest = &mut visit.guest;
+    let guest = visit.guest.as_mut();
     let mut source = GatedSource::new(
         &mut guest.socket,
         site.gate,
@@ -149,13 +149,13 @@ fn look_ahead<K: Label, R: Wait, G: Gate, S: Read>(
     room: &mut Room,
     visit: &mut Visit<S, Talk>,
 ) -> Option<Left>
-    ensures kept { visit.new.guest ≡ record visit.old.guest { socket = visit.new.guest.socket; talk = visit.new.guest.talk } }
+    ensures kept { visit.new.guest.value ≡ record visit.old.guest.value { socket = visit.new.guest.value.socket; talk = visit.new.guest.value.talk } }
     ensures long { result ≡ Some Left.Long → visit.old.leaves_long ≡ true }
 {
     if !visit.leaves_long {
         return None;
     }
-    let guest = &mut visit.guest;
+    let guest = visit.guest.as_mut();
     let mut source = GatedSource::new(
         &mut guest.socket,
         site.gate,
@@ -183,10 +183,10 @@ fn step<K: Label, R: Wait, G: Gate, C: Clock, S: Read + Write>(
     clock: &mut C,
     visit: &mut Visit<S, Talk>,
 ) -> Progress
-    requires sent { visit.old.guest.unsent.rest ≡ [] }
+    requires sent { visit.old.guest.value.unsent.rest ≡ [] }
     ensures asked { IsAsked seat.old.pass seat.new.pass }
-    ensures sent { result ≡ Progress.Answered → visit.new.guest.unsent.rest ≡ [] }
-    ensures ended { visit.old.guest.has_ended ≡ true → result ≡ Progress.Over (Left.Waits Phase.Lingering Happened.Nothing) }
+    ensures sent { result ≡ Progress.Answered → visit.new.guest.value.unsent.rest ≡ [] }
+    ensures ended { visit.old.guest.value.has_ended ≡ true → result ≡ Progress.Over (Left.Waits Phase.Lingering Happened.Nothing) }
 {
     if visit.guest.has_ended {
         return Progress::Over(Left::Waits(Phase::Lingering, Happened::Nothing));
@@ -195,7 +195,7 @@ fn step<K: Label, R: Wait, G: Gate, C: Clock, S: Read + Write>(
         return Progress::Over(left);
     }
     match turn(site, who, room, seat, clock, visit) {
-        Progress::Answered => match send(&mut visit.guest) {
+        Progress::Answered => match send(visit.guest.as_mut()) {
             Some(left) => Progress::Over(after_answers(left)),
             None => Progress::Answered,
         },
@@ -215,7 +215,7 @@ fn serve<K: Label, R: Wait, G: Gate, C: Clock, S: Read + Write>(
 ) -> Left
     ensures { IsAsked seat.old.pass seat.new.pass }
 {
-    if let Some(left) = send(&mut visit.guest) {
+    if let Some(left) = send(visit.guest.as_mut()) {
         return left;
     }
     let mut has_answered = false;

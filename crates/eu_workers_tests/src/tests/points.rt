@@ -220,7 +220,7 @@ fn connection(alloc: Global, counts: &Counts, is_broken: bool) -> Once<'_> {
         writer,
     };
     Once {
-        connection: Some(visit(alloc, sides, 8)),
+        connection: visit(alloc, sides, 8).ok(),
         taken: &counts.taken,
         ended: &counts.ended,
         answered: &counts.answered,

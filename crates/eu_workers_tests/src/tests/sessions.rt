@@ -135,7 +135,7 @@ fn serving<'a>(
     };
     Work::Sessions {
         source: Once {
-            connection: Some(visit(alloc, sides, 8)),
+            connection: visit(alloc, sides, 8).ok(),
             answer,
             answered,
         },

@@ -126,7 +126,7 @@ impl<K: Label, R: Wait> Incoming for Renewing<'_, K, R> {
             reader: RENEWAL.as_bytes(),
             writer: Vec::new(self.alloc),
         };
-        Some(visit(self.alloc, sides, 8))
+        visit(self.alloc, sides, 8).ok()
     }
 
     fn take_back(

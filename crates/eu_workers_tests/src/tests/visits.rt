@@ -1,7 +1,7 @@
 //! Connections as a worker visits them, over what a test reads and writes.
 use eu_hall::{Awaited, Guest, PATIENCE, Phase, Unsent, Visit};
 use eu_session::Talk;
-use std::alloc::Global;
+use std::alloc::{AllocError, Global};
 use std::io::{self, Read, Write};
 
 /// The two sides of a connection.
@@ -29,21 +29,26 @@ impl<R, W: Write> Write for Sides<R, W> {
     }
 }
 
-/// A visit of a connection that has just come, with so many turns.
-pub fn visit<S>(alloc: Global, socket: S, most_turns: u32) -> Visit<S, Talk> {
-    Visit {
+/// A visit of a connection that has just come, with so many turns. `AllocError` where no memory is left for it.
+pub fn visit<S: Drop>(
+    alloc: Global,
+    socket: S,
+    most_turns: u32,
+) -> Result<Visit<S, Talk>, AllocError> {
+    let guest = Guest {
+        socket,
+        talk: Talk::new(alloc),
+        unsent: Unsent::new(alloc),
+        has_ended: false,
+        dropped: 0,
+    };
+    Ok(Visit {
         key: 0,
-        guest: Guest {
-            socket,
-            talk: Talk::new(alloc),
-            unsent: Unsent::new(alloc),
-            has_ended: false,
-            dropped: 0,
-        },
+        guest: Box::new(alloc, guest)?,
         awaited: Awaited::begin(PATIENCE, Phase::Idle, 0),
         most_turns,
         leaves_long: false,
         reads_on: true,
         is_drained: false,
-    }
+    })
 }

@@ -1,0 +1,2 @@
+pub mod BehindLemmas
+pub mod QueueLemmas

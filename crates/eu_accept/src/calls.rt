@@ -1,0 +1,96 @@
+//! Which connections a loop calls, and what becomes of one after a visit.
+ghost use Rattle.std.specs.Prelude.{◌≡◌, ◌||◌, not, true, false};
+ghost use Rattle.mio.specs.Event.{event_token, is_read_closed, is_error};
+ghost use Rattle.eu_accept.specs.Calls.{asks_still};
+ghost use Rattle.eu_accept.specs.Calls as spec;
+
+use eu_hall::{Awaited, Guest, Happened, Left, Phase, Visit};
+use mio::event::Event;
+
+/// The most turns that a session has before others have theirs.
+const MOST_TURNS: u32 = 8;
+
+/// A connection that is to be visited.
+#[derive(Clone, Copy, Debug)]
+pub(crate) struct Call {
+    /// The key of its place.
+    pub(crate) key: usize,
+    /// Whether a request that takes long is left to others.
+    pub(crate) leaves_long: bool,
+    /// Whether it is read until a read would wait.
+    pub(crate) reads_on: bool,
+}
+
+/// The visit of a connection for which there may be something to do, and no event need tell of it: it is read on.
+pub(crate) fn call_anew(key: usize) -> Call
+    ensures { result ≡ record { key = key; leaves_long = true; reads_on = true } }
+{
+    Call {
+        key,
+        leaves_long: true,
+        reads_on: true,
+    }
+}
+
+/// The visit that an event calls for. Where the peer's side has ended it is read to its end, since no further event tells of that.
+pub(crate) fn call_of(event: &Event) -> Call
+    ensures { result ≡ record { key = (event_token event.now).0; leaves_long = true; reads_on = is_read_closed event.now || is_error event.now } }
+{
+    Call {
+        reads_on: event.is_read_closed() || event.is_error(),
+        ..call_anew(event.token().0)
+    }
+}
+
+/// The visit of a connection that was at the pool, which left it so: it is read on, since events were passed over meanwhile. A request that isn't whole
+/// doesn't go back at once, or it would go to and fro.
+pub(crate) fn back_of(key: usize, left: Left) -> Call
+    ensures { result ≡ record { key = key; leaves_long = not (asks_still left); reads_on = true } }
+{
+    Call {
+        leaves_long: !matches!(left, Left::Waits(Phase::Asking, _)),
+        ..call_anew(key)
+    }
+}
+
+/// The visit of a connection that was called so, of whose peer this was awaited.
+pub(crate) fn visit_of<S, T>(call: Call, guest: Box<Guest<S, T>>, awaited: Awaited) -> Visit<S, T>
+    ensures { result ≡ record { key = call.key; guest = guest; awaited = awaited; most_turns = 8; leaves_long = call.leaves_long; reads_on = call.reads_on; is_drained = false } }
+{
+    Visit {
+        key: call.key,
+        guest,
+        awaited,
+        most_turns: MOST_TURNS,
+        leaves_long: call.leaves_long,
+        reads_on: call.reads_on,
+        is_drained: false,
+    }
+}
+
+/// What becomes of a connection after a visit.
+pub(crate) enum NextStep {
+    /// What was written of it is ended, and it lingers.
+    Lingers,
+    /// It is parked: this is awaited of its peer, and that happened.
+    Parks(Phase, Happened),
+    /// The same, and it is visited again at once.
+    ParksForMore(Phase, Happened),
+    /// It goes to the pool.
+    GoesToPool,
+    /// It is closed.
+    Leaves,
+}
+
+/// What becomes of a connection that a visit left so.
+pub(crate) fn next_step(left: Left) -> NextStep
+    ensures { result ≡ spec.next_step left }
+{
+    match left {
+        Left::Waits(Phase::Lingering, _) => NextStep::Lingers,
+        Left::Waits(phase, happened) => NextStep::Parks(phase, happened),
+        Left::GoesOn => NextStep::ParksForMore(Phase::Asking, Happened::Answered),
+        Left::Long => NextStep::GoesToPool,
+        Left::Gone => NextStep::Leaves,
+    }
+}

@@ -1,0 +1,6 @@
+use Rattle.std.proofs.Common.{◌≡◌, ◌<◌, ℕ, false, get_or}
+use Rattle.eu_workers.specs.Long.{is_slash}
+use Rattle.eu_workers.proofs.long.place_of_slash.Given as goal
+
+abbrev pub invariant-loop-i : goal.invariant-loop-i
+invariant-loop-i l = (k : ℕ) → k < l.i → is_slash (get_or l.bytes k 0) ≡ false

@@ -1,0 +1,42 @@
+-- Which requests take long
+use Rattle.std.specs.Prelude.{ℕ, ◌==◌, ◌||◌, Bool, not, List, length, drop, nat_eq, codes, if◌then◌else◌}
+use Rattle.std.specs.List.{before_first, position_or_len, starts_with}
+
+-- the paths under which the registry is listed, whole or by application, and that of a peer's batch
+abbrev pub listing : List ℕ
+listing = codes "GET /eureka/apps"
+
+abbrev pub listing_2 : List ℕ
+listing_2 = codes "GET /eureka/v2/apps"
+
+abbrev pub batch : List ℕ
+batch = codes "POST /eureka/peerreplication"
+
+abbrev pub is_slash : ℕ → Bool
+is_slash byte = byte == 47
+
+abbrev pub is_other : ℕ → Bool
+is_other byte = not (byte == 47)
+
+-- a blank or a `?` ends a path
+abbrev pub ends_path : ℕ → Bool
+ends_path byte = (byte == 32) || (byte == 63)
+
+-- what stands from the first such byte on
+abbrev pub from_first : (ℕ → Bool) → List ℕ → List ℕ
+from_first test bytes = drop (position_or_len test bytes) bytes
+
+-- what stands behind the first slash of a path, and behind those that follow that one
+abbrev pub behind_slashes : List ℕ → List ℕ
+behind_slashes path = from_first is_other (from_first is_slash path)
+
+-- the rest of a path has one part at most: behind the slashes that follow that part, there is nothing
+abbrev pub names_no_instance : List ℕ → Bool
+names_no_instance rest = length (behind_slashes (behind_slashes (before_first ends_path rest))) == 0
+
+-- a listing, unless it names an instance, or a batch
+abbrev pub is_long : List ℕ → Bool
+is_long bytes =
+    if starts_with nat_eq bytes listing then names_no_instance (drop (length listing) bytes)
+    else if starts_with nat_eq bytes listing_2 then names_no_instance (drop (length listing_2) bytes)
+    else starts_with nat_eq bytes batch

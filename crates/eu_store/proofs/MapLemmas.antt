@@ -72,7 +72,7 @@ key_at es (p ∷ ps) (suc j) h = key_at es ps j (omega arith)
 
 -- what has expired is at these places, each once
 module _ (moment extra : ℕ) (es : List (Key × Listed)) (found : List ℕ) (apart : IsDistinct key_eq (keys_of es)) (before : AreBefore (deadlines es) (moment - extra) found) where
-  late : Listed → Bool
+  abbrev late : Listed → Bool
   late l = plain_expired l moment extra
 
   tied : IsDistinct (eq_by_cmp key_cmp) (keys_of es)

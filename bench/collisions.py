@@ -13,7 +13,6 @@ import socket
 import subprocess
 import sys
 import tempfile
-import time
 
 A_CONNECTION = 96  # requests on one connection; a session ends with its 100th
 PORT = 18771
@@ -60,7 +59,8 @@ def instructions(program, port, requests):
     server = subprocess.Popen(
         ["valgrind", "--tool=callgrind", "--callgrind-out-file=/dev/null", program, "serve", "--port", str(port),
          "--sessions", str(sessions), "--workers", "1"], stdout=subprocess.DEVNULL, stderr=subprocess.PIPE, text=True)
-    time.sleep(3)
+    while "listening" not in server.stderr.readline():
+        pass
     send(port, requests)
     return int(re.search(r"Collected\s*:\s*(\d+)", server.communicate()[1]).group(1))
 

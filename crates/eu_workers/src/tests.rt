@@ -99,7 +99,14 @@ fn turns_of<K: Label, R: Wait>(
     requires names { HasNames blanks K.steps K.counted K.added K.removed }
     requires parts { HasParts blanks K.parts × (K.parts ≡ PARTS) }
 {
-    let shared: Shared<K> = Shared::open(alloc, Config::new(true, 85, 30, 60_000)?, 0, 0, HashKey::new(0, 0), blanks)?;
+    let shared: Shared<K> = Shared::open(
+        alloc,
+        Config::new(true, 85, 30, 60_000)?,
+        0,
+        0,
+        HashKey::new(0, 0),
+        blanks,
+    )?;
     let done = turns_at(rt, alloc, &shared, timer, limit);
     drop(shared);
     done
@@ -201,7 +208,14 @@ fn moments_of<K: Label, R: Wait>(
     requires names { HasNames blanks K.steps K.counted K.added K.removed }
     requires parts { HasParts blanks K.parts × (K.parts ≡ PARTS) }
 {
-    let shared: Shared<K> = Shared::open(alloc, Config::new(true, 85, 30, 60_000)?, 0, 0, HashKey::new(0, 0), blanks)?;
+    let shared: Shared<K> = Shared::open(
+        alloc,
+        Config::new(true, 85, 30, 60_000)?,
+        0,
+        0,
+        HashKey::new(0, 0),
+        blanks,
+    )?;
     let moments = moments_at(rt, alloc, &shared);
     drop(shared);
     moments

@@ -40,7 +40,14 @@ pub fn open<K: Label>(alloc: Global, opening: Opening, blanks: Blanks) -> Result
     if opening.peers > 8 {
         return Err(Fault::NoPeer);
     }
-    Ok(Shared::open(alloc, config, opening.expected, opening.peers, HashKey::new(0, 0), blanks)?)
+    Ok(Shared::open(
+        alloc,
+        config,
+        opening.expected,
+        opening.peers,
+        HashKey::new(0, 0),
+        blanks,
+    )?)
 }
 
 /// The passes of a shared book.

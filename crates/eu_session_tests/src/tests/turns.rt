@@ -16,6 +16,7 @@ const RENEWAL: &str = "PUT /eureka/apps/A/i1 HTTP/1.1\r\nHost: x\r\n\r\n";
 
 /// The same in two pieces.
 const BEGUN: &str = "PUT /eureka/apps/A/i1 HTTP/1.1";
+
 const REST: &str = "\r\nHost: x\r\n\r\n";
 
 /// What it is answered.

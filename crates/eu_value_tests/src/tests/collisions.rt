@@ -45,10 +45,10 @@ impl Hash for Counted<'_> {
 }
 
 /// How many texts collide.
-const COUNT: u32 = 128;
+const COUNT: u32 = 64;
 
-/// What a table of so many looks at of a hash: in which of 16 groups it looks first, and which of a group's keys it compares.
-const LOOKED_AT: u64 = 0xFF00_000F;
+/// What a table of so many looks at of a hash: in which of eight groups it looks first, and which of a group's keys it compares.
+const LOOKED_AT: u64 = 0xFF00_0007;
 
 /// What a table looks at of the hash of a text.
 fn seen<S: BuildHasher>(hasher: &S, text: &str) -> u64 {
@@ -60,7 +60,7 @@ fn seen<S: BuildHasher>(hasher: &S, text: &str) -> u64 {
 fn colliding<S: BuildHasher>(alloc: Global, hasher: &S) -> Result<Vec<String>, AllocError> {
     let mut texts = Vec::new(alloc);
     let mut number = 0u32;
-    while texts.len() < COUNT as usize && number < 2_000_000 {
+    while texts.len() < COUNT as usize && number < 500_000 {
         let text = format!(in alloc; "host-{number}.example.org:app:8080")?;
         if seen(hasher, text.as_str()) == 0x5500_0005 {
             texts.push(text)?;

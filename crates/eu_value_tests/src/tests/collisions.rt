@@ -59,13 +59,14 @@ fn seen<S: BuildHasher>(hasher: &S, text: &str) -> u64 {
 /// Texts of which a table sees no difference that hashes like this, in the order of the numbers in them.
 fn colliding<S: BuildHasher>(alloc: Global, hasher: &S) -> Result<Vec<String>, AllocError> {
     let mut texts = Vec::new(alloc);
-    let mut number = 0u32;
-    while texts.len() < COUNT as usize && number < 500_000 {
+    for number in 0..500_000u32 {
+        if texts.len() == COUNT as usize {
+            return Ok(texts);
+        }
         let text = format!(in alloc; "host-{number}.example.org:app:8080")?;
         if seen(hasher, text.as_str()) == 0x5500_0005 {
             texts.push(text)?;
         }
-        number += 1;
     }
     Ok(texts)
 }

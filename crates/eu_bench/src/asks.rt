@@ -7,6 +7,7 @@ use eu_base::{
     Stamp, Status,
 };
 use eu_clock::FirstChooser;
+use eu_hash::HashKey;
 use eu_model::Command;
 use eu_settle::{Closed, settle};
 use eu_shared::{Blanks, Label, PARTS, Pass, Shared, close};
@@ -128,7 +129,7 @@ fn ask_book<K: Label + Send + Sync, R: Threads + Wait + Sync>(
     requires parts { HasParts blanks K.parts × (K.parts ≡ PARTS) }
 {
     let config = Config::new(true, 85, 30, 60_000)?;
-    let shared: Shared<K> = Shared::open(alloc, config, 0, 0, blanks)?;
+    let shared: Shared<K> = Shared::open(alloc, config, 0, 0, HashKey::new(0, 0), blanks)?;
     let load = Load {
         rt,
         alloc,

@@ -3,6 +3,7 @@
 use eu_base::{App, Config, Fault, Moment, SharedInstance};
 use eu_book::Book;
 use eu_clock::FirstChooser;
+use eu_hash::HashKey;
 use eu_json::read_instance;
 use eu_model::Command;
 use std::alloc::{AllocError, Global};
@@ -61,7 +62,7 @@ fn fill_and_renew(alloc: Global, book: &mut Book, leases: u32, times: u32) -> Re
 /// had in all. `Full` where the leases are more than a registry holds; `OutOfMemory`.
 pub fn count_entered(alloc: Global, leases: u32, times: u32) -> Result<u64, Fault> {
     let config = Config::new(true, 85, 30, 60_000)?;
-    let mut book = Book::open(alloc, config, 1, 0)?;
+    let mut book = Book::open(alloc, config, 1, 0, HashKey::new(0, 0))?;
     let entered = fill_and_renew(alloc, &mut book, leases, times);
     drop(book);
     entered

@@ -9,6 +9,7 @@ use eu_base::{
     Stamp, Status,
 };
 use eu_core::Registry;
+use eu_hash::HashKey;
 use eu_json::append_applications;
 use eu_model::Listed;
 use std::alloc::Global;
@@ -52,7 +53,7 @@ fn fill_and_list(alloc: Global, registry: &mut Registry, count: u32) -> Result<V
 /// What a registry with so many instances lists.
 fn listed(alloc: Global, count: u32) -> Result<Vec<Listed>, Fault> {
     let config = Config::new(true, 85, 30, 60_000)?;
-    let mut registry = Registry::open(alloc, config, 1);
+    let mut registry = Registry::open(alloc, config, 1, HashKey::new(0, 0));
     let held = fill_and_list(alloc, &mut registry, count);
     drop(registry);
     held

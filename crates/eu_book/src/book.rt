@@ -19,6 +19,7 @@ use crate::undoing::{plain_base, plain_state};
 use eu_base::{Config, Fault, MOST_ENTRIES, MOST_PEERS, MOST_STEPS, Moment};
 use eu_clock::Chooser;
 use eu_core::Registry;
+use eu_hash::HashKey;
 use eu_model::{Command, Entry, Listed, Listing, Query, Reply, State, Tally, View};
 use std::alloc::{AllocError, Global};
 use std::marker::Model;
@@ -75,24 +76,25 @@ impl Model for Book {
 
 impl Book {
     /// The book of a registry that is opened now, and expects so many clients to renew (`Registry::open`), with so many peers, for
-    /// whom nothing waits. No more than 8 are handed in. `AllocError` where no memory is left.
+    /// whom nothing waits. No more than 8 are handed in. All tables are to hash by that key. `AllocError` where no memory is left.
     pub fn open(
         alloc: Global,
         config: Config,
         expected: u32,
         peers: u32,
+        hash_key: HashKey,
     ) -> Result<Book, AllocError>
         requires { peers ≤ MOST_PEERS }
         ensures { IfOk result (λ book. book ≡ opened config expected peers) }
     {
-        let peers = Peers::open(alloc, peers)?;
+        let peers = Peers::open(alloc, peers, hash_key)?;
         let mut journal = Journal::empty(alloc)?;
         prepare(&mut journal, alloc, &peers, 0)?;
         Ok(Book {
             journal,
             spare: Journal::empty(alloc)?,
             totals: Tally::nothing(),
-            registry: Registry::open(alloc, config, expected),
+            registry: Registry::open(alloc, config, expected, hash_key),
             peers,
         })
     }

@@ -12,6 +12,7 @@ ghost use Rattle.eu_book.specs.Peers.{queues_of, IsReady, QueuesAnswer, told_key
 use crate::tasks::task_for;
 use eu_base::{Codes, Fault, Key, MOST_PEERS, Moment, SharedInstance, Tasks};
 use eu_core::{Answered, replies_for};
+use eu_hash::HashKey;
 use eu_model::{Command, Queues, Reply};
 use eu_outbox::Outbox;
 use std::alloc::{AllocError, Global};
@@ -39,14 +40,14 @@ impl Model for Peers {
 }
 
 impl Peers {
-    /// So many peers, for whom nothing waits. `AllocError` where no memory is left.
-    pub(crate) fn open(alloc: Global, count: u32) -> Result<Peers, AllocError>
+    /// So many peers, for whom nothing waits; the names of their tasks are to be hashed by that key. `AllocError` where no memory is left.
+    pub(crate) fn open(alloc: Global, count: u32, hash_key: HashKey) -> Result<Peers, AllocError>
         requires { count ≤ MOST_PEERS }
         ensures { IfOk result (λ p. queues_of p ≡ replicate count idle) }
     {
         let mut outboxes = Vec::new(alloc);
         for _ in 0..count {
-            outboxes.push(Outbox::new(alloc))?;
+            outboxes.push(Outbox::new(alloc, hash_key))?;
         }
         Ok(Peers { outboxes })
     }

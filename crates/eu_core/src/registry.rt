@@ -33,6 +33,7 @@ use eu_base::{
 };
 use eu_clock::Chooser;
 use eu_eviction::{Eviction, Overrides, Removed, run_eviction};
+use eu_hash::HashKey;
 use eu_lease::{Rate, Threshold};
 use eu_model::{
     Command, Counts, Gauges, Listed, Listing, Queues, Reply, State, StatusCounts, Times,
@@ -70,13 +71,13 @@ impl Model for Registry {
 impl Registry {
     /// An empty registry that expects so many clients to renew (`PeerAwareInstanceRegistryImpl.openForTraffic` in Eureka).
     ///
-    /// No renewal is counted, and no minute has ended. Takes no memory.
-    pub fn open(alloc: Global, config: Config, expected: u32) -> Registry
+    /// No renewal is counted, and no minute has ended. Its tables are to hash by that key. Takes no memory.
+    pub fn open(alloc: Global, config: Config, expected: u32, hash_key: HashKey) -> Registry
         ensures { result ≡ plain (opening config expected) }
     {
         Registry {
-            leases: Leases::new(alloc),
-            overrides: Overrides::new(alloc),
+            leases: Leases::new(alloc, hash_key),
+            overrides: Overrides::new(alloc, hash_key),
             threshold: Threshold::open(config, expected),
             rate: Rate::new(),
             previous: None,

@@ -7,6 +7,7 @@ ghost use Rattle.std.specs.Map.Iter.{deref_pair};
 ghost use Rattle.eu_model.specs.Machine.{with_value};
 
 use eu_base::{Id, Status};
+use eu_hash::HashKey;
 use eu_model::OverrideRows;
 use indexmap::IndexMap;
 use std::alloc::{AllocError, Global};
@@ -15,7 +16,7 @@ use std::marker::Model;
 /// The override rows (`overriddenInstanceStatusMap` in Eureka). Contracts see a finite map and some room.
 #[derive(Debug, Drop)]
 pub struct Overrides {
-    table: IndexMap<Id, Status>,
+    table: IndexMap<Id, Status, HashKey>,
 }
 
 impl Model for Overrides {
@@ -31,12 +32,12 @@ impl Model for Overrides {
 }
 
 impl Overrides {
-    /// No row. Takes no memory.
-    pub fn new(alloc: Global) -> Overrides
+    /// No row; the table is to hash by that key, since clients choose the ids. Takes no memory.
+    pub fn new(alloc: Global, hash_key: HashKey) -> Overrides
         ensures { result.rows ≡ map.empty }
     {
         Overrides {
-            table: IndexMap::new(alloc),
+            table: IndexMap::with_hasher(alloc, hash_key),
         }
     }
 
@@ -74,11 +75,11 @@ impl Overrides {
         Ok(rows)
     }
 
-    /// The same rows once more. `AllocError` where no memory is left.
+    /// The same rows once more; they hash by the same key. `AllocError` where no memory is left.
     pub fn copy(&self, alloc: Global) -> Result<Overrides, AllocError>
         ensures { IfOk result (λ copy. copy.rows ≡ self.now.rows) }
     {
-        let mut copy = Overrides::new(alloc);
+        let mut copy = Overrides::new(alloc, *self.table.hasher());
         let entries = self.table.as_slice();
         let mut left = self.table.len();
         while left > 0 {

@@ -5,6 +5,7 @@ ghost use Rattle.eu_model.specs.Server.{idle, again, after_codes, after_code, li
 
 use crate::waiting::{Line, parts};
 use eu_base::{Action, Fault, MOST_SENT, MOST_WAITING, Moment, Task, Tasks};
+use eu_hash::HashKey;
 use eu_model::Queue;
 use std::alloc::{AllocError, Global};
 use std::marker::Model;
@@ -34,12 +35,12 @@ impl Model for Outbox {
 }
 
 impl Outbox {
-    /// No task. Takes no memory.
-    pub fn new(alloc: Global) -> Outbox
+    /// No task; the tasks' names are to be hashed by that key. Takes no memory.
+    pub fn new(alloc: Global, hash_key: HashKey) -> Outbox
         ensures { result.queue ≡ idle }
     {
         Outbox {
-            waiting: Line::new(alloc),
+            waiting: Line::new(alloc, hash_key),
             flight: Vec::new(alloc),
         }
     }

@@ -7,6 +7,7 @@ ghost use Rattle.eu_model.specs.Server.{bounded, live, put, is_old};
 ghost use Rattle.eu_outbox.specs.Steps.{IsApart, gave, gave_all, in_line, named, placed, task_of, task_shown};
 
 use eu_base::{MOST_SENT, MOST_WAITING, Moment, SharedInstance, Status, TASK_AGE, Task, TaskName};
+use eu_hash::HashKey;
 use indexmap::IndexMap;
 use std::alloc::{AllocError, Global};
 use std::marker::Model;
@@ -20,12 +21,15 @@ pub(crate) struct Waiting {
     pub(crate) queued: Moment,
 }
 
+/// Tasks by their names, which clients choose: so they are hashed by a key that is given.
+type Entries = IndexMap<TaskName, Waiting, HashKey>;
+
 /// Tasks in a line, of which no two have one name. The older are kept last to first, so that the first of all is taken from an
 /// end. Contracts see the list, and how many more can be put without taking memory.
 #[derive(Debug, Drop)]
 pub(crate) struct Line {
-    older: IndexMap<TaskName, Waiting>,
-    newer: IndexMap<TaskName, Waiting>,
+    older: Entries,
+    newer: Entries,
 }
 
 impl Model for Line {
@@ -45,13 +49,13 @@ impl Model for Line {
 }
 
 impl Line {
-    /// No task. Takes no memory.
-    pub(crate) fn new(alloc: Global) -> Line
+    /// No task; the names are to be hashed by that key. Takes no memory.
+    pub(crate) fn new(alloc: Global, hash_key: HashKey) -> Line
         ensures { result.tasks ≡ [] }
     {
         Line {
-            older: IndexMap::new(alloc),
-            newer: IndexMap::new(alloc),
+            older: IndexMap::with_hasher(alloc, hash_key),
+            newer: IndexMap::with_hasher(alloc, hash_key),
         }
     }
 
@@ -308,7 +312,7 @@ fn push_copy(
 }
 
 /// Puts an entry in the place of the one of its name, else last.
-fn insert(entries: &mut IndexMap<TaskName, Waiting>, name: TaskName, waiting: Waiting)
+fn insert(entries: &mut Entries, name: TaskName, waiting: Waiting)
     requires { 0 < spare entries.old }
     ensures tasks { map task_of entries.new.entries ≡ placed (task_of (name, waiting)) (map task_of entries.old.entries) }
     ensures room { spare entries.old ≤ spare entries.new + 1 }
@@ -319,14 +323,14 @@ fn insert(entries: &mut IndexMap<TaskName, Waiting>, name: TaskName, waiting: Wa
 }
 
 /// Drops the entries of tasks that are too old at the moment.
-fn keep_live(entries: &mut IndexMap<TaskName, Waiting>, moment: Moment)
+fn keep_live(entries: &mut Entries, moment: Moment)
     ensures { map task_of entries.new.entries ≡ live moment (map task_of entries.old.entries) }
 {
     entries.retain(|_, waiting| !is_old(waiting.queued, moment));
 }
 
 /// Makes the newer entries the older ones, where there are no older ones.
-fn turn(older: &mut IndexMap<TaskName, Waiting>, newer: &mut IndexMap<TaskName, Waiting>)
+fn turn(older: &mut Entries, newer: &mut Entries)
     ensures tasks { in_line older.new.entries newer.new.entries ≡ in_line older.old.entries newer.old.entries }
     ensures none { older.new.entries ≡ [] → newer.new.entries ≡ [] }
     ensures room { min (spare older.old) (spare newer.old) ≤ min (spare older.new) (spare newer.new) }

@@ -7,6 +7,7 @@ use crate::end::End;
 use crate::files::create;
 use eu_base::{Config, Fault};
 use eu_clock::Chooser;
+use eu_hash::HashKey;
 use eu_options::{Serving, connections_within};
 use eu_server::{BUCKET_MS, Plan, THRESHOLD_MS, serve_by, serve_with_journal};
 use eu_stream::Writing;
@@ -15,6 +16,7 @@ use libc::{RLIMIT_NOFILE, getrlimit};
 use std::io;
 use std::net::{IpAddr, Net, SocketAddr, TcpListener, TcpStream};
 use std::os::fd::RawFd;
+use std::random::RandomSource;
 use std::rt::Files;
 use std::sync::Wait;
 use std::thread::Threads;
@@ -72,6 +74,23 @@ fn most_connections(rt: &impl Eprint, wanted: u32) -> u32
     most
 }
 
+/// A key for the tables of a server, which the system draws, and which nobody is told. None where it draws none, and standard error is told
+/// why.
+fn draw_key<R: RandomSource + Eprint>(rt: &R) -> Option<HashKey> {
+    let mut bytes = [0; 16];
+    match rt.fill_bytes(&mut bytes) {
+        Ok(()) => {
+            let words = u128::from_le_bytes(bytes);
+            let first = words & 0xFFFF_FFFF_FFFF_FFFF;
+            Some(HashKey::new(first as u64, (words >> 64) as u64))
+        }
+        Err(error) => {
+            let _ = eprintln!(rt; "the system draws no key for the tables: {error}");
+            None
+        }
+    }
+}
+
 /// The descriptor of standard input, if a server is to end with it.
 fn input_of(until_input_ends: bool) -> Option<RawFd>
     ensures { result ≡ (if until_input_ends then Some (pos 0) else None) }
@@ -79,14 +98,16 @@ fn input_of(until_input_ends: bool) -> Option<RawFd>
     until_input_ends.then_some(STANDARD_INPUT)
 }
 
-/// What a server does that has these settings, serves so much as the options say, and has so many connections at most.
-fn plan_of(config: Config, serving: Serving, connections: u32) -> Plan
+/// What a server does that has these settings, serves so much as the options say, has so many connections at most, and tables that hash by
+/// that key.
+fn plan_of(config: Config, serving: Serving, connections: u32, key: HashKey) -> Plan
     ensures settings { result.config ≡ config }
     ensures expected { result.expected ≡ serving.expected }
     ensures workers { result.workers ≡ serving.workers }
     ensures sessions { result.sessions ≡ end_planned serving.sessions }
     ensures periods { result.periods ≡ record { evictor = config.evict_ms; bucket = BUCKET_MS; threshold = THRESHOLD_MS } }
     ensures connections { result.limits.connections ≡ connections }
+    ensures key { result.hash_key ≡ key }
     ensures idle { result.limits.patience.idle ≡ serving.idle_ms }
     ensures request { result.limits.patience.request ≡ serving.request_ms }
     ensures input { result.input ≡ (if serving.until_input_ends then Some (pos 0) else None) }
@@ -97,7 +118,7 @@ fn plan_of(config: Config, serving: Serving, connections: u32) -> Plan
         Some(sessions) => u64::from(sessions),
         None => u64::MAX,
     };
-    let mut plan = Plan::of_server(config, serving.expected, serving.workers, sessions);
+    let mut plan = Plan::of_server(config, serving.expected, serving.workers, sessions, key);
     plan.limits.connections = connections as usize;
     plan.limits.patience.idle = serving.idle_ms;
     plan.limits.patience.request = serving.request_ms;
@@ -130,13 +151,14 @@ fn serve_to<
 }
 
 /// Serves, and gives the exit status: 0 where as many connections as wanted were served; where no number of them is, it serves on. The journal
-/// of the book is written to the file of that path at the end, where one is given.
+/// of the book is written to the file of that path at the end, where one is given. The system draws the key by which its tables hash.
 pub fn serve<
     R: Threads
         + Wait
         + Clock
         + Net<Listener = TcpListener, Stream = TcpStream>
         + Files
+        + RandomSource
         + Print
         + Eprint
         + AllocGlobal
@@ -145,11 +167,14 @@ pub fn serve<
 >(rt: &R, config: Config, serving: Serving, journal: Option<&str>, chooser: C) -> u8
     ensures { (result ≡ 0) ⊎ (result ≡ 3) }
 {
+    let Some(key) = draw_key(rt) else {
+        return End::Failed(Fault::Read).tell(rt);
+    };
     let Some(listener) = listen(rt, serving.bind, serving.port) else {
         return End::Failed(Fault::Read).tell(rt);
     };
     let connections = most_connections(rt, serving.connections);
-    let plan = plan_of(config, serving, connections);
+    let plan = plan_of(config, serving, connections, key);
     if let Some(path) = journal {
         return serve_to(rt, &listener, &plan, path, chooser);
     }

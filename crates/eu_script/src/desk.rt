@@ -14,6 +14,7 @@ use eu_base::{Config, Fault, Moment};
 use eu_book::{Book, Receipt};
 use eu_clock::Chooser;
 use eu_core::Registry;
+use eu_hash::HashKey;
 use eu_journal_text::{WriteError, write_journal};
 use eu_lines::{Answerer, LineError, ScriptFault};
 use eu_model::Command;
@@ -105,7 +106,10 @@ impl ScriptDesk {
             return Err(LineError::Bad);
         };
         out.push_str("opened\n")?;
-        let book = Book::open(alloc, self.config, opening.expected, opening.peers.count())?;
+        // Nobody else waits for a script, so it hashes by the same key each time.
+        let hash_key = HashKey::new(0, 0);
+        let peers = opening.peers.count();
+        let book = Book::open(alloc, self.config, opening.expected, peers, hash_key)?;
         drop(self.book.replace(book));
         Ok(())
     }

@@ -20,6 +20,7 @@ use eu_accept::{Admission, Door, Hand, Hub, Limits, Loop, Station, Told, can_gat
 use eu_base::{Config, Fault};
 use eu_clock::{Chooser, SystemClock};
 use eu_gate::{BUCKET_MS, MOST_WORKERS, OTHER_WORKERS, Periods, THRESHOLD_MS};
+use eu_hash::HashKey;
 use eu_journal_text::{WriteError, write_journal};
 use eu_routes::Routes;
 use eu_settle::{Closed, settle};
@@ -62,18 +63,27 @@ pub struct Plan {
     pub input: Option<RawFd>,
     /// Whether nothing is told on standard error of evictions and of connections that are refused.
     pub is_quiet: bool,
+    /// The key by which its tables hash. Clients choose what is hashed, so they aren't to know it.
+    pub hash_key: HashKey,
 }
 
 impl Plan {
-    /// That of an ordinary server with these settings, which expects so many clients, and serves so many connections by so many workers:
-    /// its evictor takes a turn each `evict_ms` of the settings, the bucket ends a minute each `BUCKET_MS`, the threshold is updated each
+    /// That of an ordinary server with these settings, which expects so many clients, serves so many connections by so many workers, and has
+    /// tables that hash by that key: its evictor takes a turn each `evict_ms` of the settings, the bucket ends a minute each `BUCKET_MS`, the threshold is updated each
     /// `THRESHOLD_MS`, and its limits are those of `Limits::of_server`.
-    pub fn of_server(config: Config, expected: u32, workers: u32, sessions: u64) -> Plan
+    pub fn of_server(
+        config: Config,
+        expected: u32,
+        workers: u32,
+        sessions: u64,
+        hash_key: HashKey,
+    ) -> Plan
         ensures settings { (result.config ≡ config) × (result.expected ≡ expected) × (result.workers ≡ workers) × (result.sessions ≡ sessions) }
         ensures periods { result.periods ≡ record { evictor = config.evict_ms; bucket = BUCKET_MS; threshold = THRESHOLD_MS } }
         ensures limits { result.limits ≡ server_limits }
         ensures input { result.input ≡ None }
         ensures quiet { result.is_quiet ≡ false }
+        ensures hash_key { result.hash_key ≡ hash_key }
     {
         Plan {
             config,
@@ -84,6 +94,7 @@ impl Plan {
             limits: Limits::of_server(),
             input: None,
             is_quiet: false,
+            hash_key,
         }
     }
 }
@@ -460,7 +471,14 @@ pub fn serve_book<
     ensures settled { IfOk result (λ o. IsSettled o.closed.first o.closed.logs.items o.closed.entries.items) }
     ensures fault { IfErr result IsEnd }
 {
-    let shared: Shared<K> = Shared::open(alloc, plan.config, plan.expected, 0, blanks)?;
+    let shared: Shared<K> = Shared::open(
+        alloc,
+        plan.config,
+        plan.expected,
+        0,
+        plan.hash_key,
+        blanks,
+    )?;
     let (hub, polls) = open_hub(rt, alloc, plan)?;
     let stations = stations_of(&hub, listener, plan, polls)?;
     let outcome = serve_and_close(rt, alloc, shared, &hub, stations, chooser);

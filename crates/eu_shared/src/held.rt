@@ -14,6 +14,7 @@ use crate::sums::sum_up;
 use eu_base::{Config, Fault, MOST_PASSES, MOST_PEERS, Moment};
 use eu_book::{Book, Dropped, Journal, Receipt, ViewSnapshot};
 use eu_clock::Chooser;
+use eu_hash::HashKey;
 use eu_model::{Command, Query, Tally, View};
 use std::alloc::{AllocError, Global};
 use std::marker::Model;
@@ -48,12 +49,13 @@ impl<K: Label> Model for Held<K> {
 impl<K: Label> Held<K> {
     /// A book that is opened now (`Book::open`) for no more than 8 peers, over four new ledgers of 1,025 parts each (`Blanks::new`),
     /// and no pass. It keeps the order of its leases from the start, so that no listing sorts them under the lock, and has room for all that it may
-    /// hold, so that no table grows under it. `AllocError` where no memory is left.
+    /// hold, so that no table grows under it. All tables are to hash by that key. `AllocError` where no memory is left.
     pub fn open(
         alloc: Global,
         config: Config,
         expected: u32,
         peers: u32,
+        hash_key: HashKey,
         blanks: Blanks,
     ) -> Result<Held<K>, AllocError>
         requires peers { peers ≤ MOST_PEERS }
@@ -61,7 +63,7 @@ impl<K: Label> Held<K> {
         requires parts { HasParts blanks K.parts × (K.parts ≡ PARTS) }
         ensures { IfOk result (λ held. held ≡ opening config expected peers) }
     {
-        let mut book = Book::open(alloc, config, expected, peers)?;
+        let mut book = Book::open(alloc, config, expected, peers, hash_key)?;
         // The order of the keys is kept from the first snapshot on. So the first one is taken while there is nothing to sort.
         let nothing = book.snapshot(alloc, &Query::All, Moment::new(0).unwrap())?;
         drop(nothing);

@@ -22,6 +22,7 @@ use crate::shares::{Blanks, Label, PARTS};
 use eu_base::{Config, Fault, MOST_PEERS, Moment};
 use eu_book::{Journal, Receipt};
 use eu_clock::Chooser;
+use eu_hash::HashKey;
 use eu_model::{Command, Gauges, Query, View};
 use eu_settle::Closed;
 use std::alloc::{AllocError, Global};
@@ -49,13 +50,14 @@ impl<K: Label> Shared<K> {
         config: Config,
         expected: u32,
         peers: u32,
+        hash_key: HashKey,
         blanks: Blanks,
     ) -> Result<Shared<K>, AllocError>
         requires peers { peers ≤ MOST_PEERS }
         requires names { HasNames blanks K.steps K.counted K.added K.removed }
         requires parts { HasParts blanks K.parts × (K.parts ≡ PARTS) }
     {
-        let held = Held::open(alloc, config, expected, peers, blanks)?;
+        let held = Held::open(alloc, config, expected, peers, hash_key, blanks)?;
         Ok(Shared {
             held: Mutex::new(held),
         })

@@ -15,11 +15,10 @@ ghost use Rattle.eu_store.specs.Order.{at_place, at_places, instances_of, is_bel
 ghost use Rattle.eu_store.specs.Stored.{listing_of};
 ghost use Rattle.std.specs.FinMap as map;
 
-use crate::HeldLease;
 use crate::rows::rows;
+use crate::table::Table;
 use eu_base::{App, Key, SharedInstance};
 use eu_model::{Listed, Times};
-use indexmap::IndexMap;
 use std::alloc::{AllocError, Global};
 use std::sync::Arc;
 
@@ -43,10 +42,7 @@ pub(crate) struct Directory {
 
 impl Directory {
     /// That of a table, with no part. `AllocError` where no memory is left.
-    pub(crate) fn of(
-        alloc: Global,
-        table: &IndexMap<Key, HeldLease>,
-    ) -> Result<Directory, AllocError>
+    pub(crate) fn of(alloc: Global, table: &Table) -> Result<Directory, AllocError>
         requires { length table.now.entries ≤ most_leases }
         ensures { IfOk result (λ d. IsDirectory table.now.entries d) }
     {
@@ -73,7 +69,7 @@ impl Directory {
     }
 
     /// Puts a key in it that comes behind the last of the table, into the room that was made. Takes no memory.
-    pub(crate) fn put(&mut self, table: &IndexMap<Key, HeldLease>, key: &Key)
+    pub(crate) fn put(&mut self, table: &Table, key: &Key)
         requires directory { IsDirectory table.now.entries self.old }
         requires few { length table.now.entries < most_leases }
         requires room { 0 < room_in self.old }
@@ -114,7 +110,7 @@ impl Directory {
     }
 
     /// At which position a place of the table stands. It's found by its key.
-    pub(crate) fn standing(&self, table: &IndexMap<Key, HeldLease>, place: usize) -> usize
+    pub(crate) fn standing(&self, table: &Table, place: usize) -> usize
         requires directory { IsDirectory table.now.entries self.now }
         requires within { place < length table.now.entries }
         ensures bound { result < length self.now.places.items }
@@ -125,7 +121,7 @@ impl Directory {
     }
 
     /// The places of the leases of an application, or of all where none is given.
-    fn part<'a>(&'a self, table: &IndexMap<Key, HeldLease>, app: Option<&App>) -> &'a [u16]
+    fn part<'a>(&'a self, table: &Table, app: Option<&App>) -> &'a [u16]
         requires { IsDirectory table.now.entries self.now }
         ensures { at_places (keys_of table.now.entries) result.now ≡ map Some (filter (is_of (option_copied app.entry)) (keys_held table.now.entries)) }
     {
@@ -142,7 +138,7 @@ impl Directory {
     pub(crate) fn listed(
         &self,
         alloc: Global,
-        table: &IndexMap<Key, HeldLease>,
+        table: &Table,
         app: Option<&App>,
     ) -> Result<Vec<Listed>, AllocError>
         requires { IsDirectory table.now.entries self.now }
@@ -162,7 +158,7 @@ impl Directory {
     pub(crate) fn rows(
         &self,
         alloc: Global,
-        table: &IndexMap<Key, HeldLease>,
+        table: &Table,
     ) -> Result<Vec<(usize, Times)>, AllocError>
         requires { IsDirectory table.now.entries self.now }
         ensures places { IfOk result (λ rows. map (λ r. r.0) rows.items ≡ self.now.places.items) }
@@ -180,11 +176,7 @@ impl Directory {
     }
 
     /// All parts of the table. Those that are missing are gathered. `AllocError` where no memory is left.
-    pub(crate) fn parts(
-        &mut self,
-        alloc: Global,
-        table: &IndexMap<Key, HeldLease>,
-    ) -> Result<Vec<Part>, AllocError>
+    pub(crate) fn parts(&mut self, alloc: Global, table: &Table) -> Result<Vec<Part>, AllocError>
         requires parts { AreParts table.now.entries self.old.parts.items }
         requires few { length table.now.entries ≤ MOST_PARTS * PART_ROOM }
         ensures places { self.new.places ≡ self.old.places }
@@ -202,12 +194,7 @@ impl Directory {
     }
 
     /// The part of that number, gathered where it's missing. `AllocError` where no memory is left.
-    fn part_of(
-        &mut self,
-        alloc: Global,
-        table: &IndexMap<Key, HeldLease>,
-        number: usize,
-    ) -> Result<Part, AllocError>
+    fn part_of(&mut self, alloc: Global, table: &Table, number: usize) -> Result<Part, AllocError>
         requires parts { AreParts table.now.entries self.old.parts.items }
         requires there { number * PART_ROOM < length table.now.entries }
         ensures places { self.new.places ≡ self.old.places }
@@ -256,11 +243,7 @@ fn no_parts(alloc: Global) -> Result<Vec<Option<Part>>, AllocError>
 }
 
 /// The instances of the part of that number. `AllocError` where no memory is left.
-fn gathered(
-    alloc: Global,
-    table: &IndexMap<Key, HeldLease>,
-    number: usize,
-) -> Result<Vec<SharedInstance>, AllocError>
+fn gathered(alloc: Global, table: &Table, number: usize) -> Result<Vec<SharedInstance>, AllocError>
     requires { number * PART_ROOM < length table.now.entries }
     ensures { IfOk result (λ v. v.items ≡ window number (instances_of table.now.entries)) }
 {
@@ -284,7 +267,7 @@ enum Limit<'a> {
 }
 
 /// Whether the key at a place is within a limit.
-fn is_within(table: &IndexMap<Key, HeldLease>, limit: Limit<'_>, place: usize) -> bool
+fn is_within(table: &Table, limit: Limit<'_>, place: usize) -> bool
     ensures { result ≡ at_place (within limit.entry) table.now.entries place }
 {
     let Some((key, _held)) = table.get_index(place) else {
@@ -298,7 +281,7 @@ fn is_within(table: &IndexMap<Key, HeldLease>, limit: Limit<'_>, place: usize) -
 }
 
 /// How many places have keys within a limit: the first ones.
-fn count_within(table: &IndexMap<Key, HeldLease>, limit: Limit<'_>, places: &[u16]) -> usize
+fn count_within(table: &Table, limit: Limit<'_>, places: &[u16]) -> usize
     requires { IsPartitionedBy (at_place (within limit) table.now.entries) places.now }
     ensures value { result ≡ prefix_len (at_place (within limit.entry) table.now.entries) places.now }
     ensures bound { result ≤ length places.now }

@@ -12,16 +12,16 @@ ghost use Rattle.eu_store.specs.Order.{at_places, AreOrdered, instances_of, map_
 ghost use Rattle.eu_store.specs.Sweep.{AreBelow, ArePartsOf, ArePlacesOf, places_in};
 
 use crate::directory::Directory;
-use crate::{HeldLease, places};
+use crate::places;
+use crate::table::Table;
 use eu_base::Key;
-use indexmap::IndexMap;
 use std::alloc::{AllocError, Global};
 
 /// Makes one, where none is kept. `AllocError` where no memory is left.
 pub(crate) fn make(
     directory: &mut Option<Directory>,
     alloc: Global,
-    table: &IndexMap<Key, HeldLease>,
+    table: &Table,
 ) -> Result<(), AllocError>
     requires ordered { AreOrdered table.now.entries directory.old }
     requires few { length table.now.entries ≤ most_leases }
@@ -48,7 +48,7 @@ pub(crate) fn reserve(directory: &mut Option<Directory>, more: usize) -> Result<
 }
 
 /// Puts a key in it that comes behind the last of the table.
-pub(crate) fn put(directory: &mut Option<Directory>, table: &IndexMap<Key, HeldLease>, key: &Key)
+pub(crate) fn put(directory: &mut Option<Directory>, table: &Table, key: &Key)
     requires ordered { AreOrdered table.now.entries directory.old }
     requires few { length table.now.entries < most_leases }
     requires new { map.get (map_by table.now.entries) key.now ≡ None }
@@ -62,11 +62,7 @@ pub(crate) fn put(directory: &mut Option<Directory>, table: &IndexMap<Key, HeldL
 }
 
 /// Takes the key of a place out, whose place the last one of the table gets.
-pub(crate) fn take(
-    directory: &mut Option<Directory>,
-    table: &IndexMap<Key, HeldLease>,
-    place: usize,
-)
+pub(crate) fn take(directory: &mut Option<Directory>, table: &Table, place: usize)
     requires ordered { AreOrdered table.now.entries directory.old }
     requires few { length table.now.entries ≤ most_leases }
     requires within { place < length table.now.entries }
@@ -107,12 +103,7 @@ pub(crate) fn renumber(directory: &mut Option<Directory>, origins: &[u16], moved
 }
 
 /// What is left of it where the lease of a place changes: its part goes, unless the instance stays.
-pub(crate) fn change(
-    directory: &mut Option<Directory>,
-    table: &IndexMap<Key, HeldLease>,
-    place: usize,
-    is_kept: bool,
-)
+pub(crate) fn change(directory: &mut Option<Directory>, table: &Table, place: usize, is_kept: bool)
     requires ordered { AreOrdered table.now.entries directory.old }
     ensures ordered { (v : Listed) → (IsTrue is_kept → Some v.instance ≡ slice_get (instances_of table.now.entries) place) → AreOrdered (set_value_at table.now.entries place v) directory.new }
     ensures room { room_of directory.new ≡ room_of directory.old }

@@ -13,9 +13,11 @@ ghost use Rattle.eu_model.specs.View.{status_counts, with_one_more, with_one_few
 use crate::directory::Directory;
 use crate::rows::listed_rows;
 use crate::sweep::{self, Taking};
+use crate::table::Table;
 use crate::{Amendment, HeldLease, Snapshot, kept};
 use eu_base::{App, Fault, Key, MOST_LEASES, Moment, Status};
 use eu_deadlines::Deadlines;
+use eu_hash::HashKey;
 use eu_model::{Listed, StatusCounts};
 use indexmap::IndexMap;
 use std::alloc::{AllocError, Global};
@@ -29,7 +31,7 @@ pub struct Place {
 
 /// Where that key stands in the table, if it does: where it was found, or else where a look-up finds it.
 #[inline(always)]
-fn place_of(table: &IndexMap<Key, HeldLease>, key: &Key, hint: Place) -> Option<usize>
+fn place_of(table: &Table, key: &Key, hint: Place) -> Option<usize>
     ensures index { result ≡ index_of_by (key_eq key.now) table.now }
     ensures found { is_some result ≡ is_some (get_by (key_eq key.now) table.now) }
     ensures within { IfSome result (λ i. i < index_map_len table.now) }
@@ -50,7 +52,7 @@ fn place_of(table: &IndexMap<Key, HeldLease>, key: &Key, hint: Place) -> Option<
 /// is a directory of the leases in key order.
 #[derive(Debug, Drop)]
 pub struct Leases {
-    table: IndexMap<Key, HeldLease>,
+    table: Table,
     index: Deadlines,
     counts: StatusCounts,
     directory: Option<Directory>,
@@ -74,12 +76,12 @@ impl Model for Leases {
 }
 
 impl Leases {
-    /// No lease. Takes no memory.
-    pub fn new(alloc: Global) -> Leases
+    /// No lease; the table is to hash by that key. Takes no memory.
+    pub fn new(alloc: Global, hash_key: HashKey) -> Leases
         ensures { result.held ≡ map.empty }
     {
         Leases {
-            table: IndexMap::new(alloc),
+            table: IndexMap::with_hasher(alloc, hash_key),
             index: Deadlines::new(alloc),
             counts: StatusCounts::of(&[]),
             directory: None,
@@ -293,11 +295,11 @@ impl Leases {
         }
     }
 
-    /// The same leases once more; they share their instances. `AllocError` where no memory is left.
+    /// The same leases once more; they share their instances, and hash by the same key. `AllocError` where no memory is left.
     pub fn copy(&self, alloc: Global) -> Result<Leases, AllocError>
         ensures { IfOk result (λ copy. copy.held ≡ self.now.held) }
     {
-        let mut copy = Leases::new(alloc);
+        let mut copy = Leases::new(alloc, *self.table.hasher());
         let entries = self.table.as_slice();
         let mut left = self.table.len();
         while left > 0 {

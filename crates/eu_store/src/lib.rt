@@ -9,6 +9,7 @@ mod places;
 mod rows;
 mod snapshot;
 mod sweep;
+mod table;
 
 pub use held::{Amendment, HeldLease};
 pub use leases::{Leases, Place};

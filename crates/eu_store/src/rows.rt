@@ -7,16 +7,16 @@ ghost use Rattle.eu_store.specs.Stored.{listing_of, rows_of};
 ghost use Rattle.eu_model.specs.View.{is_of};
 
 use crate::HeldLease;
+use crate::table::Table;
 use eu_base::{App, Key};
 use eu_model::Listed;
-use indexmap::IndexMap;
 use std::alloc::{AllocError, Global};
 
 /// What is held of an application, or everything where none is given, in key order, with the keys and not copied. `AllocError` where no
 /// memory is left.
 pub(crate) fn rows<'a>(
     alloc: Global,
-    table: &'a IndexMap<Key, HeldLease>,
+    table: &'a Table,
     app: Option<&App>,
 ) -> Result<Vec<(&'a Key, &'a HeldLease)>, AllocError>
     ensures { IfOk result (λ rows. map deref_pair rows.items ≡ rows_of (option_copied app.entry) (map.from_entries table.now.entries)) }
@@ -34,7 +34,7 @@ pub(crate) fn rows<'a>(
 /// The same, copied, without the keys. `AllocError` where no memory is left.
 pub(crate) fn listed_rows(
     alloc: Global,
-    table: &IndexMap<Key, HeldLease>,
+    table: &Table,
     app: Option<&App>,
 ) -> Result<Vec<Listed>, AllocError>
     ensures { IfOk result (λ leases. leases.items ≡ listing_of (option_copied app.entry) (map.from_entries table.now.entries)) }

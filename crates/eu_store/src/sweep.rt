@@ -15,11 +15,11 @@ ghost use Rattle.eu_store.specs.Sweep.{places_in, ArePartsOf, Suffices};
 
 use crate::directory::Directory;
 use crate::places::counted;
+use crate::table::Table;
 use crate::{HeldLease, kept};
 use eu_base::Key;
 use eu_deadlines::Deadlines;
 use eu_model::StatusCounts;
-use indexmap::IndexMap;
 use std::alloc::{AllocError, Global};
 use std::marker::Model;
 
@@ -65,7 +65,7 @@ impl Taking {
 /// no memory.
 #[inline(always)]
 pub(crate) fn take_out(
-    table: &mut IndexMap<Key, HeldLease>,
+    table: &mut Table,
     index: &mut Deadlines,
     counts: &mut StatusCounts,
     place: usize,
@@ -92,7 +92,7 @@ pub(crate) fn take_out(
 
 /// Takes out what is held under a key, and notes in `origins` that the last lease stands at its place now. Takes no memory.
 fn take_one(
-    table: &mut IndexMap<Key, HeldLease>,
+    table: &mut Table,
     index: &mut Deadlines,
     counts: &mut StatusCounts,
     directory: &mut Option<Directory>,
@@ -125,7 +125,7 @@ fn take_one(
 
 /// Takes out what is held under these keys, one after the other, and gives it in their order. Takes no memory.
 pub(crate) fn take_all(
-    table: &mut IndexMap<Key, HeldLease>,
+    table: &mut Table,
     index: &mut Deadlines,
     counts: &mut StatusCounts,
     directory: &mut Option<Directory>,

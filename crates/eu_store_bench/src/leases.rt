@@ -5,6 +5,7 @@ use eu_base::{
     Status,
 };
 use eu_clock::{Chooser, RngChooser};
+use eu_hash::HashKey;
 use eu_lease::Lease;
 use eu_store::{Amendment, HeldLease, Leases};
 use std::alloc::Global;
@@ -75,7 +76,7 @@ fn renew(leases: &mut Leases, keys: &[Key], times: u64) -> Result<u64, Fault> {
 /// How many renewals of drawn leases found one, where so many are held. `Full` where they are more than 65,536; `OutOfMemory`.
 pub fn count_renewed(alloc: Global, count: u64, times: u64) -> Result<u64, Fault> {
     let keys = keys(alloc, count)?;
-    let mut leases = Leases::new(alloc);
+    let mut leases = Leases::new(alloc, HashKey::new(0, 0));
     for key in &keys {
         put(alloc, &mut leases, key, at(0)?)?;
     }
@@ -85,7 +86,7 @@ pub fn count_renewed(alloc: Global, count: u64, times: u64) -> Result<u64, Fault
 /// How many expired leases were found in all, where so many are held, of which the first so many have expired, and they are looked for so
 /// many times. `Full` where they are more than 65,536; `OutOfMemory`.
 pub fn count_expired(alloc: Global, count: u64, expired: u64, times: u64) -> Result<u64, Fault> {
-    let mut leases = Leases::new(alloc);
+    let mut leases = Leases::new(alloc, HashKey::new(0, 0));
     for number in 0..count {
         let moment = if number < expired { 0 } else { LATE };
         put(alloc, &mut leases, &key(alloc, number)?, at(moment)?)?;

@@ -2,6 +2,7 @@
 mod base;
 mod choice;
 mod clock;
+mod collisions;
 mod memory;
 mod model;
 mod outbox;

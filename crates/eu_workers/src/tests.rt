@@ -8,6 +8,7 @@ use eu_base::{Config, Fault, Moment};
 use eu_book::Receipt;
 use eu_clock::{Chooser, Clock, FirstChooser, ListClock};
 use eu_gate::{Gate, Go, Point, Timer};
+use eu_hash::HashKey;
 use eu_model::{Command, Gauges};
 use eu_shared::{Blanks, Label, PARTS, Seat, Shared};
 use std::alloc::{AllocError, Global};
@@ -102,7 +103,14 @@ fn turns_of<K: Label, R: Wait>(
     requires names { HasNames blanks K.steps K.counted K.added K.removed }
     requires parts { HasParts blanks K.parts × (K.parts ≡ PARTS) }
 {
-    let shared: Shared<K> = Shared::open(alloc, Config::new(true, 85, 30, 60_000)?, 0, 0, blanks)?;
+    let shared: Shared<K> = Shared::open(
+        alloc,
+        Config::new(true, 85, 30, 60_000)?,
+        0,
+        0,
+        HashKey::new(0, 0),
+        blanks,
+    )?;
     let done = turns_at(rt, alloc, &shared, timer, limit);
     drop(shared);
     done
@@ -204,7 +212,14 @@ fn moments_of<K: Label, R: Wait>(
     requires names { HasNames blanks K.steps K.counted K.added K.removed }
     requires parts { HasParts blanks K.parts × (K.parts ≡ PARTS) }
 {
-    let shared: Shared<K> = Shared::open(alloc, Config::new(true, 85, 30, 60_000)?, 0, 0, blanks)?;
+    let shared: Shared<K> = Shared::open(
+        alloc,
+        Config::new(true, 85, 30, 60_000)?,
+        0,
+        0,
+        HashKey::new(0, 0),
+        blanks,
+    )?;
     let moments = moments_at(rt, alloc, &shared);
     drop(shared);
     moments

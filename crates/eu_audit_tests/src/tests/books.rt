@@ -6,6 +6,7 @@ use eu_base::{Config, Fault};
 use eu_book::Book;
 use eu_clock::{Chooser, FirstChooser, ListChooser};
 use eu_fixtures::{read_command, settings};
+use eu_hash::HashKey;
 use eu_model::Reply;
 use std::alloc::Global;
 
@@ -76,7 +77,7 @@ evict 160000";
 /// Whether a book that is opened with that percentage, where victims are drawn by a list, evicts so many, and the verdict on it.
 fn evicts(alloc: Global, percent: u32, wanted: &str) -> Result<(bool, bool), Fault> {
     let config = Config::new(false, percent, 30, 60_000)?;
-    let mut book = Book::open(alloc, config, 1, 0)?;
+    let mut book = Book::open(alloc, config, 1, 0, HashKey::new(0, 0))?;
     let words = Vec::from_slice(alloc, [7u64, 3, 0, 5].as_slice())?;
     let mut chooser = ListChooser::new(words);
     let evicted = tell_lines(alloc, &mut book, TEN, &mut chooser);
@@ -107,7 +108,7 @@ fn compared(alloc: Global, book: &Book) -> Result<(bool, bool), Fault> {
 /// The same of a book with one peer that is told the commands of the journal that was worked out by hand, and the verdict on it.
 fn with_peer(alloc: Global) -> Result<((bool, bool), bool), Fault> {
     let config = settings()?;
-    let mut book = Book::open(alloc, config, 0, 1)?;
+    let mut book = Book::open(alloc, config, 0, 1, HashKey::new(0, 0))?;
     let told = tell_lines(alloc, &mut book, LINES, &mut FirstChooser);
     let compared = compared(alloc, &book);
     let verdict = audited(alloc, &book);

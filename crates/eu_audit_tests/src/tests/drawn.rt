@@ -4,6 +4,7 @@ use eu_base::{Config, Fault};
 use eu_book::{Book, Receipt};
 use eu_clock::{FirstChooser, RngChooser};
 use eu_fixtures::moment;
+use eu_hash::HashKey;
 use eu_model::{Command, Reply};
 use rand::RngExt;
 use rand_core::SeedableRng;
@@ -175,7 +176,7 @@ type Run = (u64, (bool, bool, bool), bool);
 fn drawn_run(alloc: Global, seed: u64, has_peers: bool) -> Result<Run, Fault> {
     let config = Config::new(false, 50, 30, 1_000)?;
     let peers = if has_peers { 2 } else { 0 };
-    let mut book = Book::open(alloc, config, 3, peers)?;
+    let mut book = Book::open(alloc, config, 3, peers, HashKey::new(0, 0))?;
     let mut rng = Pcg32::seed_from_u64(seed);
     let mut chooser = RngChooser::seeded(seed);
     let told = tell_drawn(alloc, &mut book, &mut rng, &mut chooser, has_peers);

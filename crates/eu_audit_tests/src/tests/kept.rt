@@ -8,6 +8,7 @@ use eu_base::Fault;
 use eu_book::Book;
 use eu_clock::FirstChooser;
 use eu_fixtures::settings;
+use eu_hash::HashKey;
 use eu_model::{Entry, State};
 use std::alloc::Global;
 
@@ -40,7 +41,7 @@ fn tell_steps(alloc: Global, book: &mut Book) -> Result<(), Fault> {
 fn kept(alloc: Global, has_peer: bool) -> Result<(State, Vec<Entry>, State), Fault> {
     let config = settings()?;
     let peers = if has_peer { 1 } else { 0 };
-    let mut book = Book::open(alloc, config, 0, peers)?;
+    let mut book = Book::open(alloc, config, 0, peers, HashKey::new(0, 0))?;
     let told = tell_steps(alloc, &mut book);
     let (base, end) = (book.base(alloc), book.state(alloc));
     let entries = book.into_entries();

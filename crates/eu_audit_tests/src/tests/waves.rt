@@ -12,6 +12,7 @@ use eu_base::Fault;
 use eu_book::Book;
 use eu_clock::FirstChooser;
 use eu_fixtures::settings;
+use eu_hash::HashKey;
 use std::alloc::Global;
 
 /// What a book is told.
@@ -44,7 +45,7 @@ fn ends_so(alloc: Global, book: &Book) -> Result<bool, Fault> {
 /// and on its entries up to the server that was worked out.
 fn four_evictions(alloc: Global) -> Result<(bool, bool, bool), Fault> {
     let config = settings()?;
-    let mut book = Book::open(alloc, config, 0, 0)?;
+    let mut book = Book::open(alloc, config, 0, 0, HashKey::new(0, 0))?;
     let evicted = tell_lines(alloc, &mut book, LINES, &mut FirstChooser);
     let verdict = audited(alloc, &book);
     let worked_out = ends_so(alloc, &book);

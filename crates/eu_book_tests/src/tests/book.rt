@@ -7,6 +7,7 @@ use eu_fixtures::{
     Told, at, first_wrong, number_of, numbered, read_ask, settings, tell_fault, tell_queues,
     tell_read, tell_reply, tell_state,
 };
+use eu_hash::HashKey;
 use eu_model::{Ask, Command, Entry};
 use std::alloc::{AllocError, Global};
 
@@ -195,7 +196,7 @@ fn plays(
 ) -> Result<(Option<usize>, usize), Fault> {
     let words = Vec::from_slice(alloc, [3u64, 0].as_slice())?;
     let peers = if has_peer { 1 } else { 0 };
-    let book = Book::open(alloc, config?, 0, peers)?;
+    let book = Book::open(alloc, config?, 0, peers, HashKey::new(0, 0))?;
     let mut desk = Desk {
         book,
         chooser: ListChooser::new(words),

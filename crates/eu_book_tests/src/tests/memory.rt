@@ -3,6 +3,7 @@ use eu_base::{Fault, MOST_ENTRIES, Moment};
 use eu_book::Book;
 use eu_clock::FirstChooser;
 use eu_fixtures::{at, pause_or_go_on, read_ask, settings, with_long_ids};
+use eu_hash::HashKey;
 use eu_model::{Ask, Command, Query, Reply, View};
 use std::alloc::{AllocError, Global};
 
@@ -256,7 +257,7 @@ const LATER: [(&str, Told); 9] = [
 
 /// A book with one peer.
 fn open(alloc: Global) -> Result<Book, Fault> {
-    Ok(Book::open(alloc, settings()?, 0, 1)?)
+    Ok(Book::open(alloc, settings()?, 0, 1, HashKey::new(0, 0))?)
 }
 
 /// The same, at the second try where the first finds no memory.

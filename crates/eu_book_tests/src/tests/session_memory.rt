@@ -7,6 +7,7 @@ use eu_base::Fault;
 use eu_book::Book;
 use eu_clock::ListClock;
 use eu_fixtures::{pause_or_go_on, settings};
+use eu_hash::HashKey;
 use eu_model::Desk;
 use eu_routes::Routes;
 use eu_session::{SessionRoom, serve_session};
@@ -102,7 +103,7 @@ fn are_answered<K: Label, R: Wait>(
     seat: &mut Seat<'_, K, R>,
 ) -> Result<bool, Fault> {
     let routes = Routes::new(alloc)?;
-    let mut book = Book::open(alloc, settings()?, 0, 0)?;
+    let mut book = Book::open(alloc, settings()?, 0, 0, HashKey::new(0, 0))?;
     for request in REQUESTS {
         if !is_answered(alloc, &routes, seat, &mut book, request)? {
             return Ok(false);

@@ -7,6 +7,7 @@ use crate::tests::texts::tell_answer;
 use eu_base::{Config, Fault};
 use eu_clock::FirstChooser;
 use eu_fixtures::{Told, at, first_wrong, number_of, numbered, read_ask, tell_fault, tell_read};
+use eu_hash::HashKey;
 use eu_model::{Ask, Command};
 use eu_shared::{Blanks, Label, PARTS, Pass, Shared};
 use std::alloc::Global;
@@ -39,7 +40,14 @@ pub fn open<K: Label>(alloc: Global, opening: Opening, blanks: Blanks) -> Result
     if opening.peers > 8 {
         return Err(Fault::NoPeer);
     }
-    Ok(Shared::open(alloc, config, opening.expected, opening.peers, blanks)?)
+    Ok(Shared::open(
+        alloc,
+        config,
+        opening.expected,
+        opening.peers,
+        HashKey::new(0, 0),
+        blanks,
+    )?)
 }
 
 /// The passes of a shared book.

@@ -291,7 +291,7 @@ broken clock
 eureka serve --port 0 --sessions 0 = 3 "" "listening on 127.0.0.1:*\nfault 40\n"
 eureka serve --port 0 --forever = 3 "" "listening on 127.0.0.1:*\nfault 40\n"
 broken random
-eureka serve --port 0 --sessions 0 --seed 3 = 0 "served 0\n" "listening on 127.0.0.1:*\n"
+eureka serve --port 0 --sessions 0 --seed 3 = 3 "" "the system draws no key for the tables: *\nfault 40\n"
 eureka serve --port 0 --sessions 0 --seed system = 3 "" "the system draws no seed: *\nfault 40\n"
 broken output
 eureka serve --port 0 --sessions 0 = 3 "" "listening on 127.0.0.1:*\nfault 41\n"

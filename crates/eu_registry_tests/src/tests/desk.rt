@@ -9,6 +9,7 @@ use eu_core::{Registry, Stepped};
 use eu_fixtures::{
     Told, cut, first_wrong, instance, moment, number_of, read_said, settings, tell_done,
 };
+use eu_hash::HashKey;
 use eu_model::{Command, Reply};
 use eu_words::Line;
 use std::alloc::Global;
@@ -138,14 +139,14 @@ impl Desk {
     /// A registry with the usual settings that expects nobody, and of whose leases the first is always drawn.
     pub fn new(alloc: Global) -> Result<Desk, Fault> {
         Ok(Desk {
-            registry: Registry::open(alloc, settings()?, 0),
+            registry: Registry::open(alloc, settings()?, 0, HashKey::new(0, 0)),
             chooser: ListChooser::new(Vec::new(alloc)),
         })
     }
 
     fn open(&mut self, alloc: Global, words: &str) -> Result<(), Fault> {
         let (expected, config) = read_opening(alloc, words)?;
-        self.registry = Registry::open(alloc, config, expected);
+        self.registry = Registry::open(alloc, config, expected, HashKey::new(0, 0));
         Ok(())
     }
 

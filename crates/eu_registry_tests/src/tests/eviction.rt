@@ -5,6 +5,7 @@ use eu_base::{Config, Fault, Id, Status};
 use eu_clock::ListChooser;
 use eu_eviction::{Overrides, run_eviction};
 use eu_fixtures::{Told, cut, first_wrong, moment, tell_done, tell_ids};
+use eu_hash::HashKey;
 use eu_store::Leases;
 use std::alloc::Global;
 use std::test::Fail;
@@ -39,11 +40,11 @@ fn change(alloc: Global, overrides: &mut Overrides, verb: &str, words: &str) -> 
 impl Desk {
     /// Leases of 10 s, made at 0, and no row.
     fn begin(alloc: Global, ids: &str) -> Result<Desk, Fault> {
-        let mut leases = Leases::new(alloc);
+        let mut leases = Leases::new(alloc, HashKey::new(0, 0));
         put_each(alloc, &mut leases, ids)?;
         Ok(Desk {
             leases,
-            overrides: Overrides::new(alloc),
+            overrides: Overrides::new(alloc, HashKey::new(0, 0)),
         })
     }
 

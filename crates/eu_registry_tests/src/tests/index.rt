@@ -3,6 +3,7 @@ use crate::tests::store::{held, put};
 use eu_base::{Fault, Moment, SharedInstance, Status};
 use eu_clock::{Chooser, RngChooser};
 use eu_fixtures::{ids, instance, key, moment};
+use eu_hash::HashKey;
 use eu_lease::Lease;
 use eu_store::{Amendment, Leases, Place};
 use std::alloc::{AllocError, Global};
@@ -184,7 +185,7 @@ fn answers_alike(
 
 /// Whether both answer alike to so many drawn calls.
 fn answer_alike(alloc: Global, seed: u64, calls: u32) -> Result<bool, Fault> {
-    let mut leases = Leases::new(alloc);
+    let mut leases = Leases::new(alloc, HashKey::new(0, 0));
     let mut plain = vec![in alloc; None; 300]?;
     let mut chooser = RngChooser::seeded(seed);
     for _call in 0..calls {

@@ -4,6 +4,7 @@ use eu_base::{Fault, Key, Moment, SharedInstance, Status};
 use eu_fixtures::{
     Told, cut, first_wrong, instance, key, moment, number_of, read_said, tell_done, tell_ids,
 };
+use eu_hash::HashKey;
 use eu_lease::Lease;
 use eu_model::Command;
 use eu_store::{Amendment, HeldLease, Leases, Place, Snapshot};
@@ -132,7 +133,7 @@ impl Desk {
     /// No lease.
     pub fn new(alloc: Global) -> Desk {
         Desk {
-            leases: Leases::new(alloc),
+            leases: Leases::new(alloc, HashKey::new(0, 0)),
             found: None,
             snapshots: Vec::new(alloc),
         }

@@ -4,6 +4,7 @@ use crate::tests::servers::{REGISTERED, REGISTRATION, USUAL, Way, plan, plays};
 use eu_base::Fault;
 use eu_clock::FirstChooser;
 use eu_fixtures::settings;
+use eu_hash::HashKey;
 use eu_server::{Plan, serve_by, serve_with_journal};
 use eu_stream::{Discarding, Sink, Writing};
 use std::alloc::Global;
@@ -35,7 +36,7 @@ pub fn is_journal(journal: &[u8]) -> bool {
 
 #[test]
 fn a_server_leaves_its_journal(rt: HostRuntime) -> Result<(), Fail> {
-    let plan = Plan::of_server(settings()?, 7, 2, 1);
+    let plan = Plan::of_server(settings()?, 7, 2, 1, HashKey::new(0, 0));
     let steps = [Step::Ask(1, REGISTRATION, REGISTERED)];
     assert!(rt; plays(&rt, rt.alloc(), &plan, Way::Journal, steps.as_slice())?);
     Ok(())
@@ -79,7 +80,7 @@ fn ended<R: Threads + Wait + Clock + Net + Sync, J: Sink, W: Write>(
     journal: &mut J,
     writer: &mut W,
 ) -> Result<(), Fault> {
-    let plan = Plan::of_server(settings()?, 7, 2, 0);
+    let plan = Plan::of_server(settings()?, 7, 2, 0, HashKey::new(0, 0));
     let outcome = serve_with_journal(rt, alloc, listener, &plan, FirstChooser, journal, writer)?;
     drop(outcome);
     Ok(())

@@ -7,6 +7,7 @@ use eu_clock::FirstChooser;
 use eu_fixtures::{LAST_MISSING, REGISTRATION as INSTANCE, settings};
 use eu_gate::Periods;
 use eu_hall::Patience;
+use eu_hash::HashKey;
 use eu_server::{Finished, Plan, serve_book, serve_by, serve_with_journal};
 use eu_shared::Blanks;
 use eu_stream::Writing;
@@ -189,6 +190,7 @@ pub fn plan(sessions: u32, workers: u32, waits: Waits) -> Result<Plan, Fault> {
         },
         input: None,
         is_quiet: true,
+        hash_key: HashKey::new(0, 0),
     })
 }
 
@@ -631,6 +633,7 @@ fn a_server_has_the_settings_that_it_is_given(rt: HostRuntime) -> Result<(), Fai
             *expected,
             *workers,
             u64::from(*sessions),
+            HashKey::new(0, 0),
         );
         assert!(rt;
             plays(&rt, rt.alloc(), &plan, Way::Served, steps)?,

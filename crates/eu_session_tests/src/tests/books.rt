@@ -12,6 +12,7 @@ use eu_base::{Config, Fault, MOST_ENTRIES};
 use eu_book::Book;
 use eu_clock::FirstChooser;
 use eu_fixtures::{at, push_number, settings, tell_fault, tell_reply};
+use eu_hash::HashKey;
 use eu_model::Command;
 use std::alloc::Global;
 
@@ -31,7 +32,7 @@ pub fn opened(alloc: Global, opening: &str) -> Result<Book, Fault> {
         _ => (settings()?, 0),
     };
     let peers = if opening == USUAL { 0 } else { 1 };
-    Ok(Book::open(alloc, config, expected, peers)?)
+    Ok(Book::open(alloc, config, expected, peers, HashKey::new(0, 0))?)
 }
 
 /// A registration of the client.

@@ -1,6 +1,7 @@
 //! Want of memory. In a usual run no allocation is refused; `tools/sweep_memory.sh` refuses one after another.
 use eu_base::{Action, Fault, Status, Task, Tasks};
 use eu_fixtures::{instance, key, moment};
+use eu_hash::HashKey;
 use eu_model::Queue;
 use eu_outbox::Outbox;
 use std::alloc::{AllocError, Global};
@@ -157,8 +158,8 @@ fn end(alloc: Global, twins: &mut Twins) -> bool {
 
 fn is_played(alloc: Global) -> bool {
     let mut twins = Twins {
-        tried: Outbox::new(alloc),
-        other: Outbox::new(alloc),
+        tried: Outbox::new(alloc, HashKey::new(0, 0)),
+        other: Outbox::new(alloc, HashKey::new(0, 0)),
     };
     let played = put_all(alloc, &mut twins, 251) && end(alloc, &mut twins);
     drop(twins);

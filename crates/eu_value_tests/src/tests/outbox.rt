@@ -1,6 +1,7 @@
 //! Values from the rules of Eureka's batches, worked out by hand.
 use eu_base::{Action, Fault, Moment, Status, Task, Tasks};
 use eu_fixtures::{cut, key, moment, number_of, numbered};
+use eu_hash::HashKey;
 use eu_outbox::Outbox;
 use std::alloc::{AllocError, Global};
 
@@ -181,7 +182,7 @@ fn step(alloc: Global, outbox: &mut Outbox, out: &mut String, call: &str) -> Res
 
 /// What a new outbox tells, to which these calls are made.
 fn told(alloc: Global, calls: &str) -> Result<String, Fault> {
-    let mut outbox = Outbox::new(alloc);
+    let mut outbox = Outbox::new(alloc, HashKey::new(0, 0));
     let mut out = String::new(alloc);
     for call in calls.split(", ") {
         step(alloc, &mut outbox, &mut out, call)?;

@@ -7,6 +7,7 @@ use eu_base::Fault;
 use eu_book::Book;
 use eu_clock::ListClock;
 use eu_fixtures::{are_so, at, key, pause_or_go_on, read_command, settings};
+use eu_hash::HashKey;
 use eu_in_process::InProcess;
 use eu_model::{Answer, Ask, Desk, Query};
 use eu_peer::{Turn, replicate_turn};
@@ -213,7 +214,7 @@ fn seated<K: Label, R: Wait>(
     requires names { HasNames blanks K.steps K.counted K.added K.removed }
     requires parts { HasParts blanks K.parts × (K.parts ≡ PARTS) }
 {
-    let shared: Shared<K> = Shared::open(alloc, settings()?, 0, 1, blanks)?;
+    let shared: Shared<K> = Shared::open(alloc, settings()?, 0, 1, HashKey::new(0, 0), blanks)?;
     let played = play_seated(rt, alloc, &shared, adopts);
     drop(shared);
     played

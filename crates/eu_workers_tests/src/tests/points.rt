@@ -8,6 +8,7 @@ use crate::tests::visits::{Sides, visit};
 use eu_base::{Fault, Task};
 use eu_clock::{FirstChooser, ListClock};
 use eu_fixtures::settings;
+use eu_hash::HashKey;
 use eu_model::Command;
 use eu_peer::{ItemAnswer, Lost, Peer};
 use eu_session::Talk;
@@ -376,7 +377,7 @@ fn run<K: Label + Send + Sync, R: Threads + Wait + Sync>(
     requires names { HasNames blanks K.steps K.counted K.added K.removed }
     requires parts { HasParts blanks K.parts × (K.parts ≡ PARTS) }
 {
-    let shared: Shared<K> = Shared::open(alloc, settings()?, 0, 8, blanks)?;
+    let shared: Shared<K> = Shared::open(alloc, settings()?, 0, 8, HashKey::new(0, 0), blanks)?;
     let told = work_after(rt, alloc, &shared, trouble);
     drop(shared);
     told
@@ -551,7 +552,7 @@ fn come_to<K: Label + Send + Sync, R: Threads + Wait + Sync>(
     requires names { HasNames blanks K.steps K.counted K.added K.removed }
     requires parts { HasParts blanks K.parts × (K.parts ≡ PARTS) }
 {
-    let shared: Shared<K> = Shared::open(alloc, settings()?, 0, 0, blanks)?;
+    let shared: Shared<K> = Shared::open(alloc, settings()?, 0, 0, HashKey::new(0, 0), blanks)?;
     let came = come(rt, alloc, &shared);
     drop(shared);
     came

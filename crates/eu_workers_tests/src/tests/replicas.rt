@@ -8,6 +8,7 @@ use eu_base::{Config, Fault, Moment, Task};
 use eu_book::Book;
 use eu_clock::{FirstChooser, ListClock};
 use eu_fixtures::{registration, settings};
+use eu_hash::HashKey;
 use eu_in_process::InProcess;
 use eu_model::Command;
 use eu_peer::{ItemAnswer, Lost, Peer};
@@ -45,7 +46,7 @@ fn drains<K: Label, R: Wait>(
 
 /// A server at which nothing is held.
 pub fn server(alloc: Global, config: Config) -> Result<InProcess<Book, ListClock>, Fault> {
-    let desk = Book::open(alloc, config, 0, 0)?;
+    let desk = Book::open(alloc, config, 0, 0, HashKey::new(0, 0))?;
     Ok(InProcess {
         desk,
         clock: ListClock::new(Vec::new(alloc)),
@@ -122,7 +123,7 @@ fn send<K: Label, R: Wait>(
     requires names { HasNames blanks K.steps K.counted K.added K.removed }
     requires parts { HasParts blanks K.parts × (K.parts ≡ PARTS) }
 {
-    let shared: Shared<K> = Shared::open(alloc, config, 0, 1, blanks)?;
+    let shared: Shared<K> = Shared::open(alloc, config, 0, 1, HashKey::new(0, 0), blanks)?;
     let sent = send_from(rt, alloc, &shared, number, &config);
     drop(shared);
     sent
@@ -243,7 +244,7 @@ fn turns_from<K: Label, R: Wait>(
     requires names { HasNames blanks K.steps K.counted K.added K.removed }
     requires parts { HasParts blanks K.parts × (K.parts ≡ PARTS) }
 {
-    let shared: Shared<K> = Shared::open(alloc, settings()?, 0, 1, blanks)?;
+    let shared: Shared<K> = Shared::open(alloc, settings()?, 0, 1, HashKey::new(0, 0), blanks)?;
     let done = turns_by(rt, alloc, &shared);
     drop(shared);
     done

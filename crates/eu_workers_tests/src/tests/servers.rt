@@ -6,6 +6,7 @@ use crate::tests::turns::is_accepted;
 use eu_base::{Fault, Moment};
 use eu_clock::{FirstChooser, ListClock};
 use eu_fixtures::{registration, settings};
+use eu_hash::HashKey;
 use eu_in_process::InProcess;
 use eu_model::{Query, View};
 use eu_peer::{Turn, replicate_turn};
@@ -174,7 +175,7 @@ pub fn open<K: Label>(alloc: Global, blanks: Blanks) -> Result<Shared<K>, Fault>
     requires parts { HasParts blanks K.parts × (K.parts ≡ PARTS) }
 {
     let config = settings()?;
-    Ok(Shared::open(alloc, config, 0, 1, blanks)?)
+    Ok(Shared::open(alloc, config, 0, 1, HashKey::new(0, 0), blanks)?)
 }
 
 /// The same between a server and another one that is opened for it.

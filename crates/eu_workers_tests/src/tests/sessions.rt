@@ -7,6 +7,7 @@ use crate::tests::visits::{Sides, visit};
 use eu_base::{Fault, Task};
 use eu_clock::{FirstChooser, ListClock};
 use eu_fixtures::{REGISTERED, settings};
+use eu_hash::HashKey;
 use eu_peer::{ItemAnswer, Lost, Peer};
 use eu_session::Talk;
 use eu_settle::{Closed, settle};
@@ -333,7 +334,7 @@ fn run<K: Label + Send + Sync, R: Threads + Wait + Clock + Sync>(
     requires names { HasNames blanks K.steps K.counted K.added K.removed }
     requires parts { HasParts blanks K.parts × (K.parts ≡ PARTS) }
 {
-    let shared: Shared<K> = Shared::open(alloc, settings()?, 0, 0, blanks)?;
+    let shared: Shared<K> = Shared::open(alloc, settings()?, 0, 0, HashKey::new(0, 0), blanks)?;
     run_on(rt, alloc, shared)
 }
 

@@ -6,6 +6,7 @@ use crate::tests::trims::first_number;
 use eu_base::{Fault, Moment};
 use eu_clock::{FirstChooser, ListClock};
 use eu_fixtures::settings;
+use eu_hash::HashKey;
 use eu_model::Command;
 use eu_routes::Routes;
 use eu_shared::{Blanks, Label, PARTS, Pass, Shared, close};
@@ -178,7 +179,7 @@ fn work<K: Label, R: Wait>(
     requires names { HasNames blanks K.steps K.counted K.added K.removed }
     requires parts { HasParts blanks K.parts × (K.parts ≡ PARTS) }
 {
-    let shared: Shared<K> = Shared::open(alloc, settings()?, 0, 0, blanks)?;
+    let shared: Shared<K> = Shared::open(alloc, settings()?, 0, 0, HashKey::new(0, 0), blanks)?;
     let timers = work_on(rt, alloc, &shared, go, limits);
     drop(shared);
     timers
@@ -366,7 +367,7 @@ fn leave<K: Label, R: Wait>(
     requires names { HasNames blanks K.steps K.counted K.added K.removed }
     requires parts { HasParts blanks K.parts × (K.parts ≡ PARTS) }
 {
-    let shared: Shared<K> = Shared::open(alloc, settings()?, 0, 0, blanks)?;
+    let shared: Shared<K> = Shared::open(alloc, settings()?, 0, 0, HashKey::new(0, 0), blanks)?;
     leave_of(rt, alloc, turns, shared)
 }
 

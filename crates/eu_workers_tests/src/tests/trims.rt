@@ -9,6 +9,7 @@ use eu_base::{Config, Fault};
 use eu_book::Book;
 use eu_clock::{FirstChooser, ListClock};
 use eu_fixtures::{RENEWAL, settings};
+use eu_hash::HashKey;
 use eu_in_process::InProcess;
 use eu_routes::Routes;
 use eu_session::Talk;
@@ -268,7 +269,7 @@ fn work<K: Label, R: Wait>(
     requires names { HasNames blanks K.steps K.counted K.added K.removed }
     requires parts { HasParts blanks K.parts × (K.parts ≡ PARTS) }
 {
-    let shared: Shared<K> = Shared::open(alloc, config, 0, 1, blanks)?;
+    let shared: Shared<K> = Shared::open(alloc, config, 0, 1, HashKey::new(0, 0), blanks)?;
     let leaving = work_on(rt, alloc, &shared, &config);
     drop(shared);
     leaving

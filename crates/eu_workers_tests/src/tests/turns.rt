@@ -6,6 +6,7 @@ use eu_fixtures::{
     Told, at, cut, first_wrong, key, moment, number_of, read_ask, read_command, settings,
     tell_fault, tell_read, tell_reply,
 };
+use eu_hash::HashKey;
 use eu_in_process::InProcess;
 use eu_model::{Ask, Query, View};
 use eu_peer::{ItemAnswer, Lost, Peer, Turn, replicate_turn};
@@ -25,7 +26,7 @@ pub struct Pair {
 /// A book with one peer, at which nothing is held.
 fn opened(alloc: Global) -> Result<Book, Fault> {
     let config = settings()?;
-    Ok(Book::open(alloc, config, 0, 1)?)
+    Ok(Book::open(alloc, config, 0, 1, HashKey::new(0, 0))?)
 }
 
 /// A clock that stands at this moment.

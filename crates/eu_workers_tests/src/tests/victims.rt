@@ -6,6 +6,7 @@ use crate::tests::replicas::Open;
 use eu_base::{Config, Fault, Moment};
 use eu_clock::{FirstChooser, ListChooser, ListClock};
 use eu_fixtures::{clock, ids, registration};
+use eu_hash::HashKey;
 use eu_model::Reply;
 use eu_routes::Routes;
 use eu_shared::{Blanks, Label, PARTS, Pass, Shared};
@@ -135,7 +136,7 @@ fn evicts_half<K: Label, R: Wait>(
     requires parts { HasParts blanks K.parts × (K.parts ≡ PARTS) }
 {
     let config = Config::new(false, 50, 30, 60_000)?;
-    let shared: Shared<K> = Shared::open(alloc, config, 0, 0, blanks)?;
+    let shared: Shared<K> = Shared::open(alloc, config, 0, 0, HashKey::new(0, 0), blanks)?;
     let evicted = evicts_of(rt, alloc, &shared);
     drop(shared);
     evicted

@@ -1,5 +1,5 @@
 -- Which requests take long
-use Rattle.std.specs.Prelude.{ℕ, ◌==◌, ◌||◌, Bool, not, List, length, drop, nat_eq, codes, if◌then◌else◌}
+use Rattle.std.specs.Prelude.{ℕ, ◌==◌, ◌||◌, ◌&&◌, Bool, not, List, length, drop, nat_eq, codes}
 use Rattle.std.specs.List.{before_first, position_or_len, starts_with}
 
 -- the paths under which the registry is listed, whole or by application, and that of a peer's batch
@@ -34,9 +34,10 @@ behind_slashes path = from_first is_other (from_first is_slash path)
 abbrev pub names_no_instance : List ℕ → Bool
 names_no_instance rest = length (behind_slashes (behind_slashes (before_first ends_path rest))) == 0
 
+-- begins by a path of listings, and names no instance
+abbrev pub lists : List ℕ → List ℕ → Bool
+lists bytes path = starts_with nat_eq bytes path && names_no_instance (drop (length path) bytes)
+
 -- a listing, unless it names an instance, or a batch
 abbrev pub is_long : List ℕ → Bool
-is_long bytes =
-    if starts_with nat_eq bytes listing then names_no_instance (drop (length listing) bytes)
-    else if starts_with nat_eq bytes listing_2 then names_no_instance (drop (length listing_2) bytes)
-    else starts_with nat_eq bytes batch
+is_long bytes = lists bytes listing || lists bytes listing_2 || starts_with nat_eq bytes batch

@@ -70,16 +70,17 @@ fn names_no_instance(rest: &[u8]) -> bool
     behind_slashes(behind_slashes(path)).is_empty()
 }
 
+/// Whether these bytes begin by that path, and go on without naming an instance.
+fn lists(bytes: &[u8], path: &[u8]) -> bool
+    ensures { result ≡ spec.lists bytes.now path.now }
+{
+    bytes.starts_with(path) && names_no_instance(&bytes[path.len()..])
+}
+
 /// Whether these bytes begin like a request that takes long: a listing, of all or of an application, or a peer's batch. It only tells who takes
 /// the turn: a wrong answer costs time alone.
 pub(crate) fn is_long(bytes: &[u8]) -> bool
     ensures { result ≡ spec.is_long bytes.now }
 {
-    if bytes.starts_with(LISTING) {
-        names_no_instance(&bytes[LISTING.len()..])
-    } else if bytes.starts_with(LISTING_2) {
-        names_no_instance(&bytes[LISTING_2.len()..])
-    } else {
-        bytes.starts_with(BATCH)
-    }
+    lists(bytes, LISTING) || lists(bytes, LISTING_2) || bytes.starts_with(BATCH)
 }

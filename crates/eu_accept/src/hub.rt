@@ -41,7 +41,7 @@ impl Limits {
     }
 
     /// How many places a loop has: one for each connection, and those of the ones that are refused.
-    pub(crate) fn places(&self) -> usize
+    pub fn places(&self) -> usize
         ensures { result ≡ places_of self.now }
     {
         self.connections.saturating_add(SPARE as usize)

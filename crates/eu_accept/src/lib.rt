@@ -16,8 +16,6 @@ mod pace;
 mod pool;
 mod queue;
 mod station;
-#[cfg(test)]
-mod tests;
 
 pub use admission::{Admission, Entry, SPARE};
 pub use door::Door;

@@ -109,6 +109,11 @@ head_more {b = b} {b' = b'} head x f = (
   f.4,
 )
 
+-- what holds of a value holds of one that is equal, where there is one
+pub if_some_by : {A B : Type 0} (o : Option A) (f : A → B) (x : B) (P : B → Type 0) → IfSome o (λ a. f a ≡ x) → P x → IfSome o (λ a. P (f a))
+if_some_by None f x P is p = cc
+if_some_by (Some a) f x P is p = rw is p
+
 -- a request that was begun, with more bytes and as far as its walk has come
 pub begun_more : {b b' : List ℕ} (begun : Begun) (walk : Walk) → Longer b b' → IsBegun b begun → Stands begun.head.len b' walk → IsBegun b' (record { head = begun.head; walk = walk })
 begun_more begun walk x is s = record { head = head_more begun.head x is.head; framing = is.framing; walk = s }

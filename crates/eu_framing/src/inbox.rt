@@ -1,5 +1,5 @@
 //! The bytes of a connection that were read and not yet used.
-ghost use Rattle.std.specs.Prelude.{◌≡◌, ◌≢◌, ◌⊎◌, ◌≤◌, ◌+◌, ◌-◌, ◌^◌, [], List, ℕ, true, IfErr, IfSome, OnOk, length, min, vec_capacity};
+ghost use Rattle.std.specs.Prelude.{◌≡◌, ◌≢◌, ◌⊎◌, ◌≤◌, ◌+◌, ◌-◌, ◌^◌, [], List, ℕ, true, IfErr, IfSome, OnOk, length, min, option_map, vec_capacity};
 ghost use Rattle.std.specs.Io.KnownBytes.{Keeps};
 ghost use Rattle.eu_framing.specs.Message.{pending};
 ghost use Rattle.eu_framing.specs.Walking.{IsBegun, waiting_memory};
@@ -27,8 +27,8 @@ fn empty(bytes: &mut Vec<u8>, alloc: Global)
 }
 
 /// How many bytes of memory the bytes have, and what was taken of a request.
-fn memory_of(bytes: &Vec<u8>, begun: &Option<Begun>) -> usize
-    ensures { result ≡ min (vec_capacity bytes.now + waiting_memory begun.now) (2 ^ 64 - 1) }
+fn memory_of(bytes: &Vec<u8>, begun: &Option<Box<Begun>>) -> usize
+    ensures { result ≡ min (vec_capacity bytes.now + waiting_memory (option_map (λ b. b.value) begun.now)) (2 ^ 64 - 1) }
 {
     match begun {
         Some(begun) => bytes.capacity().saturating_add(begun.memory()),
@@ -43,7 +43,7 @@ fn memory_of(bytes: &Vec<u8>, begun: &Option<Begun>) -> usize
 #[derive(Debug, Drop)]
 pub struct Inbox {
     pub(crate) bytes: Vec<u8>,
-    pub(crate) begun: Option<Begun>,
+    pub(crate) begun: Option<Box<Begun>>,
 }
 
 impl Model for Inbox {
@@ -51,7 +51,7 @@ impl Model for Inbox {
 
     ghost view = { λ inbox. inbox.bytes.items };
 
-    ghost invariant = { λ inbox. IfSome inbox.begun (IsBegun inbox.bytes.items) };
+    ghost invariant = { λ inbox. IfSome inbox.begun (λ begun. IsBegun inbox.bytes.items begun.value) };
 }
 
 impl Inbox {

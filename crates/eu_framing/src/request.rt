@@ -170,10 +170,10 @@ fn begin<R: Source>(
     alloc: Global,
     reader: &mut R,
     buffer: &mut Vec<u8>,
-    waiting: Option<Begun>,
+    waiting: Option<Box<Begun>>,
     room: &mut Room,
 ) -> Result<Option<Begun>, Fault>
-    requires { IfSome waiting (IsBegun buffer.old.items) }
+    requires { IfSome waiting (λ begun. IsBegun buffer.old.items begun.value) }
     ensures grows { OnOk result (Grows (R.remaining reader.old) (R.failed reader.old) buffer.old.items (R.remaining reader.new) (R.failed reader.new) buffer.new.items) }
     ensures found { IfOk result (λ found. IfSome found (IsBegun buffer.new.items)) }
     ensures end { IfOk result (λ found. MatchOption found (IsEnd buffer.new.items × IsAtEnd (R.remaining reader.new)) (λ _. Unit {0})) }
@@ -183,7 +183,7 @@ fn begin<R: Source>(
     ensures same_stream { R.stream reader.new ≡ R.stream reader.old }
 {
     match waiting {
-        Some(begun) => Ok(Some(begun)),
+        Some(begun) => Ok(Some(Box::into_inner(begun))),
         None => match next_head(alloc, reader, buffer, room)? {
             Some(head) => {
                 let walk = Walk::new(alloc, head.len);
@@ -194,16 +194,24 @@ fn begin<R: Source>(
     }
 }
 
-/// What `read_request` takes, from the bytes of an inbox and how far it went through them.
+/// What was begun, on the heap, where there is memory for it.
+fn kept(alloc: Global, begun: Begun) -> Option<Box<Begun>>
+    ensures { IfSome result (λ kept. kept.value ≡ begun) }
+{
+    Box::new(alloc, begun).ok()
+}
+
+/// What `read_request` takes, from the bytes of an inbox and how far it went through them. Where there is no memory to keep that, the next call
+/// begins with them anew.
 fn take_request<R: Source>(
     alloc: Global,
     reader: &mut R,
     buffer: &mut Vec<u8>,
-    waiting: &mut Option<Begun>,
+    waiting: &mut Option<Box<Begun>>,
     room: &mut Room,
 ) -> Result<Option<Request>, Fault>
-    requires { IfSome waiting.old (IsBegun buffer.old.items) }
-    ensures waiting { IfSome waiting.new (IsBegun buffer.new.items) }
+    requires { IfSome waiting.old (λ begun. IsBegun buffer.old.items begun.value) }
+    ensures waiting { IfSome waiting.new (λ begun. IsBegun buffer.new.items begun.value) }
     ensures found { IfOk result (λ next. Between (pending buffer.old.items (R.remaining reader.old)) (pending buffer.new.items (R.remaining reader.new)) (FindsNext next)) }
     ensures fault { IfErr result (λ fault. Interrupts (R.failed reader.new) (pending buffer.old.items (R.remaining reader.old)) (pending buffer.new.items (R.remaining reader.new)) buffer.new.items fault ⊎ OfBytes (pending buffer.old.items (R.remaining reader.old)) (λ bytes. IsFault bytes fault)) }
     ensures kept { OnErr result (Keeps (pending buffer.old.items (R.remaining reader.old)) (pending buffer.new.items (R.remaining reader.new))) }
@@ -221,7 +229,7 @@ fn take_request<R: Source>(
             Ok(Some(begun.head.with_body(body)))
         }
         Err(fault) => {
-            *waiting = Some(begun);
+            *waiting = kept(alloc, begun);
             Err(fault)
         }
     }

@@ -1,9 +1,11 @@
 -- Sums over slots, where one of them changes.
-use Rattle.std.proofs.Common.{◌≡◌, ◌≢◌, ℕ, zero, suc, ◌+◌, List, [], ◌∷◌, get_or, Option, None, sum_by, refl, ap, ◌∙◌, arith}
+use Rattle.std.proofs.Common.{◌≡◌, ◌≢◌, ◌≤◌, ⊎_elim, subst, ℕ, zero, suc, ◌+◌, List, [], ◌∷◌, get_or, Option, None, sum_by, refl, ap, ◌∙◌, arith}
+use Rattle.std.proofs.lemmas.Bool.{cases_eq}
 use Rattle.std.proofs.lemmas.List.Sums.{sum_by-cons}
 use Rattle.slab.specs.Slab.{Slab, get, Updates}
 use Rattle.eu_hall.specs.declared.place.Place.{Place}
 use Rattle.eu_hall.specs.Places.{bytes_at}
+use Rattle.eu_hall.specs.Rooms.{AllFree}
 
 module _ {X : Type 0} (f : Option X → ℕ) (zero_at : f None ≡ 0) where
   -- slots that find the same at each key have one sum
@@ -58,3 +60,8 @@ module _ {G : Type 0} where
       let change = bytes_change old new key place updates in
       let before : bytes_at (get old key) ≡ 0 = ap bytes_at free in
       omega (arith, change, before, none)
+
+  -- where one place changes, those from a bound on stay free, if that place is free now, or was not, or lies before it
+  pub stay_free : (old new : List (Option (Place G))) (key bound : ℕ) → ((other : ℕ) → other ≢ key → get_or new other None ≡ get_or old other None) → (bound ≤ key → get_or new key None ≡ None) → AllFree old bound → AllFree new bound
+  stay_free old new key bound others at free k from =
+      ⊎_elim (λ e. rw e (at (subst (λ (n : ℕ). bound ≤ n) e from))) (λ differs. others k differs ∙ free k from) (cases_eq k key)

@@ -1,5 +1,5 @@
 -- What callers see of a hall.
-use Rattle.std.specs.Prelude.{◌≡◌, ◌≢◌, ℕ, ◌≤◌, List, Option, is_some, count_by, sum_by}
+use Rattle.std.specs.Prelude.{◌≡◌, ◌≢◌, ℕ, ◌≤◌, List, Option, None, is_some, count_by, sum_by}
 use Rattle.eu_hall.specs.declared.place.Place.{Place}
 use Rattle.eu_hall.specs.Places.{place_in, bytes_at}
 
@@ -29,8 +29,13 @@ module _ {G : Type 0} where
     pub most : new.most ≡ old.most
     pub most_bytes : new.most_bytes ≡ old.most_bytes
 
-  -- no more places are taken than there are, each has its memory, and the sum of the bytes is known and within its limit
-  pub record IsKept (places : List (Option (Place G))) (capacity most bytes most_bytes : ℕ) : Type 0 where
+  -- every place from this key on is free
+  abbrev pub AllFree : List (Option (Place G)) → ℕ → Type 0
+  AllFree places from = (key : ℕ) → from ≤ key → place_in places key ≡ None
+
+  -- no more places are taken than there are, none from the bound on, each has its memory, and the sum of the bytes is known and within its limit
+  pub record IsKept (places : List (Option (Place G))) (capacity bound most bytes most_bytes : ℕ) : Type 0 where
+    pub free : AllFree places bound
     pub few : count_by is_some places ≤ most
     pub room : most ≤ capacity
     pub counted : bytes ≡ sum_by bytes_at places

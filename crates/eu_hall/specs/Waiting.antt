@@ -6,10 +6,10 @@ pub record Waiting : Type 0 where
   pub rest : List ℕ
   pub has_failed : Bool
 
--- of the bytes that are kept no more are sent than there are, and where all are, no memory is held
+-- of the bytes that are kept no more are sent than there are, and where all are, little memory is held
 pub record IsLean (kept sent capacity : ℕ) : Type 0 where
   pub within : sent ≤ kept
-  pub freed : kept ≤ sent → capacity ≡ 0
+  pub freed : kept ≤ sent → capacity ≤ 256
 
 -- each is a stream of its own: it has no writer behind it
 abbrev pub stream_of : Waiting → ℕ

@@ -17,6 +17,8 @@ use std::marker::Model;
 #[derive(Drop)]
 pub struct Hall<G> {
     places: Slab<Place<G>>,
+    /// No place from this key on was taken so far.
+    bound: usize,
     most: usize,
     bytes: usize,
     most_bytes: usize,
@@ -29,7 +31,7 @@ impl<G> Model for Hall<G> {
 
     ghost view = { λ h. record { places = h.places.slots; most = h.most; most_bytes = h.most_bytes } };
 
-    ghost invariant = { λ h. IsKept h.places.slots h.places.capacity h.most h.bytes h.most_bytes };
+    ghost invariant = { λ h. IsKept h.places.slots h.places.capacity h.bound h.most h.bytes h.most_bytes };
 }
 
 impl<G: Drop> Hall<G> {
@@ -40,6 +42,7 @@ impl<G: Drop> Hall<G> {
     {
         Ok(Hall {
             places: Slab::with_capacity(alloc, most)?,
+            bound: 0,
             most,
             bytes: 0,
             most_bytes,
@@ -85,13 +88,14 @@ impl<G: Drop> Hall<G> {
         if self.places.len() >= self.most {
             return Err(guest);
         }
-        Ok(
-            self.places.insert_reserved(Place::Here(Standing {
-                guest,
-                awaited,
-                bytes: 0,
-            })),
-        )
+        let key = self.places.insert_reserved(Place::Here(Standing {
+            guest,
+            awaited,
+            bytes: 0,
+        }));
+        let _room = self.places.capacity();
+        self.bound = self.bound.max(key + 1);
+        Ok(key)
     }
 
     /// Calls the guest that stands at that key, and tells what is awaited of its peer. Its place is away then, and stays taken.
@@ -165,6 +169,6 @@ impl<G: Drop> Hall<G> {
         ensures found { IfSome result (λ key. IsFirstDue self.now.places now stops from key) }
         ensures none { IfNone result ((key : ℕ) → from ≤ key → is_due now stops (place_at self.now key) ≡ false) }
     {
-        first_due(&self.places, from, now, stops)
+        first_due(&self.places, from, self.bound, now, stops)
     }
 }

@@ -12,8 +12,6 @@ mod hall;
 mod leaving;
 mod phase;
 mod place;
-#[cfg(test)]
-mod tests;
 mod trouble;
 mod unsent;
 
@@ -23,4 +21,4 @@ pub use hall::Hall;
 pub use leaving::{Leaving, Sent};
 pub use phase::{Awaited, Happened, PATIENCE, Patience, Phase};
 pub use place::{Place, Standing};
-pub use unsent::Unsent;
+pub use unsent::{MOST_KEPT, Unsent};

@@ -1,7 +1,7 @@
 //! A place of the hall.
 ghost use Rattle.std.specs.Prelude.{◌≡◌, ◌≤◌, ℕ, ◌<◌, ◌↔◌, Some, None, false, IsOk, IfErr, IfNone, IfSome, OnErr, OnOk, OnSome};
 ghost use Rattle.slab.specs.Slab.{get, with_value};
-ghost use Rattle.eu_hall.specs.Places.{IsFirstDue, bytes_at, is_due, place_in, standing_at};
+ghost use Rattle.eu_hall.specs.Places.{IsFirstDue, NoneDue, bytes_at, is_due, place_in, standing_at};
 
 use crate::phase::{Awaited, Phase};
 use slab::Slab;
@@ -85,17 +85,18 @@ pub(crate) fn put_back<G: Drop>(
     Ok(())
 }
 
-/// The first key from `from` on whose guest is late at `now`, or idle where the server stops. None where there is none.
+/// The first of these keys whose guest is late at `now`, or idle where the server stops. None where there is none.
 pub(crate) fn first_due<G>(
     places: &Slab<Place<G>>,
     from: usize,
+    to: usize,
     now: u64,
     stops: bool,
 ) -> Option<usize>
     ensures found { IfSome result (λ key. IsFirstDue places.now.slots now stops from key) }
-    ensures none { IfNone result ((key : ℕ) → from ≤ key → is_due now stops (place_in places.now.slots key) ≡ false) }
+    ensures none { IfNone result (NoneDue places.now.slots now stops from to) }
 {
-    for key in from..places.capacity() {
+    for key in from..to {
         if let Some(place) = places.get(key)
             && place.is_due(now, stops)
         {

@@ -10,10 +10,13 @@ use std::alloc::Global;
 use std::io::Write;
 use std::marker::Model;
 
+/// The most bytes of memory that are held where nothing is to be sent: a response without content has room there.
+pub const MOST_KEPT: usize = 256;
+
 /// Bytes that are to be sent to a peer, first to last. As a `Sink` it takes whatever is written into it, and `send` passes it on to the peer, as far
 /// as that takes it. Contracts see the bytes that are still to be sent, and whether a write into it has failed.
 ///
-/// Bytes that were sent keep their memory until all are; then none is held.
+/// Bytes that were sent keep their memory until all are. Then at most `MOST_KEPT` bytes of it are held, for the next response.
 #[derive(Debug, Drop)]
 pub struct Unsent {
     bytes: Vec<u8>,
@@ -65,10 +68,10 @@ impl Unsent {
         self.has_failed
     }
 
-    /// How many bytes of memory it holds: none where nothing is to be sent.
+    /// How many bytes of memory it holds: at most `MOST_KEPT` where nothing is to be sent.
     pub fn memory(&self) -> usize
         ensures least { length self.now.rest ≤ result }
-        ensures none { self.now.rest ≡ [] → result ≡ 0 }
+        ensures none { self.now.rest ≡ [] → result ≤ MOST_KEPT }
     {
         let _sent = self.sent;
         self.bytes.capacity()
@@ -149,7 +152,7 @@ impl Sink for Unsent {
     }
 }
 
-/// Lets go of the memory where all bytes are sent.
+/// Lets go of the memory where all bytes are sent, but for a little.
 fn let_go(bytes: &mut Vec<u8>, sent: &mut usize)
     requires { sent.old ≤ length bytes.old.items }
     ensures rest { drop sent.new bytes.new.items ≡ drop sent.old bytes.old.items }
@@ -157,7 +160,9 @@ fn let_go(bytes: &mut Vec<u8>, sent: &mut usize)
 {
     if *sent == bytes.len() {
         bytes.clear();
-        bytes.shrink_to_fit();
         *sent = 0;
+        if bytes.capacity() > MOST_KEPT {
+            bytes.shrink_to_fit();
+        }
     }
 }

@@ -1,5 +1,6 @@
 //! The tests, by what they are of.
 mod accepted;
+mod admissions;
 mod client;
 mod cuts;
 mod journals;

@@ -10,8 +10,6 @@ mod news;
 mod replicator;
 mod sessions;
 mod site;
-#[cfg(test)]
-mod tests;
 mod timers;
 
 pub use all::{Job, Work, Worker, run_all};
@@ -22,4 +20,4 @@ pub use incoming::Incoming;
 pub use replicator::run_replicator;
 pub use sessions::run_sessions;
 pub use site::Site;
-pub use timers::{run_bucket, run_evictor, run_threshold};
+pub use timers::{Asker, run_bucket, run_evictor, run_threshold, take_turns};

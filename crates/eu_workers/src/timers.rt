@@ -44,7 +44,7 @@ fn is_checkpoint_due(timer: Timer, turns: u64) -> bool
 }
 
 /// By what a timer's worker asks: its pass of the shared book. A test has one that is refused at first.
-pub(crate) trait Asker {
+pub trait Asker {
     // The pass.
     ghost pass: { Self → PassAccount };
 
@@ -125,7 +125,7 @@ fn tell<G: Gate>(gate: &G, seen: Option<Gauges>, asked: &Result<Receipt, Fault>)
 
 /// Asks for a timer's command at most so many times, until the gate stops it. A journal for which no memory is left doesn't begin anew,
 /// and that counts nowhere.
-pub(crate) fn take_turns<G: Gate, A: Asker, C: Clock, H: Chooser>(
+pub fn take_turns<G: Gate, A: Asker, C: Clock, H: Chooser>(
     gate: &G,
     alloc: Global,
     timer: Timer,

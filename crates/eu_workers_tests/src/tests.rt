@@ -1,4 +1,6 @@
 //! The tests, by what they are of.
+mod askers;
+mod halls;
 mod hands;
 mod memory;
 mod peers;

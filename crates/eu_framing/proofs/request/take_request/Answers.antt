@@ -3,7 +3,8 @@ use Rattle.std.proofs.lemmas.Result.{err_from_is_err_and}
 use Rattle.eu_framing.specs.Message.{IsFault, BreaksBody, FindsNext}
 use Rattle.eu_framing.proofs.ReadingLemmas.{grows_more, between, blames_later, blames_so}
 use Rattle.eu_framing.proofs.RequestLemmas.{body_broken, next_whole, told}
-use Rattle.eu_framing.proofs.WalkLemmas.{begun_more}
+use Rattle.eu_framing.specs.Walking.{IsBegun}
+use Rattle.eu_framing.proofs.WalkLemmas.{begun_more, if_some_by}
 use Rattle.eu_framing.proofs.request.take_request.Goals as goal
 
 pub returns-in_err-begun-clause-fault : goal.returns-in_err-begun-clause-fault
@@ -23,7 +24,9 @@ returns-in-Err-clause-fault g c =
 
 pub returns-in-Err-clause-waiting : goal.returns-in-Err-clause-waiting
 returns-in-Err-clause-waiting g c =
-    begun_more c.in-Some.begun c.read_body.new.walk c.in-Err.ensures.longer (rw c.in-Some.is at c.in_ok-begun.ensures.found) c.in-Err.ensures.stands
+    let is = rw c.in-Some.is at c.in_ok-begun.ensures.found in
+    if_some_by c.kept.result (λ b. b.value) _ (λ begun. IsBegun c.read_body.new.buffer.items begun) c.kept.ensures
+    (begun_more c.in-Some.begun c.read_body.new.walk c.in-Err.ensures.longer is c.in-Err.ensures.stands)
 
 pub returns-in-Ok-clause-found : goal.returns-in-Ok-clause-found
 returns-in-Ok-clause-found g c =

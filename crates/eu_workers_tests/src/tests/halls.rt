@@ -1,6 +1,8 @@
 //! Each public function on its way, with values that were worked out by hand.
 
-use crate::{Arriving, Awaited, Hall, Happened, Leaving, PATIENCE, Phase, Sent, Unsent};
+use eu_hall::{
+    Arriving, Awaited, Hall, Happened, Leaving, MOST_KEPT, PATIENCE, Phase, Sent, Unsent,
+};
 use eu_stream::{Sink, Source};
 use std::alloc::Global;
 use std::io::{self, ErrorKind, Read, Write};
@@ -169,7 +171,7 @@ fn what_is_unsent_goes_as_far_as_its_peer_takes_it(rt: HostRuntime) -> Result<()
     assert_eq!(rt; unsent.send(&mut peer), Ok(Sent::All));
     assert_eq!(rt; peer.bytes.as_slice(), b"hello you".as_slice());
     assert!(rt; unsent.is_empty());
-    assert_eq!(rt; unsent.memory(), 0);
+    assert!(rt; unsent.memory() <= MOST_KEPT);
     assert!(rt; !unsent.has_failed());
     Ok(())
 }

@@ -1,8 +1,5 @@
 //! Tests of what is counted, and of threads that wait for each other.
-use crate::admission::{Admission, Entry, SPARE};
-use crate::gathering::can_gather;
-use crate::hub::Limits;
-use crate::messages::{Message, Told};
+use eu_accept::{Admission, Entry, Limits, Message, SPARE, Told, can_gather};
 use eu_gate::News;
 use std::test::Fail;
 use std::time::{Duration, Instant};

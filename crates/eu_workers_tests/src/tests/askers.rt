@@ -2,8 +2,6 @@
 ghost use Rattle.std.specs.Prelude.{◌≡◌};
 ghost use Rattle.eu_shared.specs.Shares.{HasNames, HasParts};
 
-use crate::ended::Ended;
-use crate::timers::{Asker, take_turns};
 use eu_base::{Config, Fault, Moment};
 use eu_book::Receipt;
 use eu_clock::{Chooser, Clock, FirstChooser, ListClock};
@@ -11,6 +9,7 @@ use eu_gate::{Gate, Go, Point, Timer};
 use eu_hash::HashKey;
 use eu_model::{Command, Gauges};
 use eu_shared::{Blanks, Label, PARTS, Seat, Shared};
+use eu_workers::{Asker, Ended, take_turns};
 use std::alloc::{AllocError, Global};
 use std::marker::Brand;
 use std::sync::Wait;

@@ -1,5 +1,5 @@
 //! An instance from JSON.
-ghost use Rattle.std.specs.Prelude.{◌≡◌, ◌≢◌, ◌⊎◌, ◌<◌, [], length, not, Err, IfErr, IfOk, IsOk, MatchResult, Ok, OnOk, Some, None};
+ghost use Rattle.std.specs.Prelude.{◌≡◌, ◌≢◌, ◌⊎◌, ◌<◌, [], codes, length, not, Err, IfErr, IfOk, IsOk, MatchResult, Ok, OnOk, Some, None};
 ghost use Rattle.std.specs.Option.{option_map};
 ghost use Rattle.serde_json.specs.Read.{read};
 ghost use Rattle.serde_json.specs.View.{view};
@@ -49,6 +49,20 @@ pub fn lease_member<'v>(instance: &'v Value, name: &str) -> Option<&'v Value>
     ensures { option_map (λ v. view v.now) result ≡ lease_member name.now (view instance.now) }
 {
     instance.get("leaseInfo")?.get(name)
+}
+
+/// What the lease's information says of how long the lease lasts, and of how often it is renewed, where that is an object.
+fn lease_members(instance: &Value) -> (Option<&Value>, Option<&Value>)
+    ensures secs { option_map (λ v. view v.now) result.0 ≡ lease_member (codes "durationInSecs") (view instance.now) }
+    ensures interval { option_map (λ v. view v.now) result.1 ≡ lease_member (codes "renewalIntervalInSecs") (view instance.now) }
+{
+    match instance.get("leaseInfo") {
+        Some(lease) => (
+            lease.get("durationInSecs"),
+            lease.get("renewalIntervalInSecs"),
+        ),
+        None => (None, None),
+    }
 }
 
 /// `TooLong` where a name has more than 255 bytes.
@@ -106,8 +120,9 @@ pub fn of_object(
     check_center(&instance)?;
     check_len(name)?;
     let last_dirty = stamp_in(moment, instance.get("lastDirtyTimestamp"))?;
-    let secs = secs_in(lease_member(&instance, "durationInSecs"))?;
-    let interval = interval_in(lease_member(&instance, "renewalIntervalInSecs"));
+    let (secs, interval) = lease_members(&instance);
+    let secs = secs_in(secs)?;
+    let interval = interval_in(interval);
     let status = status_in(Status::Up, instance.get("status"));
     let overridden = status_in(Status::Unknown, overridden_at(&instance));
     let id = id_of(alloc, name)?;

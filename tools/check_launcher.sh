@@ -12,6 +12,10 @@ cat > "$place/crates/eureka/out/eureka" <<'PROGRAM'
 # Reads its input to the end, and ends with 7; with another status at once where it is told so.
 echo "$$" > "$(dirname "$0")/running"
 if [ "${1-}" = at-once ]; then exit "$2"; fi
+if [ "${1-}" = limit ]; then
+    echo "$(ulimit -v) $*"
+    exit 0
+fi
 echo "read $(wc -c)"
 sleep 0.2
 exit 7
@@ -71,4 +75,12 @@ expect "SIGKILL to the script ends the input, too" "read 0 gone" "$(
     sleep 1
     echo "$(tr -d '\n' < "$place/told") $(running)"
 )"
+expect "--memory is a limit, and no word of the program's" "307200 limit one two" "$("$place/eureka" limit one --memory 300 two)"
+expect "--memory=N, too" "409600 limit" "$("$place/eureka" --memory=400 limit)"
+for words in "--memory" "--memory 0" "--memory -1" "--memory=1.5" "--memory 9999999999"; do
+    told=0
+    # shellcheck disable=SC2086
+    "$place/eureka" limit $words > /dev/null 2>&1 || told=$?
+    expect "$words is refused" 2 "$told"
+done
 exit "$failed"

@@ -105,10 +105,14 @@ with_limits app =
     (option_rule (codes "idle-ms") (Signed (pos 1) (pos 4294967295)) (codes "90000")))
     (option_rule (codes "request-ms") (Signed (pos 1) (pos 4294967295)) (codes "10000"))
 
+-- a command with that option more
+abbrev pub with_quiet : App → App
+with_quiet app = with_rule app quiet_rule
+
 -- a command with the sixteen options of a server more
 abbrev pub with_server_options : App → ValueParser → App
 with_server_options app switch =
-    with_rule (with_limits (with_work (with_address (with_rule (with_settings app switch) drawing_rule)))) quiet_rule
+    with_quiet (with_limits (with_work (with_address (with_rule (with_settings app switch) drawing_rule))))
 
 -- the option `--journal FILE`, which may be left out
 abbrev pub journal_rule : Rule

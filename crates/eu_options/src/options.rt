@@ -6,7 +6,7 @@ ghost use Rattle.std.specs.declared.net.ip_addr.IpAddr.{IpAddr};
 ghost use Rattle.eu_options.specs.declared.serving.Drawing.{Drawing};
 ghost use Rattle.eu_options.specs.declared.serving.Drawing.TheVariants.{FirstOnes, Seeded, FromSystem};
 ghost use Rattle.eu_options.specs.declared.serving.Serving.{Serving};
-ghost use Rattle.eu_options.specs.Options.{option_rule, needed_rule, bind_rule, drawing_rule, forever_rule, until_rule, quiet_rule, sessions_rule, with_journal, with_address, with_limits, with_options, with_server_options, with_settings, with_work, seed_rule, program_app, IsSwitchParser, IsAddress, IsConfig, IsDrawing, IsEnd, IsFlag, IsNumber, IsServing};
+ghost use Rattle.eu_options.specs.Options.{option_rule, needed_rule, bind_rule, drawing_rule, forever_rule, until_rule, quiet_rule, sessions_rule, with_journal, with_address, with_limits, with_options, with_quiet, with_server_options, with_settings, with_work, seed_rule, program_app, IsSwitchParser, IsAddress, IsConfig, IsDrawing, IsEnd, IsFlag, IsNumber, IsServing};
 
 use crate::serving::{Drawing, Serving};
 use clap::builder::ValueParser;
@@ -283,6 +283,14 @@ fn audit<'a>(alloc: Global) -> Result<Command<'a>, AllocError>
     )
 }
 
+/// A command with the option `--quiet` more.
+fn with_quiet<'a>(alloc: Global, command: Command<'a>) -> Result<Command<'a>, AllocError>
+    ensures app { IfOk result (λ c. app_of c ≡ with_quiet (app_of command.entry)) }
+    ensures local { (out-Command command.entry).has_globals ≡ false → IfOk result (λ c. (out-Command c).has_globals ≡ false) }
+{
+    command.arg(quiet_option(alloc))
+}
+
 /// The options of a server.
 fn with_server<'a>(alloc: Global, command: Command<'a>) -> Result<Command<'a>, AllocError>
     ensures app { IfOk result (λ c. (switch : _) × IsSwitchParser switch × (app_of c ≡ with_server_options (app_of command.entry) switch)) }
@@ -293,7 +301,7 @@ fn with_server<'a>(alloc: Global, command: Command<'a>) -> Result<Command<'a>, A
     let address = with_address(alloc, drawing)?;
     let work = with_work(alloc, address)?;
     let limits = with_limits(alloc, work)?;
-    limits.arg(quiet_option(alloc))
+    with_quiet(alloc, limits)
 }
 
 /// The command `serve` with its options.

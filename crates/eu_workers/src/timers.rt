@@ -111,7 +111,10 @@ fn look<A: Asker>(asker: &A, alloc: Global, timer: Timer, moment: Moment) -> Opt
     ensures others { timer ≢ Timer.Evictor → result ≡ None }
 {
     match timer {
-        Timer::Evictor => asker.gauges(alloc, moment).ok(),
+        Timer::Evictor => match asker.gauges(alloc, moment) {
+            Ok(seen) => Some(seen),
+            Err(_) => None,
+        },
         Timer::Bucket | Timer::Threshold => None,
     }
 }

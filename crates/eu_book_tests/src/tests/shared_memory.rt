@@ -8,6 +8,7 @@ use eu_base::{Fault, Moment};
 use eu_book::Receipt;
 use eu_clock::FirstChooser;
 use eu_fixtures::{moment, pause_or_go_on, read_ask, settings};
+use eu_hash::HashKey;
 use eu_model::{Ask, Command, Listed, Query, Reply, View};
 use eu_settle::Closed;
 use eu_shared::{Blanks, Held, Label, PARTS, Pass, Shared, Unclosed, close};
@@ -329,7 +330,7 @@ fn play_held<K: Label>(alloc: Global, blanks: Blanks) -> Result<bool, Fault>
     requires names { HasNames blanks K.steps K.counted K.added K.removed }
     requires parts { HasParts blanks K.parts × (K.parts ≡ PARTS) }
 {
-    let opened = Held::<K>::open(alloc, settings()?, 0, 0, blanks);
+    let opened = Held::<K>::open(alloc, settings()?, 0, 0, HashKey::new(0, 0), blanks);
     pause_or_go_on(alloc);
     let mut held = opened?;
     let passes = ask_all(alloc, &mut held)?;

@@ -73,7 +73,7 @@ fn served_that_is_not_flushed_is_a_failed_write(rt: HostRuntime) -> Result<(), F
 }
 
 /// How the run of an ordinary server of no session ends, which leaves its journal there, and writes there what it served.
-fn ended<R: Threads + Wait + Clock + Net + Sync, J: Sink, W: Write>(
+fn ended<R: Threads + Wait + Clock + Net + Eprint + Sync, J: Sink, W: Write>(
     rt: &R,
     alloc: Global,
     listener: &TcpListener,

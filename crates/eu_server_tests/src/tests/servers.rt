@@ -34,7 +34,7 @@ pub enum Way {
 }
 
 /// Whether a server by a plan writes how many connections it is to serve.
-fn serves<R: Threads + Wait + Clock + Net + Sync>(
+fn serves<R: Threads + Wait + Clock + Net + Eprint + Sync>(
     rt: &R,
     alloc: Global,
     listener: &TcpListener,
@@ -47,7 +47,7 @@ fn serves<R: Threads + Wait + Clock + Net + Sync>(
 }
 
 /// Whether a server by a plan of one session writes so, and leaves its journal.
-fn leaves_journal<R: Threads + Wait + Clock + Net + Sync>(
+fn leaves_journal<R: Threads + Wait + Clock + Net + Eprint + Sync>(
     rt: &R,
     alloc: Global,
     listener: &TcpListener,
@@ -88,7 +88,7 @@ fn is_of_one_client(outcome: &Finished) -> bool {
 }
 
 /// Whether a server by a plan hands back such a book.
-fn hands_back<R: Threads + Wait + Clock + Net + Sync>(
+fn hands_back<R: Threads + Wait + Clock + Net + Eprint + Sync>(
     rt: &R,
     alloc: Global,
     listener: &TcpListener,
@@ -108,7 +108,7 @@ fn hands_back<R: Threads + Wait + Clock + Net + Sync>(
 }
 
 /// Whether a server by a plan leaves what it is to.
-fn leaves<R: Threads + Wait + Clock + Net + Sync>(
+fn leaves<R: Threads + Wait + Clock + Net + Eprint + Sync>(
     rt: &R,
     alloc: Global,
     listener: &TcpListener,
@@ -123,7 +123,9 @@ fn leaves<R: Threads + Wait + Clock + Net + Sync>(
 }
 
 /// Whether a server by a plan leaves what it is to, and the number of the first step that goes otherwise of a client beside it.
-fn beside<R: Threads + Wait + Clock + Sync + Net<Listener = TcpListener, Stream = TcpStream>>(
+fn beside<
+    R: Threads + Wait + Clock + Eprint + Sync + Net<Listener = TcpListener, Stream = TcpStream>,
+>(
     rt: &R,
     alloc: Global,
     listener: &TcpListener,
@@ -141,13 +143,9 @@ fn beside<R: Threads + Wait + Clock + Sync + Net<Listener = TcpListener, Stream 
 
 /// Whether a server by a plan, of a port of its own, leaves what it is to, and a client beside it reads what it is to. The connections that the
 /// client doesn't leave it has until the server has ended.
-pub fn plays<R: Threads + Wait + Clock + Sync + Net<Listener = TcpListener, Stream = TcpStream>>(
-    rt: &R,
-    alloc: Global,
-    plan: &Plan,
-    way: Way,
-    steps: &[Step<'_>],
-) -> io::Result<bool> {
+pub fn plays<
+    R: Threads + Wait + Clock + Eprint + Sync + Net<Listener = TcpListener, Stream = TcpStream>,
+>(rt: &R, alloc: Global, plan: &Plan, way: Way, steps: &[Step<'_>]) -> io::Result<bool> {
     let listener = TcpListener::bind(rt, "127.0.0.1:0")?;
     let mut client = Client::new(rt, alloc, listener.local_addr()?)?;
     let (left, wrong) = beside(rt, alloc, &listener, plan, way, &mut client, steps);
@@ -198,11 +196,9 @@ pub fn plan(sessions: u32, workers: u32, waits: Waits) -> Result<Plan, Fault> {
 type Row = (u32, u32, Waits, &'static [Step<'static>]);
 
 /// The place of the first of these servers that goes otherwise.
-fn first_wrong<R: Threads + Wait + Clock + Sync + Net<Listener = TcpListener, Stream = TcpStream>>(
-    rt: &R,
-    alloc: Global,
-    rows: &[Row],
-) -> Result<Option<usize>, Fault> {
+fn first_wrong<
+    R: Threads + Wait + Clock + Eprint + Sync + Net<Listener = TcpListener, Stream = TcpStream>,
+>(rt: &R, alloc: Global, rows: &[Row]) -> Result<Option<usize>, Fault> {
     let mut number = 0usize;
     for (sessions, workers, waits, steps) in rows {
         let plan = plan(*sessions, *workers, *waits)?;
@@ -500,12 +496,9 @@ fn end(listener: &TcpListener) {
 }
 
 /// Whether a server of two connections ends whose listener has ended once one was served.
-fn ends<R: Threads + Wait + Clock + Sync + Net<Listener = TcpListener, Stream = TcpStream>>(
-    rt: &R,
-    alloc: Global,
-    listener: &TcpListener,
-    plan: &Plan,
-) -> io::Result<bool> {
+fn ends<
+    R: Threads + Wait + Clock + Eprint + Sync + Net<Listener = TcpListener, Stream = TcpStream>,
+>(rt: &R, alloc: Global, listener: &TcpListener, plan: &Plan) -> io::Result<bool> {
     let mut client = Client::new(rt, alloc, listener.local_addr()?)?;
     let (left, wrong) = thread::join(
         rt,
@@ -528,11 +521,9 @@ fn a_failed_accept_ends_the_server(rt: HostRuntime) -> Result<(), Fail> {
 
 /// Whether a server that takes as many connections as come ends at the end of its input, and serves two before: one that is answered, and one that
 /// is idle then.
-fn stops<R: Threads + Wait + Clock + Sync + Net<Listener = TcpListener, Stream = TcpStream>>(
-    rt: &R,
-    alloc: Global,
-    listener: &TcpListener,
-) -> Result<bool, Fail> {
+fn stops<
+    R: Threads + Wait + Clock + Eprint + Sync + Net<Listener = TcpListener, Stream = TcpStream>,
+>(rt: &R, alloc: Global, listener: &TcpListener) -> Result<bool, Fail> {
     let inputs = TcpListener::bind(rt, "127.0.0.1:0")?;
     let far = TcpStream::connect(rt, inputs.local_addr()?)?;
     let (near, _) = inputs.accept()?;

@@ -1,5 +1,7 @@
 -- Laws of the fields of a head.
-use Rattle.std.proofs.Common.{subst, ◌≡◌, ℕ, Bool, true, false, List, [], ◌∷◌, ◌++◌, refl, sym, ap, ◌∙◌, append-nil}
+use Rattle.std.proofs.Common.{subst, ◌≡◌, ℕ, Bool, true, false, List, [], ◌∷◌, ◌++◌, refl, sym, ap, ◌∙◌, append-nil, map}
+use Rattle.std.specs.Prelude.{Vec}
+use Rattle.std.specs.declared.alloc.Global.{Global}
 use Rattle.std.specs.List.{list_all, list_any}
 use Rattle.std.proofs.lemmas.List.Folds.{list_all-append, list_any-append}
 use Rattle.std.proofs.Common.{◌||◌, ◌&&◌}
@@ -49,6 +51,17 @@ all_none p name = sym (ap (list_all p) (values_none name))
 
 pub values_same : {A : Type 0} (f : List (List ℕ) → A) (name : List ℕ) (hs more : List Header) (h : Header) → more ≡ hs ++ h ∷ [] → is_same_text h.0 name ≡ false → f (values_of name hs) ≡ f (values_of name more)
 values_same f name hs more h e other = ap f (sym (ap (values_of name) e ∙ values_other name hs h other))
+
+-- the bytes of values
+abbrev pub bytes_of : List (Vec ℕ Global) → List (List ℕ)
+bytes_of values = map (λ v. v.items) values
+
+-- a field more is found, or one of another name is passed over
+pub found_yes : (name : List ℕ) (hs more : List Header) (h : Header) (was now : List (Vec ℕ Global)) → more ≡ hs ++ h ∷ [] → is_same_text h.0 name ≡ true → bytes_of now ≡ bytes_of was ++ h.1 ∷ [] → bytes_of was ≡ values_of name hs → bytes_of now ≡ values_of name more
+found_yes name hs more h was now e same pushed found = pushed ∙ ap (λ (vs : List (List ℕ)). vs ++ h.1 ∷ []) found ∙ sym (ap (values_of name) e ∙ values_more name hs h same)
+
+pub found_no : (name : List ℕ) (hs more : List Header) (h : Header) (was : List (Vec ℕ Global)) → more ≡ hs ++ h ∷ [] → is_same_text h.0 name ≡ false → bytes_of was ≡ values_of name hs → bytes_of was ≡ values_of name more
+found_no name hs more h was e other found = found ∙ sym (ap (values_of name) e ∙ values_other name hs h other)
 
 pub twice : (a : List ℕ) (before : List (List ℕ)) → ((b : List ℕ) → before ≡ b ∷ [] → (x : List ℕ) × (y : List ℕ) × (rest : List (List ℕ)) × (before ++ a ∷ [] ≡ x ∷ y ∷ rest))
 twice a before b e = (b, a, [], ap (λ (t : List (List ℕ)). t ++ a ∷ []) e)

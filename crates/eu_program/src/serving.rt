@@ -101,13 +101,7 @@ fn input_of(until_input_ends: bool) -> Option<RawFd>
 
 /// What a server does that has these settings, serves so much as the options say, has so many connections at most, tables that hash by
 /// that key, and takes requests by that policy.
-fn plan_of(
-    config: Config,
-    serving: Serving,
-    connections: u32,
-    key: HashKey,
-    policy: Policy,
-) -> Plan
+fn plan_of(config: Config, serving: Serving, connections: u32, key: HashKey, policy: Policy) -> Plan
     ensures settings { result.config ≡ config }
     ensures expected { result.expected ≡ serving.expected }
     ensures workers { result.workers ≡ serving.workers }
@@ -174,14 +168,7 @@ pub fn serve<
         + AllocGlobal
         + Sync,
     C: Chooser + Send + Drop,
->(
-    rt: &R,
-    config: Config,
-    serving: Serving,
-    policy: Policy,
-    journal: Option<&str>,
-    chooser: C,
-) -> u8
+>(rt: &R, config: Config, serving: Serving, policy: Policy, journal: Option<&str>, chooser: C) -> u8
     ensures { (result ≡ 0) ⊎ (result ≡ 3) }
 {
     let Some(key) = draw_key(rt) else {

@@ -221,8 +221,7 @@ const OF_A_PAGE: &str =
     "GET /eureka/status HTTP/1.1\r\nHost: x\r\nOrigin: https://site.example\r\nConnection: close\r\n\r\n";
 
 /// The response to what is forbidden.
-const FORBIDDEN: &str =
-    "HTTP/1.1 403 Forbidden\r\nContent-Length: 0\r\nConnection: close\r\n\r\n";
+const FORBIDDEN: &str = "HTTP/1.1 403 Forbidden\r\nContent-Length: 0\r\nConnection: close\r\n\r\n";
 
 /// Peers are heard, and pages are not.
 const USUAL_POLICY: [Step; 3] = [

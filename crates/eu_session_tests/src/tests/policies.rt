@@ -5,8 +5,7 @@ use eu_http::Policy;
 use std::alloc::Global;
 
 /// What a page has a browser send, whatever it asks, and where it came from is told or not.
-const PAGES: &str =
-    r#"register = HTTP/1.1 204 No Content¶¶
+const PAGES: &str = r#"register = HTTP/1.1 204 No Content¶¶
 DELETE /eureka/apps/A/i1 HTTP/1.1¶Host: x¶Origin: https://site.example¶¶ = HTTP/1.1 403 Forbidden¶Content-Length: 0¶¶
 POST /eureka/peerreplication/batch/ HTTP/1.1¶Host: x¶Origin: null¶Content-Type: text/plain¶Content-Length: 67¶¶{"replicationList":[{"action":"Cancel","appName":"A","id":"i1"}]}¶ = HTTP/1.1 403 Forbidden¶Content-Length: 0¶¶
 GET /eureka/apps HTTP/1.1¶Host: x¶ORIGIN:¶¶ = HTTP/1.1 403 Forbidden¶Content-Length: 0¶¶
@@ -34,8 +33,7 @@ fn first_wrong_with(
 }
 
 /// A site whose pages may ask: each field has to be it, byte by byte.
-const SITE: &str =
-    r#"register = HTTP/1.1 204 No Content¶¶
+const SITE: &str = r#"register = HTTP/1.1 204 No Content¶¶
 PUT /eureka/apps/A/i1 HTTP/1.1¶Host: x¶Origin: https://site.example¶¶ = HTTP/1.1 200 OK¶Content-Length: 0¶¶
 PUT /eureka/apps/A/i1 HTTP/1.1¶Host: x¶Origin: https://site.example.evil.example¶¶ = HTTP/1.1 403 Forbidden¶Content-Length: 0¶¶
 PUT /eureka/apps/A/i1 HTTP/1.1¶Host: x¶Origin: https://site.exampl¶¶ = HTTP/1.1 403 Forbidden¶Content-Length: 0¶¶
@@ -56,8 +54,7 @@ fn pages_of_one_site_may_ask(rt: HostRuntime) {
 }
 
 /// What only peers send, and the same of a client.
-const PEERS: &str =
-    r#"register = HTTP/1.1 204 No Content¶¶
+const PEERS: &str = r#"register = HTTP/1.1 204 No Content¶¶
 PUT /eureka/apps/A/i1 HTTP/1.1¶Host: x¶x-netflix-discovery-replication: true¶¶ = HTTP/1.1 403 Forbidden¶Content-Length: 0¶¶
 PUT /eureka/apps/A/i1 HTTP/1.1¶Host: x¶x-netflix-discovery-replication: TRUE¶¶ = HTTP/1.1 200 OK¶Content-Length: 0¶¶
 PUT /eureka/apps/A/i1 HTTP/1.1¶Host: x¶¶ = HTTP/1.1 200 OK¶Content-Length: 0¶¶
@@ -76,8 +73,7 @@ fn a_server_without_peers_takes_nothing_of_theirs(rt: HostRuntime) {
 }
 
 /// Where nothing else is said, peers are heard.
-const HEARD: &str =
-    r#"register = HTTP/1.1 204 No Content¶¶
+const HEARD: &str = r#"register = HTTP/1.1 204 No Content¶¶
 PUT /eureka/apps/A/i1 HTTP/1.1¶Host: x¶x-netflix-discovery-replication: true¶¶ = HTTP/1.1 200 OK¶Content-Length: 0¶¶
 POST /eureka/peerreplication/batch/ {"replicationList":[]} = HTTP/1.1 200 OK¶Content-Type: application/json¶Content-Length: 19¶¶{"responseList":[]}
 POST /eureka/peerreplication/batch/ {"replicationList":[{"action":"Cancel","appName":"A","id":"i1"}]} = HTTP/1.1 200 OK¶Content-Type: application/json¶Content-Length: 37¶¶{"responseList":[{"statusCode":200}]}

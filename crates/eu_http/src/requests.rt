@@ -167,7 +167,7 @@ fn asks_by_route(
 /// - the faults of `eu_json::read_instance`;
 /// - `BadBatch`: the body of a batch isn't UTF-8, or isn't one (`eu_json::read_batch`).
 ///
-/// `OutOfMemory` comes where memory is refused, but never in place of `Forbidden` by the policy, of `NoRoute`, nor, where nothing in the path is encoded, of
+/// `OutOfMemory` comes where memory is refused, but never in place of `Forbidden` by the policy, nor of `NoRoute`, nor, where nothing in the path is encoded, of
 /// `BadPath`, or of `NotJson` and `BadBatch` for a body without a byte or that isn't UTF-8.
 pub fn asks(
     alloc: Global,

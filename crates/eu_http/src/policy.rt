@@ -59,7 +59,7 @@ impl Policy {
         allowed_origin: Option<&str>,
     ) -> Result<Policy, AllocError>
         ensures peers { IfOk result (λ p. p.accepts_peers ≡ accepts_peers) }
-        ensures origin { IfOk result (λ p. option_map (λ o. string_bytes o) p.allowed_origin ≡ option_map (λ o. o.now) allowed_origin) }
+        ensures origin { IfOk result (λ p. option_map (λ o. string_bytes o) p.allowed_origin ≡ option_map (λ o. o.now) allowed_origin.entry) }
     {
         let allowed_origin = match allowed_origin {
             Some(origin) => Some(String::from_str(alloc, origin)?),

@@ -526,7 +526,8 @@ fn serve_new<R: Threads + Wait + Clock + Net + Eprint + Sync, H: Chooser + Send 
 /// weren't before, or the other way round, and of connections that are refused, at most once a second (`eu_accept::Message`).
 ///
 /// A book is opened with the settings and the number expected, without peers. Each accepted connection is one session of
-/// HTTP/1.1 (`eu_session::take_turn`, turn by turn), at the machine's time; which requests are taken, the plan's policy says (`Policy::forbids`). Each belongs to one of the loops, which visits it whenever something has come,
+/// HTTP/1.1 (`eu_session::take_turn`, turn by turn), at the machine's time; which requests are taken, the plan's policy says (`Policy::forbids`). Each
+/// belongs to one of the loops, which visits it whenever something has come,
 /// or more can be sent; a request that takes long is answered by one of two other threads meanwhile. Beside them the evictor takes its turns, by the
 /// chooser's words, the bucket ends minutes, and the threshold is updated, each a period apart. Once the sessions have ended, so have these. Then the
 /// book is closed, and settled with what each worker logged.

@@ -52,16 +52,15 @@ all_none p name = sym (ap (list_all p) (values_none name))
 pub values_same : {A : Type 0} (f : List (List ℕ) → A) (name : List ℕ) (hs more : List Header) (h : Header) → more ≡ hs ++ h ∷ [] → is_same_text h.0 name ≡ false → f (values_of name hs) ≡ f (values_of name more)
 values_same f name hs more h e other = ap f (sym (ap (values_of name) e ∙ values_other name hs h other))
 
--- the bytes of values
-abbrev pub bytes_of : List (Vec ℕ Global) → List (List ℕ)
-bytes_of values = map (λ v. v.items) values
+values_on : (name : List ℕ) (hs : List Header) (h : Header) → values_of name (hs ++ h ∷ []) ≡ values_of name hs ++ values_of name (h ∷ [])
+unfolding values_of
+values_on name hs h = rw filter-append (rw map-append refl)
 
--- a field more is found, or one of another name is passed over
-pub found_yes : (name : List ℕ) (hs more : List Header) (h : Header) (was now : List (Vec ℕ Global)) → more ≡ hs ++ h ∷ [] → is_same_text h.0 name ≡ true → bytes_of now ≡ bytes_of was ++ h.1 ∷ [] → bytes_of was ≡ values_of name hs → bytes_of now ≡ values_of name more
-found_yes name hs more h was now e same pushed found = pushed ∙ ap (λ (vs : List (List ℕ)). vs ++ h.1 ∷ []) found ∙ sym (ap (values_of name) e ∙ values_more name hs h same)
-
-pub found_no : (name : List ℕ) (hs more : List Header) (h : Header) (was : List (Vec ℕ Global)) → more ≡ hs ++ h ∷ [] → is_same_text h.0 name ≡ false → bytes_of was ≡ values_of name hs → bytes_of was ≡ values_of name more
-found_no name hs more h was e other found = found ∙ sym (ap (values_of name) e ∙ values_other name hs h other)
+-- one more field, whose value is one more where it has the name
+pub found_more : (name : List ℕ) (hs more : List Header) (h : Header) (was now : List (Vec ℕ Global)) → more ≡ hs ++ h ∷ []
+    → map (λ v. v.items) now ≡ map (λ v. v.items) was ++ values_of name (h ∷ []) → map (λ v. v.items) was ≡ values_of name hs → map (λ v. v.items) now ≡ values_of name more
+found_more name hs more h was now e added found =
+    added ∙ ap (λ (vs : List (List ℕ)). vs ++ values_of name (h ∷ [])) found ∙ sym (ap (values_of name) e ∙ values_on name hs h)
 
 pub twice : (a : List ℕ) (before : List (List ℕ)) → ((b : List ℕ) → before ≡ b ∷ [] → (x : List ℕ) × (y : List ℕ) × (rest : List (List ℕ)) × (before ++ a ∷ [] ≡ x ∷ y ∷ rest))
 twice a before b e = (b, a, [], ap (λ (t : List (List ℕ)). t ++ a ∷ []) e)

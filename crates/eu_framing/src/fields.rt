@@ -93,11 +93,22 @@ fn has_value(text: &[u8], headers: &[HeaderSpan], name: &[u8], value: &[u8]) -> 
     found
 }
 
-/// Puts a value behind those that were found. `AllocError` where there is no memory for it.
-fn add_value(alloc: Global, found: &mut Vec<Vec<u8>>, value: &[u8]) -> Result<(), AllocError>
-    ensures { OnOk result (map (λ v. v.items) found.new.items ≡ map (λ v. v.items) found.old.items ++ value.now ∷ []) }
+/// Puts the value of a field behind those that were found, if the field has that name. `AllocError` where there is no memory for it.
+#[tactic(auto, unfolding(crate::specs::Fields::values_of))]
+fn add_named(
+    alloc: Global,
+    found: &mut Vec<Vec<u8>>,
+    text: &[u8],
+    header: &HeaderSpan,
+    name: &[u8],
+) -> Result<(), AllocError>
+    requires { IsHeaderWithin (length text.now) header.now }
+    ensures { OnOk result (map (λ v. v.items) found.new.items ≡ map (λ v. v.items) found.old.items ++ values_of name.now (header_bytes text.now header.now ∷ [])) }
 {
-    let value = Vec::from_slice(alloc, value)?;
+    if !is_same_text(header.name.of(text), name) {
+        return Ok(());
+    }
+    let value = Vec::from_slice(alloc, header.value.of(text))?;
     found.push(value)?;
     Ok(())
 }
@@ -114,9 +125,7 @@ fn find_values(
 {
     let mut found = Vec::new(alloc);
     for header in headers {
-        if is_same_text(header.name.of(text), name) {
-            add_value(alloc, &mut found, header.value.of(text))?;
-        }
+        add_named(alloc, &mut found, text, header, name)?;
     }
     Ok(found)
 }

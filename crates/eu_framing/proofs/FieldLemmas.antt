@@ -1,5 +1,7 @@
 -- Laws of the fields of a head.
-use Rattle.std.proofs.Common.{subst, ◌≡◌, ℕ, Bool, true, false, List, [], ◌∷◌, ◌++◌, refl, sym, ap, ◌∙◌, append-nil}
+use Rattle.std.proofs.Common.{subst, ◌≡◌, ℕ, Bool, true, false, List, [], ◌∷◌, ◌++◌, refl, sym, ap, ◌∙◌, append-nil, map}
+use Rattle.std.specs.Prelude.{Vec}
+use Rattle.std.specs.declared.alloc.Global.{Global}
 use Rattle.std.specs.List.{list_all, list_any}
 use Rattle.std.proofs.lemmas.List.Folds.{list_all-append, list_any-append}
 use Rattle.std.proofs.Common.{◌||◌, ◌&&◌}
@@ -49,6 +51,16 @@ all_none p name = sym (ap (list_all p) (values_none name))
 
 pub values_same : {A : Type 0} (f : List (List ℕ) → A) (name : List ℕ) (hs more : List Header) (h : Header) → more ≡ hs ++ h ∷ [] → is_same_text h.0 name ≡ false → f (values_of name hs) ≡ f (values_of name more)
 values_same f name hs more h e other = ap f (sym (ap (values_of name) e ∙ values_other name hs h other))
+
+values_on : (name : List ℕ) (hs : List Header) (h : Header) → values_of name (hs ++ h ∷ []) ≡ values_of name hs ++ values_of name (h ∷ [])
+unfolding values_of
+values_on name hs h = rw filter-append (rw map-append refl)
+
+-- one more field, whose value is one more where it has the name
+pub found_more : (name : List ℕ) (hs more : List Header) (h : Header) (was now : List (Vec ℕ Global)) → more ≡ hs ++ h ∷ []
+    → map (λ v. v.items) now ≡ map (λ v. v.items) was ++ values_of name (h ∷ []) → map (λ v. v.items) was ≡ values_of name hs → map (λ v. v.items) now ≡ values_of name more
+found_more name hs more h was now e added found =
+    added ∙ ap (λ (vs : List (List ℕ)). vs ++ values_of name (h ∷ [])) found ∙ sym (ap (values_of name) e ∙ values_on name hs h)
 
 pub twice : (a : List ℕ) (before : List (List ℕ)) → ((b : List ℕ) → before ≡ b ∷ [] → (x : List ℕ) × (y : List ℕ) × (rest : List (List ℕ)) × (before ++ a ∷ [] ≡ x ∷ y ∷ rest))
 twice a before b e = (b, a, [], ap (λ (t : List (List ℕ)). t ++ a ∷ []) e)

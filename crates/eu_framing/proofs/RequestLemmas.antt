@@ -72,6 +72,7 @@ next_whole b b' grown more rest head request e x makes reads =
         minor = makes.minor ∙ of.minor;
         closes_is = makes.closes ∙ of.closes_is;
         replicated = makes.replicated ∙ of.replicated;
+        origins = rw makes.origins of.origins;
         body = refl;
       },
       (drop head.len (b' ++ more), head_later b b' grown more head.len x.0 e x.3 x.1, head.framing, of.framing, reads),

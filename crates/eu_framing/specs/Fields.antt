@@ -96,6 +96,10 @@ closes minor headers = has_option (codes "close") headers || (minor == 0)
 abbrev pub is_replicated : List Header → Bool
 is_replicated headers = list_any (λ v. bytes_eq v (codes "true")) (values_of (codes "x-netflix-discovery-replication") headers)
 
+-- the values of its Origin fields, in order: of which site's page a browser sent it for (RFC 6454, section 7)
+abbrev pub origins_of : List Header → List (List ℕ)
+origins_of headers = values_of (codes "origin") headers
+
 -- a stated length is within the limit
 abbrev pub IsWithin : Framing → Type 0
 IsWithin NoBody = ⊤

@@ -1,5 +1,5 @@
 -- What is kept of a head. Only the contracts of private functions speak of this.
-use Rattle.std.specs.Prelude.{◌≡◌, ◌⊎◌, ◌≤◌, List, ℕ, ◌++◌, Option, Some, None, Result, Ok, Err, drop, length, string_bytes}
+use Rattle.std.specs.Prelude.{◌≡◌, ◌⊎◌, ◌≤◌, List, ℕ, ◌++◌, Option, Some, None, Result, Ok, Err, drop, length, map, string_bytes}
 use Rattle.httparse.specs.Grammar.{RequestHead}
 use Rattle.httparse.specs.Spans.{IsRequestAt}
 use Rattle.httparse.specs.declared.spans.HeaderSpan.{HeaderSpan}
@@ -8,7 +8,7 @@ use Rattle.eu_base.specs.declared.faults.Fault.{Fault}
 use Rattle.eu_base.specs.declared.faults.Fault.TheVariants as faults
 use Rattle.eu_framing.specs.declared.request.Head.{Head}
 use Rattle.eu_framing.specs.declared.request.Request.{Request}
-use Rattle.eu_framing.specs.Fields.{closes, is_replicated}
+use Rattle.eu_framing.specs.Fields.{closes, is_replicated, origins_of}
 use Rattle.eu_framing.specs.Message.{max_head, headers_of, framed, HasHead, IsEnd}
 
 -- it is what is kept of that head
@@ -18,6 +18,7 @@ pub record IsHeadOf (h : RequestHead) (head : Head) : Type 0 where
   pub minor : head.minor ≡ h.minor
   pub closes_is : head.closes ≡ closes h.minor (headers_of h)
   pub replicated : head.replicated ≡ is_replicated (headers_of h)
+  pub origins : map (λ o. o.items) head.origins.items ≡ origins_of (headers_of h)
   pub framing : framed h ≡ Ok head.framing
 
 -- it is what is kept of the head that the spans cover, or that head's fields have the fault
@@ -39,3 +40,4 @@ pub record Makes (request : Request) (head : Head) : Type 0 where
   pub minor : request.minor ≡ head.minor
   pub closes : request.closes ≡ head.closes
   pub replicated : request.replicated ≡ head.replicated
+  pub origins : request.origins ≡ head.origins

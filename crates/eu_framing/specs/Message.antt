@@ -7,7 +7,7 @@ use Rattle.httparse.specs.Spans.{name_and_value, RequestExceeds}
 use Rattle.eu_base.specs.declared.faults.Fault.{Fault}
 use Rattle.eu_framing.specs.declared.fields.Framing.{Framing}
 use Rattle.eu_framing.specs.declared.fields.Framing.TheVariants.{NoBody, Sized, Chunked}
-use Rattle.eu_framing.specs.Fields.{Header, framing_of, closes, is_replicated}
+use Rattle.eu_framing.specs.Fields.{Header, framing_of, closes, is_replicated, origins_of}
 use Rattle.eu_framing.specs.Chunks.{ReadsChunked, BreaksChunked}
 use Rattle.eu_framing.specs.declared.request.Request.{Request}
 use Rattle.eu_base.specs.declared.faults.Fault.TheVariants as faults
@@ -154,6 +154,7 @@ pub record IsRequest (request : Request) (m : Message) : Type 0 where
   pub minor : request.minor ≡ m.head.minor
   pub closes_is : request.closes ≡ closes m.head.minor (headers_of m.head)
   pub replicated : request.replicated ≡ is_replicated (headers_of m.head)
+  pub origins : map (λ o. o.items) request.origins.items ≡ origins_of (headers_of m.head)
   pub body : request.body.items ≡ m.body
 
 -- the bytes begin with that request, and the rest is behind it; or they end, and nothing of them is used

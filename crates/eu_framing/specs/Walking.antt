@@ -1,5 +1,6 @@
 -- How far a request was gone through that isn't whole yet. Only the contracts of private functions speak of this.
-use Rattle.std.specs.Prelude.{◌≡◌, ◌≤◌, ℕ, ◌+◌, ◌-◌, List, Option, Some, None, IfSome, length, drop, string_capacity, vec_capacity}
+use Rattle.std.specs.Prelude.{◌≡◌, ◌≤◌, ℕ, ◌+◌, ◌-◌, ◌*◌, List, [], ◌∷◌, Option, Some, None, IfSome, length, drop, string_capacity, Vec, vec_capacity}
+use Rattle.std.specs.declared.alloc.Global.{Global}
 use Rattle.eu_framing.specs.declared.walk.Walk.{Walk}
 use Rattle.eu_framing.specs.declared.request.Head.{Head}
 use Rattle.eu_framing.specs.declared.request.Begun.{Begun}
@@ -37,9 +38,18 @@ pub record IsBegun (buffer : List ℕ) (begun : Begun) : Type 0 where
   pub framing : IsWithin begun.head.framing
   pub walk : Stands begun.head.len buffer begun.walk
 
--- so many bytes of memory what is known of a request has: its texts and its body
+-- so many bytes of memory these values have
+abbrev pub values_memory : List (Vec ℕ Global) → ℕ
+values_memory [] = 0
+values_memory (value ∷ values) = vec_capacity value + values_memory values
+
+-- and so many with their list, which has 24 bytes for each place
+abbrev pub list_memory : Vec (Vec ℕ Global) Global → ℕ
+list_memory values = values_memory values.items + 24 * vec_capacity values
+
+-- so many bytes of memory what is known of a request has: its texts, its values and its body
 abbrev pub begun_memory : Begun → ℕ
-begun_memory b = string_capacity b.head.method + string_capacity b.head.target + vec_capacity b.walk.body
+begun_memory b = string_capacity b.head.method + string_capacity b.head.target + list_memory b.head.origins + vec_capacity b.walk.body
 
 -- the same, where there may be none
 abbrev pub waiting_memory : Option Begun → ℕ

@@ -1,15 +1,16 @@
 //! What the fields of a head say.
-ghost use Rattle.std.specs.Prelude.{◌≡◌, ◌∷◌, ◌++◌, [], ◌≤◌, ◌<◌, List, ℕ, length, map, if◌then◌else◌, Some, None, All, codes, IfOk, bytes_eq};
+ghost use Rattle.std.specs.Prelude.{◌≡◌, ◌∷◌, ◌++◌, [], ◌≤◌, ◌<◌, List, ℕ, length, map, if◌then◌else◌, Some, None, All, codes, IfOk, OnOk, bytes_eq};
 ghost use Rattle.std.specs.List.{list_all, list_any};
 ghost use Rattle.std.specs.Str.Parse.{digits_value};
 ghost use Rattle.httparse.specs.Spans.{IsHeaderWithin, header_bytes};
-ghost use Rattle.eu_framing.specs.Fields.{values_of, is_length, one_length, one_coding, has_member, is_same_text, stated_by, has_host, within_limit, framing_of, closes, is_replicated, IsWithin};
+ghost use Rattle.eu_framing.specs.Fields.{values_of, is_length, one_length, one_coding, has_member, is_same_text, stated_by, has_host, within_limit, framing_of, closes, is_replicated, origins_of, IsWithin};
 ghost use Rattle.eu_framing.specs.Said.{IsSaid};
 
 use crate::MAX_BODY;
 use crate::lists::has_member;
 use eu_base::{Fault, read_digits};
 use httparse::spans::HeaderSpan;
+use std::alloc::{AllocError, Global};
 
 /// How a body is framed.
 #[derive(Clone, Copy, Debug, PartialEq, Eq)]
@@ -90,6 +91,43 @@ fn has_value(text: &[u8], headers: &[HeaderSpan], name: &[u8], value: &[u8]) -> 
         }
     }
     found
+}
+
+/// Puts the value of a field behind those that were found, if the field has that name. `AllocError` where there is no memory for it.
+#[tactic(auto, unfolding(crate::specs::Fields::values_of))]
+fn add_named(
+    alloc: Global,
+    found: &mut Vec<Vec<u8>>,
+    text: &[u8],
+    header: &HeaderSpan,
+    name: &[u8],
+) -> Result<(), AllocError>
+    requires { IsHeaderWithin (length text.now) header.now }
+    ensures { OnOk result (map (λ v. v.items) found.new.items ≡ map (λ v. v.items) found.old.items ++ values_of name.now (header_bytes text.now header.now ∷ [])) }
+{
+    if !is_same_text(header.name.of(text), name) {
+        return Ok(());
+    }
+    let value = Vec::from_slice(alloc, header.value.of(text))?;
+    found.push(value)?;
+    Ok(())
+}
+
+/// The values of the fields of a name, in order. `AllocError` where there is no memory for them.
+fn find_values(
+    alloc: Global,
+    text: &[u8],
+    headers: &[HeaderSpan],
+    name: &[u8],
+) -> Result<Vec<Vec<u8>>, AllocError>
+    requires { All (IsHeaderWithin (length text.now)) headers.now }
+    ensures { IfOk result (λ found. map (λ v. v.items) found.items ≡ values_of name.now (map (header_bytes text.now) headers.now)) }
+{
+    let mut found = Vec::new(alloc);
+    for header in headers {
+        add_named(alloc, &mut found, text, header, name)?;
+    }
+    Ok(found)
 }
 
 /// Whether each field of a name has exactly that value.
@@ -202,4 +240,16 @@ pub fn find_replicated(text: &[u8], headers: &[HeaderSpan]) -> bool
     ensures { result ≡ is_replicated (map (header_bytes text.now) headers.now) }
 {
     has_value(text, headers, b"x-netflix-discovery-replication", b"true")
+}
+
+/// The values of the `Origin` fields, in order. Takes no memory where there is none; `AllocError` where there is none left for them.
+pub fn find_origins(
+    alloc: Global,
+    text: &[u8],
+    headers: &[HeaderSpan],
+) -> Result<Vec<Vec<u8>>, AllocError>
+    requires { All (IsHeaderWithin (length text.now)) headers.now }
+    ensures { IfOk result (λ found. map (λ v. v.items) found.items ≡ origins_of (map (header_bytes text.now) headers.now)) }
+{
+    find_values(alloc, text, headers, b"origin")
 }

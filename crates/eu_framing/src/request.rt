@@ -8,12 +8,13 @@ ghost use Rattle.eu_framing.specs.Message.{IsEnd, IsFault, max_head, FindsNext, 
 ghost use Rattle.eu_framing.specs.Reading.{Grows, Blames};
 ghost use Rattle.eu_framing.specs.Steps.{HasHeadAt};
 ghost use Rattle.eu_framing.specs.HeadSteps.{GivesHead, FindsHead, Makes};
+ghost use Rattle.eu_framing.specs.Walking as spec;
 ghost use Rattle.eu_framing.specs.Walking.{IsBegun, begun_memory};
 
 use crate::MAX_HEAD;
 use crate::body::read_body;
 use crate::buffer::{Room, drop_front, window};
-use crate::fields::{Framing, find_closes, find_framing, find_replicated};
+use crate::fields::{Framing, find_closes, find_framing, find_origins, find_replicated};
 use crate::head::find_head;
 use crate::inbox::Inbox;
 use crate::walk::Walk;
@@ -21,6 +22,9 @@ use eu_base::Fault;
 use eu_stream::Source;
 use httparse::spans::{HeaderSpan, RequestSpans};
 use std::alloc::{AllocError, Global};
+
+/// So many bytes a list has for each of its values, beside the value's own.
+const PLACE: usize = 24;
 
 /// A request, whole.
 #[derive(Debug, Drop)]
@@ -35,6 +39,9 @@ pub struct Request {
     pub closes: bool,
     /// Another server sent the request on: a field `x-netflix-discovery-replication` says `true`.
     pub replicated: bool,
+    /// The values of its `Origin` fields, in order (RFC 6454, section 7): a browser sends one for a page that asks. Mostly there is none, which
+    /// takes no memory.
+    pub origins: Vec<Vec<u8>>,
     /// The body, without its framing.
     pub body: Vec<u8>,
 }
@@ -61,6 +68,7 @@ pub struct Head {
     minor: u8,
     closes: bool,
     replicated: bool,
+    origins: Vec<Vec<u8>>,
     framing: Framing,
     /// So many bytes it has.
     len: usize,
@@ -78,9 +86,29 @@ impl Head {
             minor: self.minor,
             closes: self.closes,
             replicated: self.replicated,
+            origins: self.origins,
             body,
         }
     }
+}
+
+/// How many bytes of memory these values have.
+fn values_memory(values: &[Vec<u8>]) -> usize
+    ensures { result ≡ min (spec.values_memory values.now) (2 ^ 64 - 1) }
+{
+    let mut memory = 0usize;
+    for value in values {
+        memory = memory.saturating_add(value.capacity());
+    }
+    memory
+}
+
+/// How many bytes of memory they have with their list.
+fn memory_of(values: &Vec<Vec<u8>>) -> usize
+    ensures { result ≡ min (spec.list_memory values.now) (2 ^ 64 - 1) }
+{
+    let places = values.capacity().saturating_mul(PLACE);
+    values_memory(values).saturating_add(places)
 }
 
 /// A request whose head is whole, and how far its body was gone through.
@@ -91,14 +119,15 @@ pub struct Begun {
 }
 
 impl Begun {
-    /// How many bytes of memory its texts and its body have.
+    /// How many bytes of memory its texts, its values and its body have.
     pub fn memory(&self) -> usize
         ensures { result ≡ min (begun_memory self.now) (2 ^ 64 - 1) }
     {
         let method = self.head.method.capacity();
         let target = self.head.target.capacity();
         let texts = method.saturating_add(target);
-        texts.saturating_add(self.walk.body.capacity())
+        let said = texts.saturating_add(memory_of(&self.head.origins));
+        said.saturating_add(self.walk.body.capacity())
     }
 }
 
@@ -131,6 +160,7 @@ fn copy_head(
         minor: found.version,
         closes: find_closes(found.version, text, headers),
         replicated: find_replicated(text, headers),
+        origins: find_origins(alloc, text, headers)?,
         framing,
         len: found.len,
     })

@@ -19,7 +19,7 @@ use Rattle.eu_routes.specs.Path.{path_of, IsUncoded}
 use Rattle.eu_routes.specs.Table.{ask_at, needs_memory, resource_of, route_of, IsKnown}
 use Rattle.eu_routes.proofs.PathLemmas.{uncoded_path}
 use Rattle.eu_routes.proofs.RouteLemmas.{known, posted, registered}
-use Rattle.eu_http.specs.Asks.{asks_of, batch_in, instance_in, HasBody, IsAsked, IsText}
+use Rattle.eu_http.specs.Asks.{asks_by_route, batch_in, instance_in, HasBody, HasRoute, IsText}
 
 -- a text is read
 pub of_text : {A : Type 0} (body : List ℕ) (read other : A) → IsUtf8 body → (if is_utf8 body then read else other) ≡ read
@@ -89,7 +89,7 @@ query_in request = target.query_of (string_bytes request.target)
 
 -- where it has a route
 pub asked : (request : Request) (named : Route) → route_of (string_bytes request.method) (target.path_of (string_bytes request.target)) (query_in request) request.replicated ≡ Ok named
-    → HasBody named request.body.items → IsAsked request
+    → HasBody named request.body.items → HasRoute request
 asked request named is has = (
   known (resource_of (path_in request)) (string_bytes request.method) (path_in request) (query_in request) request.replicated named is,
   λ uncoded post.
@@ -100,7 +100,7 @@ asked request named is has = (
 
 -- where its body is none, a POST that needs memory is told so
 pub not_json : (request : Request) (moment : ℕ) → string_bytes request.method ≡ codes "POST" → IsUncoded (target.path_of (string_bytes request.target)) → ¬ (IsText request.body.items)
-    → IsKnown (resource_of (path_in request)) (string_bytes request.method) (path_in request) → needs_memory (resource_of (path_in request)) ≡ true → asks_of request moment ≡ Err NotJson
+    → IsKnown (resource_of (path_in request)) (string_bytes request.method) (path_in request) → needs_memory (resource_of (path_in request)) ≡ true → asks_by_route request moment ≡ Err NotJson
 not_json request moment post uncoded none is needs =
     let named = registered (resource_of (path_in request)) (path_in request) (query_in request) request.replicated
     (subst (λ m. IsKnown (resource_of (path_in request)) m (path_in request)) post is) needs (uncoded_path _ uncoded) in

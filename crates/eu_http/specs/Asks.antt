@@ -1,5 +1,5 @@
 -- What a request asks of the registry
-use Rattle.std.specs.Prelude.{◌≡◌, ◌≢◌, ℕ, Bool, true, List, [], ◌∷◌, codes, Option, Some, None, Result, Ok, Err, map, if◌then◌else◌, string_bytes}
+use Rattle.std.specs.Prelude.{◌≡◌, ◌≢◌, ℕ, Bool, true, false, List, [], ◌∷◌, codes, Option, Some, None, Result, Ok, Err, map, if◌then◌else◌, string_bytes}
 use Rattle.std.specs.Str.{is_utf8}
 use Rattle.eu_base.specs.declared.faults.Fault.{Fault}
 use Rattle.eu_base.specs.declared.faults.Fault.TheVariants.{NotJson, BadBatch}
@@ -19,9 +19,11 @@ use Rattle.eu_framing.specs.Message as target
 use Rattle.eu_model.specs.declared.asks.Ask.{Ask}
 use Rattle.eu_model.specs.declared.asks.Ask.TheVariants.{Do, See}
 use Rattle.eu_http.specs.declared.exchange.Asked.{Asked}
+use Rattle.eu_http.specs.declared.policy.Policy.{Policy}
 use Rattle.eu_http.specs.declared.wanted.Wanted.{Wanted}
 use Rattle.eu_http.specs.declared.wanted.Wanted.TheVariants as wanted
 use Rattle.eu_http.specs.declared.exchange.Asked.TheVariants as asked
+use Rattle.eu_http.specs.Policy.{forbids}
 
 -- the instance that a body says, for an application at a moment
 abbrev pub instance_in : List ℕ → ℕ → List ℕ → Result Instance Fault
@@ -59,11 +61,15 @@ asks_for (route.One key) replicated body moment = Ok (Some (record { wanted = wa
 asks_for route.Delta replicated body moment = Ok None
 asks_for route.StatusPage replicated body moment = Ok (Some (record { wanted = wanted.Page; asks = See query.Page ∷ [] }))
 
--- what a request asks at a moment, or its first fault
-abbrev pub asks_of : Request → ℕ → Result (Option Wants) Fault
-asks_of request moment = do
+-- what a request asks at a moment, where no policy forbids it, or its first fault
+abbrev pub asks_by_route : Request → ℕ → Result (Option Wants) Fault
+asks_by_route request moment = do
   named ← route_of (string_bytes request.method) (target.path_of (string_bytes request.target)) (target.query_of (string_bytes request.target)) request.replicated
   asks_for named request.replicated request.body.items moment
+
+-- what a request asks at a moment, or its first fault; nothing, where the policy forbids it, whatever it would ask
+abbrev pub asks_of : Policy → Request → ℕ → Result (Option Wants) Fault
+asks_of policy request moment = if forbids policy request then Ok None else asks_by_route request moment
 
 abbrev pub wants_in : Asked → Option Wants
 wants_in asked.Forbidden = None
@@ -86,7 +92,11 @@ HasBody route.Batch body = IsText body
 HasBody _ body = Unit {0}
 
 -- There is such a route. Where nothing in the path is encoded, its names are names, and the body of a POST is a text that isn't empty
-abbrev pub IsAsked : Request → Type 0
-IsAsked request =
+abbrev pub HasRoute : Request → Type 0
+HasRoute request =
     IsKnown (resource_of (path_of (target.path_of (string_bytes request.target)))) (string_bytes request.method) (path_of (target.path_of (string_bytes request.target)))
     × (IsUncoded (target.path_of (string_bytes request.target)) → string_bytes request.method ≡ codes "POST" → IsText request.body.items)
+
+-- the policy doesn't forbid it, and it has a route
+abbrev pub IsAsked : Policy → Request → Type 0
+IsAsked policy request = (forbids policy request ≡ false) × HasRoute request

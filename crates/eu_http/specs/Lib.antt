@@ -1,3 +1,4 @@
 pub mod Response
+pub mod Policy
 pub mod Asks
 pub mod Written

@@ -7,7 +7,7 @@ use eu_model::{Answer, Ask};
 /// What a request asks.
 #[derive(Debug, Drop)]
 pub enum Asked {
-    /// Nothing: what it wants is never given.
+    /// Nothing: the policy forbids it, or what it wants is never given.
     Forbidden,
     /// These.
     Asks {
@@ -23,7 +23,7 @@ pub enum Asked {
 pub enum Outcome {
     /// It was refused before anything was asked: by its framing, its path, its query or its body.
     Refused(Fault),
-    /// What it wants is never given.
+    /// The policy forbids it, or what it wants is never given.
     Forbidden,
     /// It was asked.
     Answers {

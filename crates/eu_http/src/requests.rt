@@ -5,6 +5,7 @@ ghost use Rattle.eu_base.specs.Gives.{Gives, result_map};
 ghost use Rattle.eu_routes.specs.Path.{IsUncoded};
 
 use crate::exchange::Asked;
+use crate::policy::Policy;
 use crate::wanted::Wanted;
 use eu_base::{App, Fault, Moment, SharedInstance};
 use eu_framing::Request;
@@ -131,8 +132,28 @@ fn lacks_text(request: &Request, path: &str) -> bool
     !is_text(&request.body)
 }
 
+/// What a request asks that no policy forbids. The faults are those of `asks`.
+fn asks_by_route(
+    alloc: Global,
+    routes: &Routes,
+    request: &Request,
+    moment: Moment,
+) -> Result<Asked, Fault>
+    ensures said { spec.Says result (spec.asks_by_route request.now moment) }
+    ensures memory { result ≡ Err Fault.OutOfMemory → spec.HasRoute request.now }
+{
+    let (path, query) = request.parts();
+    match routes.find(alloc, &request.method, path, query, request.replicated) {
+        Ok(route) => asks_for(alloc, route, request, moment),
+        Err(Fault::OutOfMemory) if lacks_text(request, path) => Err(Fault::NotJson),
+        Err(fault) => Err(fault),
+    }
+}
+
 /// What a request asks of the registry at a moment (`ApplicationResource`, `InstanceResource`, `ApplicationsResource` and
 /// `PeerReplicationResource` in Eureka).
+///
+/// `Forbidden` comes first, where the policy forbids the request (`Policy::forbids`), whatever it would ask, and takes no memory.
 ///
 /// A command is replicated where the request is. A registration's instance is the one that the body says, for the path's
 /// application, at that moment. A batch asks the commands that the body says at that moment, in their order, which are all
@@ -146,21 +167,20 @@ fn lacks_text(request: &Request, path: &str) -> bool
 /// - the faults of `eu_json::read_instance`;
 /// - `BadBatch`: the body of a batch isn't UTF-8, or isn't one (`eu_json::read_batch`).
 ///
-/// `OutOfMemory` comes where memory is refused, but never in place of `NoRoute`, nor, where nothing in the path is encoded, of
+/// `OutOfMemory` comes where memory is refused, but never in place of `Forbidden` by the policy, nor of `NoRoute`, nor, where nothing in the path is encoded, of
 /// `BadPath`, or of `NotJson` and `BadBatch` for a body without a byte or that isn't UTF-8.
 pub fn asks(
     alloc: Global,
     routes: &Routes,
+    policy: &Policy,
     request: &Request,
     moment: Moment,
 ) -> Result<Asked, Fault>
-    ensures said { spec.Says result (spec.asks_of request.now moment) }
-    ensures memory { result ≡ Err Fault.OutOfMemory → spec.IsAsked request.now }
+    ensures said { spec.Says result (spec.asks_of policy.now request.now moment) }
+    ensures memory { result ≡ Err Fault.OutOfMemory → spec.IsAsked policy.now request.now }
 {
-    let (path, query) = request.parts();
-    match routes.find(alloc, &request.method, path, query, request.replicated) {
-        Ok(route) => asks_for(alloc, route, request, moment),
-        Err(Fault::OutOfMemory) if lacks_text(request, path) => Err(Fault::NotJson),
-        Err(fault) => Err(fault),
+    if policy.forbids(routes, request) {
+        return Ok(Asked::Forbidden);
     }
+    asks_by_route(alloc, routes, request, moment)
 }

@@ -109,10 +109,18 @@ with_limits app =
 abbrev pub with_quiet : App → App
 with_quiet app = with_rule app quiet_rule
 
--- a command with the sixteen options of a server more
-abbrev pub with_server_options : App → ValueParser → App
-with_server_options app switch =
-    with_quiet (with_limits (with_work (with_address (with_rule (with_settings app switch) drawing_rule))))
+-- the option `--allow-origin ORIGIN`, which may be left out
+abbrev pub origin_rule : Rule
+origin_rule = record (new_rule (codes "allow-origin")) { long = Some (codes "allow-origin"); value_names = 1 }
+
+-- a command with the two options more that say which requests a server takes
+abbrev pub with_policy : App → ValueParser → App
+with_policy app switch = with_rule (with_rule app (option_rule (codes "accept-peers") switch (codes "on"))) origin_rule
+
+-- a command with the eighteen options of a server more
+abbrev pub with_server_options : App → ValueParser → ValueParser → App
+with_server_options app switch peers =
+    with_quiet (with_policy (with_limits (with_work (with_address (with_rule (with_settings app switch) drawing_rule)))) peers)
 
 -- the option `--journal FILE`, which may be left out
 abbrev pub journal_rule : Rule
@@ -126,12 +134,12 @@ abbrev required : App → App
 required app = record app { top = record app.top { subcommand_required = true } }
 
 -- `eureka script`, `eureka audit` and `eureka serve` with their options: the subcommand has to be there
-abbrev pub program_app : ValueParser → ValueParser → ValueParser → App
-program_app one other third =
+abbrev pub program_app : ValueParser → ValueParser → ValueParser → ValueParser → App
+program_app one other third peers =
     with_subcommand (with_subcommand (with_subcommand (required (new_app (codes "eureka")))
     (with_journal (with_options (new_app (codes "script")) one)).top)
     (with_journal (with_options (new_app (codes "audit")) other)).top)
-    (with_journal (with_server_options (new_app (codes "serve")) third)).top
+    (with_journal (with_server_options (new_app (codes "serve")) third peers)).top
 
 -- ---- what was given
 
@@ -178,3 +186,4 @@ IsServing m s =
     × IsNumber m (codes "expected") s.expected × IsNumber m (codes "connections") s.connections
     × IsNumber m (codes "idle-ms") s.idle_ms × IsNumber m (codes "request-ms") s.request_ms
     × IsFlag m (codes "until-input-ends") s.until_input_ends × IsFlag m (codes "quiet") s.is_quiet
+    × IsSwitch m (codes "accept-peers") s.accepts_peers

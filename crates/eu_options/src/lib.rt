@@ -5,6 +5,7 @@ mod options;
 mod serving;
 
 pub use options::{
-    bind_text, command, config_of, drawing_of, journal_of, seed_of, seed_text, serving_of,
+    bind_text, command, config_of, drawing_of, journal_of, origin_of, seed_of, seed_text,
+    serving_of,
 };
 pub use serving::{Drawing, Serving, connections_within};

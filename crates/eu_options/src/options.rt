@@ -6,7 +6,7 @@ ghost use Rattle.std.specs.declared.net.ip_addr.IpAddr.{IpAddr};
 ghost use Rattle.eu_options.specs.declared.serving.Drawing.{Drawing};
 ghost use Rattle.eu_options.specs.declared.serving.Drawing.TheVariants.{FirstOnes, Seeded, FromSystem};
 ghost use Rattle.eu_options.specs.declared.serving.Serving.{Serving};
-ghost use Rattle.eu_options.specs.Options.{option_rule, needed_rule, bind_rule, drawing_rule, forever_rule, until_rule, quiet_rule, sessions_rule, with_journal, with_address, with_limits, with_options, with_quiet, with_server_options, with_settings, with_work, seed_rule, program_app, IsSwitchParser, IsAddress, IsConfig, IsDrawing, IsEnd, IsFlag, IsNumber, IsServing};
+ghost use Rattle.eu_options.specs.Options.{option_rule, needed_rule, bind_rule, drawing_rule, forever_rule, until_rule, quiet_rule, sessions_rule, origin_rule, with_journal, with_address, with_limits, with_options, with_policy, with_quiet, with_server_options, with_settings, with_work, seed_rule, program_app, IsSwitch, IsSwitchParser, IsAddress, IsConfig, IsDrawing, IsEnd, IsFlag, IsNumber, IsServing};
 
 use crate::serving::{Drawing, Serving};
 use clap::builder::ValueParser;
@@ -240,6 +240,31 @@ fn with_limits<'a>(alloc: Global, command: Command<'a>) -> Result<Command<'a>, A
     command.arg(connections)?.arg(idle_ms)?.arg(request_ms)
 }
 
+/// The option `--allow-origin ORIGIN`, which may be left out.
+fn origin_option<'a>(alloc: Global) -> Arg<'a>
+    ensures rule { rule_of result ≡ origin_rule }
+    ensures local { result.global ≡ false }
+{
+    Arg::new(alloc, "allow-origin")
+        .long("allow-origin")
+        .value_name("ORIGIN")
+        .help(
+            "Takes requests with this Origin field, as https://example.com; without it, none that has one",
+        )
+}
+
+/// The options that say which requests a server takes.
+fn with_policy<'a>(alloc: Global, command: Command<'a>) -> Result<Command<'a>, AllocError>
+    ensures app { IfOk result (λ c. (switch : _) × IsSwitchParser switch × (app_of c ≡ with_policy (app_of command.entry) switch)) }
+    ensures local { (out-Command command.entry).has_globals ≡ false → IfOk result (λ c. (out-Command c).has_globals ≡ false) }
+{
+    let switch = ValueParser::from(SWITCH.as_slice());
+    let peers = option(alloc, "accept-peers", "on|off", switch, "on").help(
+        "Whether requests that only peers send are taken: replicated ones, and batches",
+    );
+    command.arg(peers)?.arg(origin_option(alloc))
+}
+
 /// The option that names the file of a journal.
 fn with_journal<'a>(
     alloc: Global,
@@ -293,7 +318,7 @@ fn with_quiet<'a>(alloc: Global, command: Command<'a>) -> Result<Command<'a>, Al
 
 /// The options of a server.
 fn with_server<'a>(alloc: Global, command: Command<'a>) -> Result<Command<'a>, AllocError>
-    ensures app { IfOk result (λ c. (switch : _) × IsSwitchParser switch × (app_of c ≡ with_server_options (app_of command.entry) switch)) }
+    ensures app { IfOk result (λ c. (switch : _) × (peers : _) × IsSwitchParser switch × IsSwitchParser peers × (app_of c ≡ with_server_options (app_of command.entry) switch peers)) }
     ensures local { (out-Command command.entry).has_globals ≡ false → IfOk result (λ c. (out-Command c).has_globals ≡ false) }
 {
     let settings = with_settings(alloc, command)?;
@@ -301,12 +326,13 @@ fn with_server<'a>(alloc: Global, command: Command<'a>) -> Result<Command<'a>, A
     let address = with_address(alloc, drawing)?;
     let work = with_work(alloc, address)?;
     let limits = with_limits(alloc, work)?;
-    with_quiet(alloc, limits)
+    let policy = with_policy(alloc, limits)?;
+    with_quiet(alloc, policy)
 }
 
 /// The command `serve` with its options.
 fn serve<'a>(alloc: Global) -> Result<Command<'a>, AllocError>
-    ensures app { IfOk result (λ c. (switch : _) × IsSwitchParser switch × (app_of c ≡ with_journal (with_server_options (new_app (codes "serve")) switch))) }
+    ensures app { IfOk result (λ c. (switch : _) × (peers : _) × IsSwitchParser switch × IsSwitchParser peers × (app_of c ≡ with_journal (with_server_options (new_app (codes "serve")) switch peers))) }
     ensures local { IfOk result (λ c. (out-Command c).has_globals ≡ false) }
 {
     let serve = Command::new(alloc, "serve").about("Serves clients over HTTP");
@@ -315,7 +341,7 @@ fn serve<'a>(alloc: Global) -> Result<Command<'a>, AllocError>
 
 /// The command line: `eureka script`, `eureka audit` and `eureka serve` with their options. `AllocError` where no memory is left.
 pub fn command<'a>(alloc: Global) -> Result<Command<'a>, AllocError>
-    ensures { IfOk result (λ c. (one : _) × (other : _) × (third : _) × IsSwitchParser one × IsSwitchParser other × IsSwitchParser third × (app_of c ≡ program_app one other third)) }
+    ensures { IfOk result (λ c. (one : _) × (other : _) × (third : _) × (peers : _) × IsSwitchParser one × IsSwitchParser other × IsSwitchParser third × IsSwitchParser peers × (app_of c ≡ program_app one other third peers)) }
 {
     let script = script(alloc)?;
     let audit = audit(alloc)?;
@@ -412,6 +438,13 @@ pub fn bind_text<'a>(matches: &ArgMatches<'a>) -> Option<&'a str>
     matches.get_str("bind")
 }
 
+/// The text of `--allow-origin`, if the options give one.
+pub fn origin_of<'a>(matches: &ArgMatches<'a>) -> Option<&'a str>
+    ensures { option_map (λ text. text.now) result ≡ first_value (found_of matches.now) (codes "allow-origin") }
+{
+    matches.get_str("allow-origin")
+}
+
 /// The text of `--seed`, if the options give one.
 pub fn seed_text<'a>(matches: &ArgMatches<'a>) -> Option<&'a str>
     ensures { option_map (λ text. text.now) result ≡ first_value (found_of matches.now) (codes "seed") }
@@ -445,6 +478,15 @@ fn flag_of(matches: &ArgMatches<'_>, name: &str) -> Option<bool>
     Some(text == "true")
 }
 
+/// Whether the option of that name, which is on or off, is on. None where the options don't say it.
+fn switch_of(matches: &ArgMatches<'_>, name: &str) -> Option<bool>
+    ensures some { IfSome result (IsSwitch matches.now name.now) }
+    ensures none { (b : Bool) → IsSwitch matches.now name.now b → IsSome result }
+{
+    let text = matches.get_str(name)?;
+    Some(text == "on")
+}
+
 /// What the options of a server say. None where the text of `--bind` is no IP address; or where one is missing or out of its range, which the
 /// command line rules out.
 pub fn serving_of(matches: &ArgMatches<'_>) -> Option<Serving>
@@ -461,6 +503,7 @@ pub fn serving_of(matches: &ArgMatches<'_>) -> Option<Serving>
     let request_ms = number_within(matches, "request-ms", 1, u32::MAX)?;
     let until_input_ends = flag_of(matches, "until-input-ends")?;
     let is_quiet = flag_of(matches, "quiet")?;
+    let accepts_peers = switch_of(matches, "accept-peers")?;
     Some(Serving {
         port,
         bind,
@@ -472,5 +515,6 @@ pub fn serving_of(matches: &ArgMatches<'_>) -> Option<Serving>
         request_ms,
         until_input_ends,
         is_quiet,
+        accepts_peers,
     })
 }

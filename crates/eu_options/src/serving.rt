@@ -26,6 +26,8 @@ pub struct Serving {
     pub until_input_ends: bool,
     /// Whether it tells nothing of evictions and of connections that are refused.
     pub is_quiet: bool,
+    /// Whether it takes requests of peers.
+    pub accepts_peers: bool,
     ghost workers_bound: { (1 ≤ workers) × (workers ≤ 16) },
     ghost connections_bound: { (1 ≤ connections) × (connections ≤ 1000000) },
     ghost idle_bound: { 1 ≤ idle_ms },

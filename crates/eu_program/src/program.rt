@@ -10,9 +10,11 @@ use clap::error::ErrorKind;
 use clap::{ArgMatches, Error};
 use eu_base::{Config, Fault};
 use eu_clock::{Chooser, FirstChooser, RngChooser};
+use eu_http::Policy;
 use eu_journal_audit::run_journal_audit;
 use eu_options::{
-    Drawing, bind_text, command, config_of, drawing_of, journal_of, seed_of, seed_text, serving_of,
+    Drawing, Serving, bind_text, command, config_of, drawing_of, journal_of, origin_of, seed_of,
+    seed_text, serving_of,
 };
 use eu_script::{run_audit, run_script, run_script_with_journal};
 use std::net::{Net, TcpListener, TcpStream};
@@ -195,6 +197,46 @@ fn draw_seed<R: RandomSource + Eprint>(rt: &R) -> Option<u64> {
     }
 }
 
+/// Serves as the options say, with victims that are drawn so, and gives the exit status.
+fn serve_drawing<
+    R: Threads
+        + Wait
+        + Clock
+        + Net<Listener = TcpListener, Stream = TcpStream>
+        + Files
+        + RandomSource
+        + Print
+        + Eprint
+        + AllocGlobal
+        + Sync,
+>(
+    rt: &R,
+    config: Config,
+    serving: Serving,
+    policy: Policy,
+    journal: Option<&str>,
+    drawing: Drawing,
+) -> u8
+    ensures { (result ≡ 0) ⊎ ((result ≡ 2) ⊎ (result ≡ 3)) }
+{
+    let seed = match drawing {
+        Drawing::FirstOnes => return serve(rt, config, serving, policy, journal, FirstChooser),
+        Drawing::Seeded(seed) => Some(seed),
+        Drawing::FromSystem => draw_seed(rt),
+    };
+    match seed {
+        Some(seed) => serve(
+            rt,
+            config,
+            serving,
+            policy,
+            journal,
+            RngChooser::seeded(seed),
+        ),
+        None => End::Failed(Fault::Read).tell(rt),
+    }
+}
+
 /// Serves as the options say, and gives the exit status.
 fn start_server<
     R: Threads
@@ -221,16 +263,12 @@ fn start_server<
         let seed = seed_text(matches);
         return tell_value(rt, "--seed <N|system>", seed, "neither a u64 nor `system`");
     };
-    let journal = journal_of(matches);
-    let seed = match drawing {
-        Drawing::FirstOnes => return serve(rt, config, serving, journal, FirstChooser),
-        Drawing::Seeded(seed) => Some(seed),
-        Drawing::FromSystem => draw_seed(rt),
+    let origin = origin_of(matches);
+    let Ok(policy) = Policy::new(rt.alloc(), serving.accepts_peers, origin) else {
+        return End::Failed(Fault::OutOfMemory).tell(rt);
     };
-    match seed {
-        Some(seed) => serve(rt, config, serving, journal, RngChooser::seeded(seed)),
-        None => End::Failed(Fault::Read).tell(rt),
-    }
+    let journal = journal_of(matches);
+    serve_drawing(rt, config, serving, policy, journal, drawing)
 }
 
 /// Judges the words, and then does what they say: `eureka script` runs a script from standard input to standard output, `eureka audit`

@@ -8,6 +8,7 @@ use crate::files::create;
 use eu_base::{Config, Fault};
 use eu_clock::Chooser;
 use eu_hash::HashKey;
+use eu_http::Policy;
 use eu_options::{Serving, connections_within};
 use eu_server::{BUCKET_MS, Plan, THRESHOLD_MS, serve_by, serve_with_journal};
 use eu_stream::Writing;
@@ -98,9 +99,9 @@ fn input_of(until_input_ends: bool) -> Option<RawFd>
     until_input_ends.then_some(STANDARD_INPUT)
 }
 
-/// What a server does that has these settings, serves so much as the options say, has so many connections at most, and tables that hash by
-/// that key.
-fn plan_of(config: Config, serving: Serving, connections: u32, key: HashKey) -> Plan
+/// What a server does that has these settings, serves so much as the options say, has so many connections at most, tables that hash by
+/// that key, and takes requests by that policy.
+fn plan_of(config: Config, serving: Serving, connections: u32, key: HashKey, policy: Policy) -> Plan
     ensures settings { result.config ≡ config }
     ensures expected { result.expected ≡ serving.expected }
     ensures workers { result.workers ≡ serving.workers }
@@ -108,6 +109,7 @@ fn plan_of(config: Config, serving: Serving, connections: u32, key: HashKey) -> 
     ensures periods { result.periods ≡ record { evictor = config.evict_ms; bucket = BUCKET_MS; threshold = THRESHOLD_MS } }
     ensures connections { result.limits.connections ≡ connections }
     ensures key { result.hash_key ≡ key }
+    ensures policy { result.policy ≡ policy }
     ensures idle { result.limits.patience.idle ≡ serving.idle_ms }
     ensures request { result.limits.patience.request ≡ serving.request_ms }
     ensures input { result.input ≡ (if serving.until_input_ends then Some (pos 0) else None) }
@@ -124,6 +126,7 @@ fn plan_of(config: Config, serving: Serving, connections: u32, key: HashKey) -> 
     plan.limits.patience.request = serving.request_ms;
     plan.input = input_of(serving.until_input_ends);
     plan.is_quiet = serving.is_quiet;
+    plan.policy = policy;
     plan
 }
 
@@ -151,7 +154,8 @@ fn serve_to<
 }
 
 /// Serves, and gives the exit status: 0 where as many connections as wanted were served; where no number of them is, it serves on. The journal
-/// of the book is written to the file of that path at the end, where one is given. The system draws the key by which its tables hash.
+/// of the book is written to the file of that path at the end, where one is given. The system draws the key by which its tables hash. Which
+/// requests are taken, the policy says.
 pub fn serve<
     R: Threads
         + Wait
@@ -164,7 +168,7 @@ pub fn serve<
         + AllocGlobal
         + Sync,
     C: Chooser + Send + Drop,
->(rt: &R, config: Config, serving: Serving, journal: Option<&str>, chooser: C) -> u8
+>(rt: &R, config: Config, serving: Serving, policy: Policy, journal: Option<&str>, chooser: C) -> u8
     ensures { (result ≡ 0) ⊎ (result ≡ 3) }
 {
     let Some(key) = draw_key(rt) else {
@@ -174,7 +178,7 @@ pub fn serve<
         return End::Failed(Fault::Read).tell(rt);
     };
     let connections = most_connections(rt, serving.connections);
-    let plan = plan_of(config, serving, connections, key);
+    let plan = plan_of(config, serving, connections, key, policy);
     if let Some(path) = journal {
         return serve_to(rt, &listener, &plan, path, chooser);
     }

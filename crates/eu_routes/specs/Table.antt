@@ -1,5 +1,5 @@
 -- The paths that there are, and where a request goes
-use Rattle.std.specs.Prelude.{ℕ, List, [], ◌∷◌, Option, Result, Ok, Err, option_map, codes, ◌≡◌, Bool, true, false, ◌||◌, Some, None, IsOk, if◌then◌else◌}
+use Rattle.std.specs.Prelude.{ℕ, List, [], ◌∷◌, Option, Result, Ok, Err, option_map, codes, ◌≡◌, Bool, true, false, ◌&&◌, ◌||◌, Some, None, IsOk, if◌then◌else◌}
 use Rattle.matchit.specs.Rows.{RowsOf}
 use Rattle.matchit.specs.Seek.{first}
 use Rattle.matchit.specs.Route.{Scan, parse_route}
@@ -147,6 +147,23 @@ ask_at (Some resource.Config) method path query replicated = config_ask method q
 -- what a request of that method, target and query asks for, whether a peer sends it or not
 abbrev pub route_of : List ℕ → List ℕ → List ℕ → Bool → Result Route Fault
 route_of method target query replicated = ask_at (resource_of (path_of target)) method (path_of target) query replicated
+
+-- ---- what peers send
+
+-- the resource is that of batches
+abbrev pub is_for_batches : Option Resource → Bool
+is_for_batches None = false
+is_for_batches (Some resource.Applications) = false
+is_for_batches (Some resource.Application) = false
+is_for_batches (Some resource.Lease) = false
+is_for_batches (Some resource.LeaseStatus) = false
+is_for_batches (Some resource.Batch) = true
+is_for_batches (Some resource.StatusPage) = false
+is_for_batches (Some resource.Config) = false
+
+-- a request of that method and target is a batch: POST peerreplication/batch
+unfoldable pub is_batch : List ℕ → List ℕ → Bool
+is_batch method target = bytes_eq method (codes "POST") && is_for_batches (resource_of (path_of target))
 
 -- ---- what is known before any memory is taken
 

@@ -186,10 +186,26 @@ fn ask_status(
     }
 }
 
+/// Whether a resource is that of batches.
+fn is_for_batches(resource: Option<Resource>) -> bool
+    ensures { result ≡ spec.is_for_batches resource }
+{
+    matches!(resource, Some(Resource::Batch))
+}
+
 impl Routes {
     ghost use Rattle.eu_routes.specs.Path.{path_of};
     ghost use Rattle.eu_base.specs.Gives.{Gives};
-    ghost use Rattle.eu_routes.specs.Table.{IsKnown, needs_memory, route_of, resource_of};
+    ghost use Rattle.eu_routes.specs.Table.{IsKnown, is_batch, needs_memory, route_of, resource_of};
+
+    /// Whether a request is a batch of a peer, by its method and by its target before the first `?`: a POST of `peerreplication/batch`, with
+    /// paths as in `find`. Takes no memory.
+    #[tactic(auto, unfolding(crate::specs::Table::is_batch))]
+    pub fn is_batch(&self, method: &str, path: &str) -> bool
+        ensures { result ≡ is_batch method.now path.now }
+    {
+        method == "POST" && is_for_batches(self.resource_at(path_of(path)))
+    }
 
     /// What a request asks for, by its method, by its target's parts before and behind the first `?`, and by whether a peer sends it
     /// (`isReplication` in Eureka).

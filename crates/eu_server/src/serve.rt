@@ -21,6 +21,7 @@ use eu_base::{Config, Fault};
 use eu_clock::{Chooser, SystemClock};
 use eu_gate::{BUCKET_MS, MOST_WORKERS, OTHER_WORKERS, Periods, THRESHOLD_MS};
 use eu_hash::HashKey;
+use eu_http::Policy;
 use eu_journal_text::{WriteError, write_journal};
 use eu_routes::Routes;
 use eu_settle::{Closed, settle};
@@ -45,7 +46,7 @@ const TIMERS: usize = 3;
 const GATHERING_MS: u64 = 5_000;
 
 /// What a server is to do. `Plan::of_server` is that of an ordinary one.
-#[derive(Clone, Copy)]
+#[derive(Drop)]
 pub struct Plan {
     /// The settings of its registry.
     pub config: Config,
@@ -65,12 +66,14 @@ pub struct Plan {
     pub is_quiet: bool,
     /// The key by which its tables hash. Clients choose what is hashed, so they aren't to know it.
     pub hash_key: HashKey,
+    /// Which requests it takes.
+    pub policy: Policy,
 }
 
 impl Plan {
     /// That of an ordinary server with these settings, which expects so many clients, serves so many connections by so many workers, and has
     /// tables that hash by that key: its evictor takes a turn each `evict_ms` of the settings, the bucket ends a minute each `BUCKET_MS`, the threshold is updated each
-    /// `THRESHOLD_MS`, and its limits are those of `Limits::of_server`.
+    /// `THRESHOLD_MS`, its limits are those of `Limits::of_server`, and its policy is that of `Policy::open`.
     pub fn of_server(
         config: Config,
         expected: u32,
@@ -84,6 +87,7 @@ impl Plan {
         ensures input { result.input ≡ None }
         ensures quiet { result.is_quiet ≡ false }
         ensures hash_key { result.hash_key ≡ hash_key }
+        ensures policy { (result.policy.accepts_peers ≡ true) × (result.policy.allowed_origin ≡ None) }
     {
         Plan {
             config,
@@ -95,6 +99,7 @@ impl Plan {
             input: None,
             is_quiet: false,
             hash_key,
+            policy: Policy::open(),
         }
     }
 }
@@ -342,6 +347,7 @@ fn run_workers<
     alloc: Global,
     shared: &Shared<K>,
     hub: &'a Hub<'a, R>,
+    policy: &Policy,
     stations: Vec<Station<'a, R>>,
     chooser: H,
 ) -> Result<Vec<Pass<K>>, Fault>
@@ -358,6 +364,7 @@ fn run_workers<
         alloc,
         shared,
         routes: &routes,
+        policy,
         gate: hub,
     };
     run_all(&site, workers.as_mut_slice());
@@ -417,6 +424,7 @@ fn serve_and_close<
     alloc: Global,
     shared: Shared<K>,
     hub: &'a Hub<'a, R>,
+    policy: &Policy,
     stations: Vec<Station<'a, R>>,
     chooser: H,
 ) -> Result<Finished, Fault>
@@ -425,7 +433,7 @@ fn serve_and_close<
     ensures settled { IfOk result (λ o. IsSettled o.closed.first o.closed.logs.items o.closed.entries.items) }
     ensures fault { IfErr result (λ f. IsStart f ⊎ IsClose f) }
 {
-    let passes = run_workers(rt, alloc, &shared, hub, stations, chooser)?;
+    let passes = run_workers(rt, alloc, &shared, hub, policy, stations, chooser)?;
     let closed = close_book(shared, alloc, passes)?;
     let served = hub.counts().came;
     Ok(Finished { served, closed })
@@ -481,7 +489,7 @@ pub fn serve_book<
     )?;
     let (hub, polls) = open_hub(rt, alloc, plan)?;
     let stations = stations_of(&hub, listener, plan, polls)?;
-    let outcome = serve_and_close(rt, alloc, shared, &hub, stations, chooser);
+    let outcome = serve_and_close(rt, alloc, shared, &hub, &plan.policy, stations, chooser);
     judge_accepts(hub.counts().has_failed, outcome)
 }
 
@@ -518,7 +526,8 @@ fn serve_new<R: Threads + Wait + Clock + Net + Eprint + Sync, H: Chooser + Send 
 /// weren't before, or the other way round, and of connections that are refused, at most once a second (`eu_accept::Message`).
 ///
 /// A book is opened with the settings and the number expected, without peers. Each accepted connection is one session of
-/// HTTP/1.1 (`eu_session::take_turn`, turn by turn), at the machine's time. Each belongs to one of the loops, which visits it whenever something has come,
+/// HTTP/1.1 (`eu_session::take_turn`, turn by turn), at the machine's time; which requests are taken, the plan's policy says (`Policy::forbids`). Each
+/// belongs to one of the loops, which visits it whenever something has come,
 /// or more can be sent; a request that takes long is answered by one of two other threads meanwhile. Beside them the evictor takes its turns, by the
 /// chooser's words, the bucket ends minutes, and the threshold is updated, each a period apart. Once the sessions have ended, so have these. Then the
 /// book is closed, and settled with what each worker logged.

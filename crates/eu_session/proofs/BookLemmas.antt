@@ -13,6 +13,7 @@ use Rattle.eu_model.specs.declared.asks.Ask.{Ask}
 use Rattle.eu_model.specs.declared.asks.Ask.TheVariants.{Do, See}
 use Rattle.eu_http.specs.declared.exchange.Outcome.{Outcome}
 use Rattle.eu_http.specs.declared.exchange.Outcome.TheVariants.{Refused, Forbidden, Answers}
+use Rattle.eu_http.specs.declared.policy.Policy.{Policy}
 use Rattle.eu_model.specs.declared.commands.Entry.{Entry}
 use Rattle.eu_model.specs.Server.{PlainServer}
 use Rattle.eu_model.specs.Answers as model
@@ -86,29 +87,29 @@ all a b t (ask ∷ others) (r ∷ rs) (mid, one, rest) =
 all a b t [] (r ∷ rs) none = absurd none
 all a b t (ask ∷ others) [] none = absurd none
 
-abbrev Adds : Account → Turn → Outcome → Account → Type 0
-Adds a t outcome b = (entries : List Entry) × AddsTurn a.totals.steps t outcome entries × GrewBy a entries b
+abbrev Adds : Policy → Account → Turn → Outcome → Account → Type 0
+Adds policy a t outcome b = (entries : List Entry) × AddsTurn policy a.totals.steps t outcome entries × GrewBy a entries b
 
-comes : (a b : Account) (t : Turn) (outcome : Outcome) → ComesOf (λ s ask m r s'. BookAsks s ask m r s') a t.request t.moment outcome b → Adds a t outcome b
-comes a b t (Refused fault) is = ([], refl, stays a b is.1)
-comes a b t Forbidden is = ([], refl, stays a b is.1)
-comes a b t (Answers wanted results) is =
+comes : (policy : Policy) (a b : Account) (t : Turn) (outcome : Outcome) → ComesOf policy (λ s ask m r s'. BookAsks s ask m r s') a t.request t.moment outcome b → Adds policy a t outcome b
+comes policy a b t (Refused fault) is = ([], refl, stays a b is.1)
+comes policy a b t Forbidden is = ([], refl, stays a b is.1)
+comes policy a b t (Answers wanted results) is =
     (entries_of a.totals.steps t.moment is.0.asks results.items, (is.0, is.1, refl), all a b t.moment is.0.asks results.items is.3)
 
-module _ {C : Type 0} (tells : C → ℕ → C → Type 0) where
+module _ {C : Type 0} (policy : Policy) (tells : C → ℕ → C → Type 0) where
   abbrev Steps : Standing Account C → Turn → Standing Account C → Type 0
-  Steps = Step (λ s ask m r s'. BookAsks s ask m r s') tells
+  Steps = Step policy (λ s ask m r s'. BookAsks s ask m r s') tells
 
-  turn : (old new : Standing Account C) (t : Turn) → Steps old t new → Adds old.desk t t.outcome new.desk
-  turn old new t step = comes old.desk new.desk t t.outcome step.comes
+  turn : (old new : Standing Account C) (t : Turn) → Steps old t new → Adds policy old.desk t t.outcome new.desk
+  turn old new t step = comes policy old.desk new.desk t t.outcome step.comes
 
-  pub book_turns : BookTurns tells
+  pub book_turns : BookTurns policy tells
   book_turns old new [] e = ([], refl, stays old.desk new.desk (ap (λ s. s.desk) e))
   book_turns old new (t ∷ ts) (mid, one, rest) =
       let here = turn old mid t one in
       let others = book_turns mid new ts rest in (
         here.0 ++ others.0,
-        (here.0, others.0, refl, here.1, subst (λ n. AddTurns n ts others.0) here.2.steps others.1),
+        (here.0, others.0, refl, here.1, subst (λ n. AddTurns policy n ts others.0) here.2.steps others.1),
         goes_on old.desk mid.desk new.desk here.0 others.0 here.2 others.2,
       )
 
@@ -116,9 +117,9 @@ module _ {C : Type 0} (tells : C → ℕ → C → Type 0) where
 abbrev Grew : Account → Account → Type 0
 Grew a b = (entries : List Entry) × GrewBy a entries b
 
-pub book_session : {C : Type 0} (tells : C → ℕ → C → Type 0) → BookSession tells
-book_session tells old new s result session =
-    session_keeps (λ a ask t r b. BookAsks a ask t r b) Grew
+pub book_session : {C : Type 0} (policy : Policy) (tells : C → ℕ → C → Type 0) → BookSession policy tells
+book_session policy tells old new s result session =
+    session_keeps policy (λ a ask t r b. BookAsks a ask t r b) Grew
     (λ a b e. ([], stays a b e))
     (λ a b c one two. (one.0 ++ two.0, goes_on a b c one.0 two.0 one.1 two.1))
     (λ a ask t r b is. (entry_of a.totals.steps t ask r, asks a b ask t r is))

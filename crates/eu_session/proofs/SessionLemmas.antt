@@ -6,6 +6,7 @@ use Rattle.eu_base.specs.declared.faults.Fault.{Fault}
 use Rattle.eu_base.specs.declared.faults.Fault.TheVariants as faults
 use Rattle.eu_framing.specs.declared.request.Request.{Request}
 use Rattle.eu_framing.specs.Message.{IsCut, FindsNext, Interrupts, Between}
+use Rattle.eu_http.specs.declared.policy.Policy.{Policy}
 use Rattle.eu_model.specs.declared.asks.Answer.{Answer}
 use Rattle.eu_model.specs.declared.asks.Ask.{Ask}
 use Rattle.eu_session.specs.declared.faults.SessionFault.{SessionFault}
@@ -50,27 +51,27 @@ refused_unread failed left left' ahead fault held held' failed_writer Read met x
 refused_unread failed left left' ahead fault held held' failed_writer Write met x = tt
 refused_unread failed left left' ahead fault held held' failed_writer OutOfMemory met x = tt
 
-module _ {D C : Type 0} (asked : D → Ask → ℕ → Result Answer Fault → D → Type 0) (tells : C → ℕ → C → Type 0) where
-  pub step_of : (l l' : Option (List ℕ)) (request : Request) (close : Bool) (desk desk' : D) (clock clock' : C) (c : Comes asked tells request desk clock desk' clock') → Between l l' (FindsNext (Some request))
-      → Step asked tells (record { left = l; desk = desk; clock = clock }) (record { request = request; moment = c.moment; outcome = c.outcome; close = close }) (record { left = l'; desk = desk'; clock = clock' })
+module _ {D C : Type 0} (policy : Policy) (asked : D → Ask → ℕ → Result Answer Fault → D → Type 0) (tells : C → ℕ → C → Type 0) where
+  pub step_of : (l l' : Option (List ℕ)) (request : Request) (close : Bool) (desk desk' : D) (clock clock' : C) (c : Comes policy asked tells request desk clock desk' clock') → Between l l' (FindsNext (Some request))
+      → Step policy asked tells (record { left = l; desk = desk; clock = clock }) (record { request = request; moment = c.moment; outcome = c.outcome; close = close }) (record { left = l'; desk = desk'; clock = clock' })
   step_of l l' request close desk desk' clock clock' c reads = record { reads = reads; told = c.told; comes = c.comes }
 
   pub answered_unread : (l l' : Option (List ℕ)) (ahead : List ℕ) (request : Request) (close : Bool) (desk desk' : D) (clock clock' : C) (held held' : Option (List ℕ)) (failed_writer : Bool) (e : SessionFault)
-      → AnswersTo asked tells request close desk clock held desk' clock' held' failed_writer (Err e) → FailsClean l l' ahead (Err e)
+      → AnswersTo policy asked tells request close desk clock held desk' clock' held' failed_writer (Err e) → FailsClean l l' ahead (Err e)
   answered_unread l l' ahead request close desk desk' clock clock' held held' failed_writer Read x = absurd x
   answered_unread l l' ahead request close desk desk' clock clock' held held' failed_writer Write x = tt
   answered_unread l l' ahead request close desk desk' clock clock' held held' failed_writer OutOfMemory x = tt
 
   -- nothing was done
-  idle : (l l' : Option (List ℕ)) (request : Request) (close : Bool) (desk desk' : D) (clock clock' : C) → Between l l' (FindsNext (Some request)) → Idles asked tells request desk clock desk' clock'
-      → DidNothing asked tells (record { left = l; desk = desk; clock = clock }) (record { left = l'; desk = desk'; clock = clock' })
+  idle : (l l' : Option (List ℕ)) (request : Request) (close : Bool) (desk desk' : D) (clock clock' : C) → Between l l' (FindsNext (Some request)) → Idles policy asked tells request desk clock desk' clock'
+      → DidNothing policy asked tells (record { left = l; desk = desk; clock = clock }) (record { left = l'; desk = desk'; clock = clock' })
   idle l l' request close desk desk' clock clock' reads (inl x) = inr (inl (record { request = request; moment = x.0; reads = reads; told = x.1; desk_is = x.2 }))
   idle l l' request close desk desk' clock clock' reads (inr x) =
       inr (inr (record { request = request; moment = x.0.moment; outcome = x.0.outcome; close = close }, step_of l l' request close desk desk' clock clock' x.0 reads, x.1))
 
   pub ends_answering : (l l' : Option (List ℕ)) (request : Request) (close : Bool) (desk desk' : D) (clock clock' : C) (held held' : Option (List ℕ)) (n : ℕ) (failed_reader failed_writer : Bool) (e : SessionFault)
-      → Between l l' (FindsNext (Some request)) → AnswersTo asked tells request close desk clock held desk' clock' held' failed_writer (Err e) → close ≡ is_last n request
-      → Ends asked tells n (record { left = l; desk = desk; clock = clock }) (record { left = l'; desk = desk'; clock = clock' }) (record { before = held; after = held'; reader_failed = failed_reader; writer_failed = failed_writer }) (Err e)
+      → Between l l' (FindsNext (Some request)) → AnswersTo policy asked tells request close desk clock held desk' clock' held' failed_writer (Err e) → close ≡ is_last n request
+      → Ends policy asked tells n (record { left = l; desk = desk; clock = clock }) (record { left = l'; desk = desk'; clock = clock' }) (record { before = held; after = held'; reader_failed = failed_reader; writer_failed = failed_writer }) (Err e)
   ends_answering l l' request close desk desk' clock clock' held held' n failed_reader failed_writer Read reads x is = absurd x
   ends_answering l l' request close desk desk' clock clock' held held' n failed_reader failed_writer Write reads (fails, inl x) is = (
     fails,
@@ -91,7 +92,7 @@ module _ {D C : Type 0} (asked : D → Ask → ℕ → Result Answer Fault → D
 
   pub ends_refusing : (l l' : Option (List ℕ)) (ahead : List ℕ) (fault : Fault) (desk : D) (clock : C) (held held' : Option (List ℕ)) (n : ℕ) (failed_reader failed_writer : Bool) (e : SessionFault)
       → Met failed_reader l l' ahead fault → RefusesBy fault held held' failed_writer (Err e)
-      → Ends asked tells n (record { left = l; desk = desk; clock = clock }) (record { left = l'; desk = desk; clock = clock }) (record { before = held; after = held'; reader_failed = failed_reader; writer_failed = failed_writer }) (Err e)
+      → Ends policy asked tells n (record { left = l; desk = desk; clock = clock }) (record { left = l'; desk = desk; clock = clock }) (record { before = held; after = held'; reader_failed = failed_reader; writer_failed = failed_writer }) (Err e)
   ends_refusing l l' ahead fault desk clock held held' n failed_reader failed_writer Read met x = (read_failed failed_reader l l' ahead fault met x.0, record { desk_is = refl; clock_is = refl }, x.1)
   ends_refusing l l' ahead fault desk clock held held' n failed_reader failed_writer Write met (fails, inl x) = (
     fails,

@@ -9,6 +9,7 @@ use Rattle.eu_model.specs.declared.asks.Ask.{Ask}
 use Rattle.eu_model.specs.declared.asks.Ask.TheVariants.{Do}
 use Rattle.eu_http.specs.declared.exchange.Outcome.{Outcome}
 use Rattle.eu_http.specs.declared.exchange.Outcome.TheVariants.{Refused, Forbidden, Answers}
+use Rattle.eu_http.specs.declared.policy.Policy.{Policy}
 use Rattle.eu_http.specs.Asks.{Wants, asks_of}
 use Rattle.eu_model.specs.declared.commands.Entry.{Entry}
 use Rattle.eu_model.specs.Server.{Server, PlainServer, Run, plain_server}
@@ -28,17 +29,17 @@ entries_of n t (ask ∷ asks) [] = []
 entries_of n t (ask ∷ asks) (r ∷ rs) = entry_of n t ask r ++ entries_of (n + length (entry_of n t ask r)) t asks rs
 
 -- what a turn adds: nothing, where its request asked nothing
-abbrev pub AddsTurn : ℕ → Turn → Outcome → List Entry → Type 0
-AddsTurn n t (Refused fault) entries = entries ≡ []
-AddsTurn n t Forbidden entries = entries ≡ []
-AddsTurn n t (Answers wanted results) entries =
-    (wants : Wants) × (asks_of t.request t.moment ≡ Ok (Some wants)) × (entries ≡ entries_of n t.moment wants.asks results.items)
+abbrev pub AddsTurn : Policy → ℕ → Turn → Outcome → List Entry → Type 0
+AddsTurn policy n t (Refused fault) entries = entries ≡ []
+AddsTurn policy n t Forbidden entries = entries ≡ []
+AddsTurn policy n t (Answers wanted results) entries =
+    (wants : Wants) × (asks_of policy t.request t.moment ≡ Ok (Some wants)) × (entries ≡ entries_of n t.moment wants.asks results.items)
 
 -- what turns add, one after another
-abbrev pub AddTurns : ℕ → List Turn → List Entry → Type 0
-AddTurns n [] entries = entries ≡ []
-AddTurns n (t ∷ ts) entries =
-    (here : List Entry) × (others : List Entry) × (entries ≡ here ++ others) × AddsTurn n t t.outcome here × AddTurns (n + length here) ts others
+abbrev pub AddTurns : Policy → ℕ → List Turn → List Entry → Type 0
+AddTurns policy n [] entries = entries ≡ []
+AddTurns policy n (t ∷ ts) entries =
+    (here : List Entry) × (others : List Entry) × (entries ≡ here ++ others) × AddsTurn policy n t t.outcome here × AddTurns policy (n + length here) ts others
 
 -- from each server with the plain form p, the entries are a run to one with the plain form q
 abbrev pub RunsFrom : PlainServer → List Entry → PlainServer → Type 0
@@ -53,16 +54,16 @@ pub record GrewBy (a : Account) (entries : List Entry) (b : Account) : Type 0 wh
   pub steps : b.totals.steps ≡ a.totals.steps + length entries
   pub run : RunsFrom a.state entries b.state
 
-module _ {C : Type 0} (tells : C → ℕ → C → Type 0) where
+module _ {C : Type 0} (policy : Policy) (tells : C → ℕ → C → Type 0) where
   -- by turns with a book, its journal goes on by the commands that were answered in them, in order
   abbrev pub BookTurns : Type 0
   BookTurns =
-      (old new : Standing Account C) (turns : List Turn) → Chain (Step (λ a ask t r b. BookAsks a ask t r b) tells) old turns new
-      → (entries : List Entry) × AddTurns old.desk.totals.steps turns entries × GrewBy old.desk entries new.desk
+      (old new : Standing Account C) (turns : List Turn) → Chain (Step policy (λ a ask t r b. BookAsks a ask t r b) tells) old turns new
+      → (entries : List Entry) × AddTurns policy old.desk.totals.steps turns entries × GrewBy old.desk entries new.desk
 
   -- by a session with a book its journal goes on, however it ends
   abbrev pub BookSession : Type 0
   BookSession =
       (old new : Standing Account C) (s : Streams) (result : Result ℕ SessionFault)
-      → Session (λ a ask t r b. BookAsks a ask t r b) tells old new s result
+      → Session policy (λ a ask t r b. BookAsks a ask t r b) tells old new s result
       → (entries : List Entry) × GrewBy old.desk entries new.desk

@@ -9,6 +9,7 @@ use Rattle.eu_model.specs.declared.asks.Answer.TheVariants.{Did}
 use Rattle.eu_model.specs.declared.asks.Ask.{Ask}
 use Rattle.eu_http.specs.declared.exchange.Outcome.{Outcome}
 use Rattle.eu_http.specs.declared.exchange.Outcome.TheVariants.{Refused, Forbidden, Answers}
+use Rattle.eu_http.specs.declared.policy.Policy.{Policy}
 use Rattle.eu_http.specs.Asks.{Wants, asks_of}
 use Rattle.eu_http.specs.Response.{refused, response, print}
 use Rattle.eu_model.specs.Chain.{Pairs, Chain}
@@ -64,24 +65,25 @@ pub record Untouched (D C : Type 0) (old new : Standing D C) : Type 0 where
 abbrev pub Breaks : Option (List ℕ) → Fault → Type 0
 Breaks left fault = OfBytes left (λ bytes. IsFault bytes fault)
 
--- `asked s ask moment result s'`: a desk in the state s, asked at the moment, gives the result and is in the state s' then
-module _ {D : Type 0} (asked : D → Ask → ℕ → Result Answer Fault → D → Type 0) where
+-- `policy` says which requests are taken. `asked s ask moment result s'`: a desk in the state s, asked at the moment, gives the result and is in the
+-- state s' then
+module _ {D : Type 0} (policy : Policy) (asked : D → Ask → ℕ → Result Answer Fault → D → Type 0) where
   -- What comes of a request at a moment. What it asks is put to the desk, each ask once, in order, and their results are the
-  -- outcome. Of a request that is refused, or asks for what is forbidden, the desk is asked nothing.
+  -- outcome. Of a request that is refused, or that the policy forbids, or that asks for what is forbidden, the desk is asked nothing.
   abbrev pub ComesOf : D → Request → ℕ → Outcome → D → Type 0
-  ComesOf desk request moment (Refused fault) desk' = (asks_of request moment ≡ Err fault) × (desk' ≡ desk)
-  ComesOf desk request moment Forbidden desk' = (asks_of request moment ≡ Ok None) × (desk' ≡ desk)
+  ComesOf desk request moment (Refused fault) desk' = (asks_of policy request moment ≡ Err fault) × (desk' ≡ desk)
+  ComesOf desk request moment Forbidden desk' = (asks_of policy request moment ≡ Ok None) × (desk' ≡ desk)
   ComesOf desk request moment (Answers wanted results) desk' =
-      (wants : Wants) × (asks_of request moment ≡ Ok (Some wants)) × (wanted ≡ wants.wanted)
+      (wants : Wants) × (asks_of policy request moment ≡ Ok (Some wants)) × (wanted ≡ wants.wanted)
       × Pairs (λ s ask result s'. asked s ask moment result s') desk wants.asks results.items desk'
 
 -- `tells c moment c'`: a clock in the state c tells the moment and is in the state c' then
-module _ {D C : Type 0} (asked : D → Ask → ℕ → Result Answer Fault → D → Type 0) (tells : C → ℕ → C → Type 0) where
+module _ {D C : Type 0} (policy : Policy) (asked : D → Ask → ℕ → Result Answer Fault → D → Type 0) (tells : C → ℕ → C → Type 0) where
   -- One turn: its request is the next of the bytes to come, the clock tells its moment, once, and this comes of it.
   pub record Step (old : Standing D C) (t : Turn) (new : Standing D C) : Type 0 where
     pub reads : Between old.left new.left (FindsNext (Some t.request))
     pub told : tells old.clock t.moment new.clock
-    pub comes : ComesOf asked old.desk t.request t.moment t.outcome new.desk
+    pub comes : ComesOf policy asked old.desk t.request t.moment t.outcome new.desk
 
   -- A turn that memory ended before the desk was asked: the next request was read, and the clock asked once.
   pub record Unasked (old new : Standing D C) : Type 0 where
@@ -123,7 +125,7 @@ pub record Streams : Type 0 where
   pub writer_failed : Bool
 
 -- `asked` and `tells` are what a desk answers and what a clock tells. `before` and `after` are what the writer holds.
-module _ {D C : Type 0} (asked : D → Ask → ℕ → Result Answer Fault → D → Type 0) (tells : C → ℕ → C → Type 0) where
+module _ {D C : Type 0} (policy : Policy) (asked : D → Ask → ℕ → Result Answer Fault → D → Type 0) (tells : C → ℕ → C → Type 0) where
   -- The bytes end before a request, and nothing was asked or written.
   pub record EndsBytes (old new : Standing D C) (before after : Option (List ℕ)) : Type 0 where
     pub ends : Between old.left new.left (FindsNext None)
@@ -133,7 +135,7 @@ module _ {D C : Type 0} (asked : D → Ask → ℕ → Result Answer Fault → D
   -- The request at the place k is the last, and its response says so.
   pub record Closes (k : ℕ) (old new : Standing D C) (before after : Option (List ℕ)) : Type 0 where
     pub turn : Turn
-    pub step : Step asked tells old turn new
+    pub step : Step policy asked tells old turn new
     pub last : is_last k turn.request ≡ true
     pub close : turn.close ≡ true
     pub written : Appends before after (text_of turn)
@@ -148,7 +150,7 @@ module _ {D C : Type 0} (asked : D → Ask → ℕ → Result Answer Fault → D
   -- A request was answered, but only a front of its response was written; all of it may have been, where the flush failed.
   pub record LosesResponse (k : ℕ) (old new : Standing D C) (before after : Option (List ℕ)) : Type 0 where
     pub turn : Turn
-    pub step : Step asked tells old turn new
+    pub step : Step policy asked tells old turn new
     pub close : turn.close ≡ is_last k turn.request
     pub len : ℕ
     pub written : Appends before after (take len (text_of turn))
@@ -164,7 +166,7 @@ module _ {D C : Type 0} (asked : D → Ask → ℕ → Result Answer Fault → D
   -- Nothing was done: nothing was asked, or the clock alone was, or all that the request asks was, and that did nothing.
   abbrev pub DidNothing : Standing D C → Standing D C → Type 0
   DidNothing old new =
-      Untouched D C old new ⊎ (Unasked asked tells old new ⊎ ((t : Turn) × Step asked tells old t new × (did_something t.outcome ≡ false)))
+      Untouched D C old new ⊎ (Unasked policy asked tells old new ⊎ ((t : Turn) × Step policy asked tells old t new × (did_something t.outcome ≡ false)))
 
   -- There was no memory, and nothing was done. But only a front of the text that tells so was written.
   pub record LosesExcuse (old new : Standing D C) (before after : Option (List ℕ)) : Type 0 where
@@ -187,14 +189,14 @@ module _ {D C : Type 0} (asked : D → Ask → ℕ → Result Answer Fault → D
   -- There was no memory. Where nothing was done, the refusal by OutOfMemory was written. Else nothing was written.
   Ends n old new s (Err OutOfMemory) =
       (DidNothing old new × Appends s.before s.after (refusal faults.OutOfMemory))
-      ⊎ (Keeps s.before s.after × ((t : Turn) × Step asked tells old t new × (did_something t.outcome ≡ true)))
+      ⊎ (Keeps s.before s.after × ((t : Turn) × Step policy asked tells old t new × (did_something t.outcome ≡ true)))
 
   -- A session, by its result: requests are answered, and it ends. `ahead` was read of the bytes, and isn't used.
   pub record Session (old new : Standing D C) (s : Streams) (result : Result ℕ SessionFault) : Type 0 where
     pub n : ℕ
     pub last : Standing D C
     pub held : Option (List ℕ)
-    pub goes_on : Part (Step asked tells) 0 n old last s.before held
+    pub goes_on : Part (Step policy asked tells) 0 n old last s.before held
     pub ahead : List ℕ
     pub unread : FailsClean last.left (pending ahead new.left) ahead result
     pub ends : Ends n last (record { left = pending ahead new.left; desk = new.desk; clock = new.clock }) (record s { before = held }) result

@@ -7,6 +7,7 @@ use Rattle.eu_framing.specs.declared.request.Request.{Request}
 use Rattle.eu_model.specs.declared.asks.Answer.{Answer}
 use Rattle.eu_model.specs.declared.asks.Ask.{Ask}
 use Rattle.eu_http.specs.declared.exchange.Outcome.{Outcome}
+use Rattle.eu_http.specs.declared.policy.Policy.{Policy}
 use Rattle.eu_http.specs.Response.{response}
 use Rattle.eu_session.specs.declared.faults.SessionFault.{SessionFault}
 use Rattle.eu_session.specs.declared.faults.SessionFault.TheVariants.{Read, Write, OutOfMemory}
@@ -29,13 +30,13 @@ EndsWithoutMemory before after failed Read = ⊥
 EndsWithoutMemory before after failed Write = (failed ≡ true) × LosesNoMemory before after
 EndsWithoutMemory before after failed OutOfMemory = TellsNoMemory before after
 
-module _ {D C : Type 0} (asked : D → Ask → ℕ → Result Answer Fault → D → Type 0) (tells : C → ℕ → C → Type 0) where
+module _ {D C : Type 0} (policy : Policy) (asked : D → Ask → ℕ → Result Answer Fault → D → Type 0) (tells : C → ℕ → C → Type 0) where
   -- the clock told a moment, and what the request asks then was asked
   pub record Comes (request : Request) (desk : D) (clock : C) (desk' : D) (clock' : C) : Type 0 where
     pub moment : ℕ
     pub told : tells clock moment clock'
     pub outcome : Outcome
-    pub comes : ComesOf asked desk request moment outcome desk'
+    pub comes : ComesOf policy asked desk request moment outcome desk'
 
   -- the clock told a moment, and nothing was asked
   abbrev pub Tells : D → C → D → C → Type 0

@@ -2,6 +2,7 @@
 use Rattle.std.specs.Prelude.{◌≡◌, ℕ, ◌+◌, List, Option, Result, Ok, Err}
 use Rattle.eu_base.specs.declared.faults.Fault.{Fault}
 use Rattle.eu_framing.specs.Message.{pending}
+use Rattle.eu_http.specs.declared.policy.Policy.{Policy}
 use Rattle.eu_model.specs.declared.asks.Answer.{Answer}
 use Rattle.eu_model.specs.declared.asks.Ask.{Ask}
 use Rattle.eu_session.specs.declared.faults.SessionFault.{SessionFault}
@@ -16,15 +17,15 @@ EndsBy (Ok (Ended n)) result = result ≡ Ok n
 EndsBy (Err fault) result = result ≡ Err fault
 
 -- `asked` and `tells` are what a desk answers and what a clock tells.
-module _ {D C : Type 0} (asked : D → Ask → ℕ → Result Answer Fault → D → Type 0) (tells : C → ℕ → C → Type 0) where
+module _ {D C : Type 0} (policy : Policy) (asked : D → Ask → ℕ → Result Answer Fault → D → Type 0) (tells : C → ℕ → C → Type 0) where
   -- What a turn does to a session that had n requests, by its result; it has m then. `ahead` was read of the bytes, and isn't used.
   abbrev pub Takes : ℕ → ℕ → Standing D C → Standing D C → Streams → List ℕ → Result Turned SessionFault → Type 0
   -- One request more was answered, and the session goes on.
-  Takes n m old new s ahead (Ok GoesOn) = (m ≡ n + 1) × Part (Step asked tells) n m old new s.before s.after
+  Takes n m old new s ahead (Ok GoesOn) = (m ≡ n + 1) × Part (Step policy asked tells) n m old new s.before s.after
   -- It has ended, with k requests in all.
-  Takes n m old new s ahead (Ok (Ended k)) = (m ≡ n) × Ends asked tells n old new s (Ok k)
+  Takes n m old new s ahead (Ok (Ended k)) = (m ≡ n) × Ends policy asked tells n old new s (Ok k)
   -- A fault ended the turn. Where it was a failed read, the session is as it was, so it can be taken up again: no byte was lost, and nothing asked or written.
-  Takes n m old new s ahead (Err fault) = (m ≡ n) × FailsClean old.left new.left ahead (Err fault) × Ends asked tells n old new s (Err fault)
+  Takes n m old new s ahead (Err fault) = (m ≡ n) × FailsClean old.left new.left ahead (Err fault) × Ends policy asked tells n old new s (Err fault)
 
   -- ---- at one desk
 
@@ -32,15 +33,15 @@ module _ {D C : Type 0} (asked : D → Ask → ℕ → Result Answer Fault → D
   abbrev pub PartsJoin : Type 0
   PartsJoin =
       (n m k : ℕ) (old mid new : Standing D C) (before held after : Option (List ℕ))
-      → Part (Step asked tells) n m old mid before held → Part (Step asked tells) m k mid new held after → Part (Step asked tells) n k old new before after
+      → Part (Step policy asked tells) n m old mid before held → Part (Step policy asked tells) m k mid new held after → Part (Step policy asked tells) n k old new before after
 
   -- A part from the beginning on, and a turn by which the session ended, are a session.
   abbrev pub PartsEnd : Type 0
   PartsEnd =
       (n m : ℕ) (old mid new : Standing D C) (s : Streams) (held : Option (List ℕ)) (ahead : List ℕ) (turned : Result Turned SessionFault) (result : Result ℕ SessionFault)
-      → Part (Step asked tells) 0 n old mid s.before held
+      → Part (Step policy asked tells) 0 n old mid s.before held
       → Takes n m mid (record { left = pending ahead new.left; desk = new.desk; clock = new.clock }) (record s { before = held }) ahead turned → EndsBy turned result
-      → Session asked tells old new s result
+      → Session policy asked tells old new s result
 
   -- ---- over a connection, whose turns several workers take, each at a desk of its own; others may ask there between them
 
@@ -50,7 +51,7 @@ module _ {D C : Type 0} (asked : D → Ask → ℕ → Result Answer Fault → D
     pub clock : C
     pub desk' : D
     pub clock' : C
-    pub step : Step asked tells (record { left = left; desk = desk; clock = clock }) t (record { left = left'; desk = desk'; clock = clock' })
+    pub step : Step policy asked tells (record { left = left; desk = desk; clock = clock }) t (record { left = left'; desk = desk'; clock = clock' })
 
   -- A session over a connection, by its result: requests are answered, each by some worker, and it ends, by some worker. `ahead` was read of the bytes, and
   -- isn't used.
@@ -63,13 +64,13 @@ module _ {D C : Type 0} (asked : D → Ask → ℕ → Result Answer Fault → D
     pub new : Standing D C
     pub left_is : new.left ≡ pending ahead left'
     pub unread : FailsClean last.left new.left ahead result
-    pub ends : Ends asked tells n last new (record s { before = held }) result
+    pub ends : Ends policy asked tells n last new (record s { before = held }) result
 
   -- A part at a desk is one of its connection.
   abbrev pub PartsCarry : Type 0
   PartsCarry =
       (n m : ℕ) (old new : Standing D C) (before after : Option (List ℕ))
-      → Part (Step asked tells) n m old new before after → Part StepOver n m old.left new.left before after
+      → Part (Step policy asked tells) n m old new before after → Part StepOver n m old.left new.left before after
 
   -- Parts that follow one another are one part, whoever took them.
   abbrev pub PartsJoinOver : Type 0

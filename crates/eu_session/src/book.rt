@@ -1,4 +1,5 @@
 //! What sessions with a book come to.
+ghost use Rattle.eu_http.specs.declared.policy.Policy.{Policy};
 ghost use Rattle.eu_session.specs.Book.{BookTurns, BookSession};
 
 use eu_clock::Clock;
@@ -7,6 +8,6 @@ use eu_clock::Clock;
 /// them, in order, and by nothing else; and however the session ends, the entries that came are a run of the lease machine from
 /// what the registry was to what it is.
 pub fn sessions_are_runs<C: Clock>()
-    ensures turns { BookTurns C.tells }
-    ensures session { BookSession C.tells }
+    ensures turns { (policy : Policy) → BookTurns policy C.tells }
+    ensures session { (policy : Policy) → BookSession policy C.tells }
 {}

@@ -6,6 +6,7 @@ use crate::SessionFault;
 use crate::room::SessionRoom;
 use crate::talk::{Turned, take_turn};
 use eu_clock::Clock;
+use eu_http::Policy;
 use eu_model::Desk;
 use eu_routes::Routes;
 use eu_stream::{Sink, Source};
@@ -14,7 +15,7 @@ use std::alloc::Global;
 /// Serves a session of HTTP/1.1 (RFC 9112, section 9), and tells how many requests there were.
 ///
 /// Requests are read one after another, as `eu_framing::read_request` reads them. Once one is whole, the clock is asked for the
-/// moment, once, and what the request asks then (`eu_http::asks`) is put to the desk, each ask once, in order. The response
+/// moment, once, and what the request asks then, by the policy (`eu_http::asks`), is put to the desk, each ask once, in order. The response
 /// (`eu_http::answer`) is written in one piece and flushed before the next request is read. A fault of the desk, its
 /// `OutOfMemory` too, is told in the response, and the session goes on. Of a request that is refused or forbidden the desk is
 /// asked nothing.
@@ -42,13 +43,14 @@ use std::alloc::Global;
 pub fn serve_session<D: Desk, C: Clock, R: Source, W: Sink>(
     alloc: Global,
     routes: &Routes,
+    policy: &Policy,
     room: &mut SessionRoom,
     desk: &mut D,
     clock: &mut C,
     reader: &mut R,
     writer: &mut W,
 ) -> Result<u32, SessionFault>
-    ensures session { Session D.asked C.tells
+    ensures session { Session policy.now D.asked C.tells
         (record { left = R.remaining reader.old; desk = desk.old; clock = clock.old })
         (record { left = R.remaining reader.new; desk = desk.new; clock = clock.new })
         (record { before = W.contents writer.old; after = W.contents writer.new; reader_failed = R.failed reader.new; writer_failed = W.failed writer.new }) result }
@@ -64,6 +66,7 @@ pub fn serve_session<D: Desk, C: Clock, R: Source, W: Sink>(
         match take_turn(
             alloc,
             routes,
+            policy,
             &mut room.room,
             &mut room.talk,
             desk,

@@ -1,6 +1,7 @@
 //! A session that is taken up again and again: one turn at a time.
 ghost use Rattle.std.specs.Prelude.{◌≡◌, ◌≢◌, ◌<◌, [], IfErr, OnOk};
 ghost use Rattle.eu_framing.specs.Message.{pending};
+ghost use Rattle.eu_http.specs.declared.policy.Policy.{Policy};
 ghost use Rattle.eu_session.specs.Session as spec;
 ghost use Rattle.eu_session.specs.Talk.{PartsCarry, PartsEnd, PartsEndOver, PartsJoin, PartsJoinOver, Takes};
 
@@ -8,6 +9,7 @@ use crate::turn::{answer_request, refuse};
 use crate::{MAX_REQUESTS, SessionFault};
 use eu_clock::Clock;
 use eu_framing::{Inbox, Request, Room, read_request};
+use eu_http::Policy;
 use eu_model::Desk;
 use eu_routes::Routes;
 use eu_stream::{Sink, Source};
@@ -72,6 +74,7 @@ fn is_last(request: &Request, n: u32) -> bool
 pub fn take_turn<D: Desk, C: Clock, R: Source, W: Sink>(
     alloc: Global,
     routes: &Routes,
+    policy: &Policy,
     room: &mut Room,
     talk: &mut Talk,
     desk: &mut D,
@@ -79,7 +82,7 @@ pub fn take_turn<D: Desk, C: Clock, R: Source, W: Sink>(
     reader: &mut R,
     writer: &mut W,
 ) -> Result<Turned, SessionFault>
-    ensures turn { Takes D.asked C.tells talk.old.served talk.new.served
+    ensures turn { Takes policy.now D.asked C.tells talk.old.served talk.new.served
         (record { left = pending talk.old.inbox (R.remaining reader.old); desk = desk.old; clock = clock.old })
         (record { left = pending talk.new.inbox (R.remaining reader.new); desk = desk.new; clock = clock.new })
         (record { before = W.contents writer.old; after = W.contents writer.new; reader_failed = R.failed reader.new; writer_failed = W.failed writer.new })
@@ -101,7 +104,7 @@ pub fn take_turn<D: Desk, C: Clock, R: Source, W: Sink>(
         }
     };
     let close = is_last(&request, served);
-    answer_request(alloc, routes, desk, clock, writer, &request, close)?;
+    answer_request(alloc, routes, policy, desk, clock, writer, &request, close)?;
     if close {
         return Ok(Turned::Ended(served + 1));
     }
@@ -111,15 +114,15 @@ pub fn take_turn<D: Desk, C: Clock, R: Source, W: Sink>(
 
 /// A law without code: turns at one desk that stand apart are one session, as `serve_session` has it.
 pub fn turns_are_sessions<D: Desk, C: Clock>()
-    ensures join { PartsJoin D.asked C.tells }
-    ensures end { PartsEnd D.asked C.tells }
+    ensures join { (policy : Policy) → PartsJoin policy D.asked C.tells }
+    ensures end { (policy : Policy) → PartsEnd policy D.asked C.tells }
 {}
 
 /// A law without code: the turns of a connection are one session from bytes to bytes, also where each is taken at another desk, and others ask there
 /// between them. It has the requests of the bytes, one after another, each answered by what was asked at its desk and moment; the responses stand
 /// behind one another, and it ends as a session at one desk does, with the 100th request at the latest.
 pub fn turns_are_connections<D: Desk, C: Clock>()
-    ensures carry { PartsCarry D.asked C.tells }
-    ensures join { PartsJoinOver D.asked C.tells }
-    ensures end { PartsEndOver D.asked C.tells }
+    ensures carry { (policy : Policy) → PartsCarry policy D.asked C.tells }
+    ensures join { (policy : Policy) → PartsJoinOver policy D.asked C.tells }
+    ensures end { (policy : Policy) → PartsEndOver policy D.asked C.tells }
 {}

@@ -11,7 +11,7 @@ use crate::SessionFault;
 use eu_base::{Fault, Moment};
 use eu_clock::Clock;
 use eu_framing::Request;
-use eu_http::{Asked, Outcome, answer, answer_without_memory, asks};
+use eu_http::{Asked, Outcome, Policy, answer, answer_without_memory, asks};
 use eu_model::{Answer, Ask, Desk};
 use eu_routes::Routes;
 use eu_stream::{Sink, WriteFault, write_whole};
@@ -50,14 +50,15 @@ fn ask_all<D: Desk>(
 fn outcome_of<D: Desk>(
     alloc: Global,
     routes: &Routes,
+    policy: &Policy,
     desk: &mut D,
     request: &Request,
     moment: Moment,
 ) -> Result<Outcome, AllocError>
-    ensures ok { IfOk result (λ outcome. ComesOf D.asked desk.old request.now moment outcome desk.new) }
+    ensures ok { IfOk result (λ outcome. ComesOf policy.now D.asked desk.old request.now moment outcome desk.new) }
     ensures err { OnErr result (desk.new ≡ desk.old) }
 {
-    match asks(alloc, routes, request, moment) {
+    match asks(alloc, routes, policy, request, moment) {
         Ok(Asked::Forbidden) => Ok(Outcome::Forbidden),
         Ok(Asked::Asks { wanted, asks }) => {
             let answers = ask_all(alloc, desk, asks, moment)?;
@@ -127,19 +128,20 @@ fn leave_unanswered<W: Sink>(writer: &mut W, outcome: &Outcome) -> SessionFault
 pub fn answer_request<D: Desk, C: Clock, W: Sink>(
     alloc: Global,
     routes: &Routes,
+    policy: &Policy,
     desk: &mut D,
     clock: &mut C,
     writer: &mut W,
     request: &Request,
     close: bool,
 ) -> Result<(), SessionFault>
-    ensures answers { AnswersTo D.asked C.tells request.now close desk.old clock.old (W.contents writer.old) desk.new clock.new (W.contents writer.new) (W.failed writer.new) result }
+    ensures answers { AnswersTo policy.now D.asked C.tells request.now close desk.old clock.old (W.contents writer.old) desk.new clock.new (W.contents writer.new) (W.failed writer.new) result }
     ensures sound { OnOk result (W.failed writer.new ≡ W.failed writer.old) }
     ensures told { IfErr result (λ fault. fault ≢ SessionFault.Write → W.failed writer.new ≡ W.failed writer.old) }
     ensures same_stream { W.stream writer.new ≡ W.stream writer.old }
 {
     let moment = clock.now();
-    let Ok(outcome) = outcome_of(alloc, routes, desk, request, moment) else {
+    let Ok(outcome) = outcome_of(alloc, routes, policy, desk, request, moment) else {
         return Err(tell_no_memory(writer));
     };
     let Ok(response) = answer(alloc, &outcome, close) else {

@@ -3,6 +3,7 @@ mod batches;
 mod books;
 mod calls;
 mod memory;
+mod policies;
 mod served;
 mod sessions;
 mod settings;

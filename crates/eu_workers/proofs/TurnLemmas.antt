@@ -11,6 +11,7 @@ use Rattle.eu_model.specs.declared.asks.Ask.{Ask}
 use Rattle.eu_model.specs.declared.asks.Ask.TheVariants.{Do, See}
 use Rattle.eu_json.specs.declared.batch_write.ItemAnswer.{ItemAnswer}
 use Rattle.eu_model.specs.Delta.{delta, plus}
+use Rattle.eu_http.specs.declared.policy.Policy.{Policy}
 use Rattle.eu_peer.specs.declared.turn.Turn.{Turn}
 use Rattle.eu_peer.specs.Turns.{Parties, Turns}
 use Rattle.eu_peer.proofs.KeepLemmas.{turns_keep}
@@ -139,11 +140,11 @@ takes_within n limit p q e takes few = record { within = (takes.within.0, omega 
 
 -- ---- by who asks for it: sessions, and turns for a peer, over whatever holds the pass
 
-module _ {D C : Type 0} (pass : D → PassAccount) (tells : C → ℕ → C → Type 0) where
+module _ {D C : Type 0} (policy : Policy) (pass : D → PassAccount) (tells : C → ℕ → C → Type 0) where
   pub asked_by_take : (n m : ℕ) (old new : Standing D C) (s : Streams) (ahead : List ℕ) (turned : Result Turned SessionFault)
-      → Takes (λ s ask t r s'. PassAsks (pass s) ask t r (pass s')) tells n m old new s ahead turned → IsAsked (pass old.desk) (pass new.desk)
+      → Takes policy (λ s ask t r s'. PassAsks (pass s) ask t r (pass s')) tells n m old new s ahead turned → IsAsked (pass old.desk) (pass new.desk)
   asked_by_take n m old new s ahead turned is =
-      takes_keep (λ s ask t r s'. PassAsks (pass s) ask t r (pass s')) (λ a b. IsAsked (pass a) (pass b))
+      takes_keep policy (λ s ask t r s'. PassAsks (pass s) ask t r (pass s')) (λ a b. IsAsked (pass a) (pass b))
       (λ a b e. asked_nothing (pass a) (pass b) (ap pass e))
       (λ a b c. asked_more (pass a) (pass b) (pass c))
       (λ a ask t r b. asks (pass a) ask t r (pass b))

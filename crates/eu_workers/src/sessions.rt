@@ -102,6 +102,7 @@ fn turn<K: Label, R: Wait, G: Gate, C: Clock, S: Read>(
     let turned = take_turn(
         site.alloc,
         site.routes,
+        site.policy,
         room,
         &mut guest.talk,
         seat,

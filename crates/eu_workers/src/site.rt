@@ -1,6 +1,7 @@
 //! What the workers of a server share.
 
 use eu_gate::Gate;
+use eu_http::Policy;
 use eu_routes::Routes;
 use eu_shared::{Label, Shared};
 use std::alloc::Global;
@@ -17,6 +18,8 @@ pub struct Site<'a, K: Label, R: Wait, G: Gate> {
     pub shared: &'a Shared<K>,
     /// The routes of requests.
     pub routes: &'a Routes,
+    /// Which requests they take.
+    pub policy: &'a Policy,
     /// What they pass before they go on.
     pub gate: &'a G,
 }

@@ -8,6 +8,7 @@ use eu_book::Book;
 use eu_clock::ListClock;
 use eu_fixtures::{pause_or_go_on, settings};
 use eu_hash::HashKey;
+use eu_http::Policy;
 use eu_model::Desk;
 use eu_routes::Routes;
 use eu_session::{SessionRoom, serve_session};
@@ -49,6 +50,7 @@ fn say<D: Desk>(
     let ended = serve_session(
         alloc,
         routes,
+        &Policy::open(),
         &mut room,
         desk,
         &mut clock,

@@ -6,6 +6,7 @@ use crate::tests::closed::first_wrong_end;
 use crate::tests::shared::{USUAL, open};
 use eu_base::Fault;
 use eu_clock::ListClock;
+use eu_http::Policy;
 use eu_routes::Routes;
 use eu_session::{SessionRoom, serve_session};
 use eu_shared::{Blanks, Label, PARTS, Seat};
@@ -33,6 +34,7 @@ fn serve<K: Label, R: Wait>(alloc: Global, seat: &mut Seat<'_, K, R>) -> Result<
     let served = serve_session(
         alloc,
         &routes,
+        &Policy::open(),
         &mut room,
         seat,
         &mut clock,

@@ -2,6 +2,7 @@
 use eu_base::{App, Fault, Moment};
 use eu_clock::Clock;
 use eu_fixtures::{Brittle, REGISTRATION, clock, done};
+use eu_http::Policy;
 use eu_json::read_instance;
 use eu_model::{Answer, Ask, Command, Desk, Listed, Query, Times, View};
 use eu_routes::Routes;
@@ -86,7 +87,10 @@ fn serve<R: Source, W: Sink>(
     let mut room = SessionRoom::new(alloc);
     let mut clock = clock(alloc, &[1000, 1001, 1002, 1003])?;
     let routes = Routes::new(alloc)?;
-    let served = serve_session(alloc, &routes, &mut room, desk, &mut clock, reader, writer);
+    let policy = Policy::open();
+    let served = serve_session(
+        alloc, &routes, &policy, &mut room, desk, &mut clock, reader, writer,
+    );
     let next = clock.now().ms();
     drop((clock, routes));
     match served {

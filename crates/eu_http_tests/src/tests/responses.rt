@@ -2,7 +2,7 @@
 use eu_base::{App, Config, Fault, Instance, Key, Keys, SharedInstance, Stamp, Status};
 use eu_fixtures::{MISSING, REGISTRATION, moment, push_each};
 use eu_framing::{EMPTY_ROOM, Inbox, Request, read_request};
-use eu_http::{Asked, Outcome, Wanted, answer, answer_without_memory, asks};
+use eu_http::{Asked, Outcome, Policy, Wanted, answer, answer_without_memory, asks};
 use eu_json::read_instance;
 use eu_model::{
     Answer, Ask, Command, Counts, Listed, Listing, Query, Reply, StatusCounts, Times, View,
@@ -261,7 +261,7 @@ pub fn is_said(alloc: Global, outcome: Outcome, close: bool, text: &str) -> bool
 fn asked(alloc: Global, request: &Request) -> Result<Asked, Fault> {
     let now = moment(1000)?;
     let routes = Routes::new(alloc)?;
-    let asked = asks(alloc, &routes, request, now);
+    let asked = asks(alloc, &routes, &Policy::open(), request, now);
     drop(routes);
     asked
 }

@@ -1,13 +1,14 @@
 //! The command line, from words to settings.
 //!
 //! A line has words, with a comma between them, ` = `, and what they say: the command; whether preservation is on, the percentage, the
-//! interval and the time between evictions; the seed; the file of the journal; and of a server what its options say, and how victims are drawn.
+//! interval and the time between evictions; the seed; the file of the journal; and of a server what its options say, how victims are drawn, and
+//! the origin that is allowed.
 use clap::ArgMatches;
 use clap::error::ErrorKind;
 use eu_base::{Config, Fault};
 use eu_fixtures::{Told, are_so, first_wrong};
 use eu_options::{
-    command, config_of, connections_within, drawing_of, journal_of, seed_of, serving_of,
+    command, config_of, connections_within, drawing_of, journal_of, origin_of, seed_of, serving_of,
 };
 use std::alloc::{AllocError, Global};
 
@@ -30,7 +31,10 @@ fn tell_command(out: &mut String, name: &str, found: &ArgMatches<'_>) -> Result<
     }
     write!(out, " {:?} {:?}", seed_of(found), journal_of(found))?;
     match name {
-        "serve" => write!(out, " {:?} {:?}", serving_of(found), drawing_of(found)),
+        "serve" => {
+            let (serving, drawing) = (serving_of(found), drawing_of(found));
+            write!(out, " {serving:?} {drawing:?} {:?}", origin_of(found))
+        }
         _ => Ok(()),
     }
 }
@@ -105,7 +109,13 @@ eureka, serve, --port, 8761, --sessions, 7, --idle-ms, 0 = refused
 eureka, serve, --port, 8761, --sessions, 7, --idle-ms, 4294967296 = refused
 eureka, serve, --port, 8761, --sessions, 7, --request-ms, 0 = refused
 eureka, serve, --port, 8761, --sessions, 7, --request-ms, 4294967296 = refused
-eureka, serve, --port, 8761, --sessions, 7, --bind = refused"#;
+eureka, serve, --port, 8761, --sessions, 7, --bind = refused
+eureka, serve, --port, 8761, --sessions, 7, --accept-peers, maybe = refused
+eureka, serve, --port, 8761, --sessions, 7, --accept-peers = refused
+eureka, serve, --port, 8761, --sessions, 7, --allow-origin = refused
+eureka, serve, --port, 8761, --sessions, 7, --allow-origin, https://a.example, --allow-origin, https://b.example = refused
+eureka, script, --accept-peers, off = refused
+eureka, audit, --allow-origin, https://a.example = refused"#;
 
 #[test]
 fn other_words_are_refused(rt: HostRuntime) {
@@ -113,20 +123,24 @@ fn other_words_are_refused(rt: HostRuntime) {
 }
 
 const SERVERS: &str =
-    r#"eureka, serve, --port, 8761, --sessions, 7 = serve true 85 30 60000 None None Some(Serving { port: 8761, bind: 127.0.0.1, sessions: Some(7), workers: 2, expected: 1, connections: 10000, idle_ms: 90000, request_ms: 10000, until_input_ends: false, is_quiet: false }) Some(FirstOnes)
-eureka, serve, --port, 0, --sessions, 0, --workers, 16, --expected, 500 = serve true 85 30 60000 None None Some(Serving { port: 0, bind: 127.0.0.1, sessions: Some(0), workers: 16, expected: 500, connections: 10000, idle_ms: 90000, request_ms: 10000, until_input_ends: false, is_quiet: false }) Some(FirstOnes)
-eureka, serve, --journal=x, --port, 0, --sessions, 0 = serve true 85 30 60000 None Some("x") Some(Serving { port: 0, bind: 127.0.0.1, sessions: Some(0), workers: 2, expected: 1, connections: 10000, idle_ms: 90000, request_ms: 10000, until_input_ends: false, is_quiet: false }) Some(FirstOnes)
-eureka, serve, --port, 0, --forever = serve true 85 30 60000 None None Some(Serving { port: 0, bind: 127.0.0.1, sessions: None, workers: 2, expected: 1, connections: 10000, idle_ms: 90000, request_ms: 10000, until_input_ends: false, is_quiet: false }) Some(FirstOnes)
-eureka, serve, --port, 0, --forever, --until-input-ends = serve true 85 30 60000 None None Some(Serving { port: 0, bind: 127.0.0.1, sessions: None, workers: 2, expected: 1, connections: 10000, idle_ms: 90000, request_ms: 10000, until_input_ends: true, is_quiet: false }) Some(FirstOnes)
-eureka, serve, --port, 0, --forever, --quiet = serve true 85 30 60000 None None Some(Serving { port: 0, bind: 127.0.0.1, sessions: None, workers: 2, expected: 1, connections: 10000, idle_ms: 90000, request_ms: 10000, until_input_ends: false, is_quiet: true }) Some(FirstOnes)
-eureka, serve, --port, 0, --sessions, 1, --bind, 10.0.0.7 = serve true 85 30 60000 None None Some(Serving { port: 0, bind: 10.0.0.7, sessions: Some(1), workers: 2, expected: 1, connections: 10000, idle_ms: 90000, request_ms: 10000, until_input_ends: false, is_quiet: false }) Some(FirstOnes)
-eureka, serve, --port, 0, --sessions, 1, --bind, 0.0.0.0 = serve true 85 30 60000 None None Some(Serving { port: 0, bind: 0.0.0.0, sessions: Some(1), workers: 2, expected: 1, connections: 10000, idle_ms: 90000, request_ms: 10000, until_input_ends: false, is_quiet: false }) Some(FirstOnes)
-eureka, serve, --port, 0, --sessions, 1, --bind, ::1 = serve true 85 30 60000 None None Some(Serving { port: 0, bind: ::1, sessions: Some(1), workers: 2, expected: 1, connections: 10000, idle_ms: 90000, request_ms: 10000, until_input_ends: false, is_quiet: false }) Some(FirstOnes)
-eureka, serve, --port, 0, --sessions, 1, --bind, :: = serve true 85 30 60000 None None Some(Serving { port: 0, bind: ::, sessions: Some(1), workers: 2, expected: 1, connections: 10000, idle_ms: 90000, request_ms: 10000, until_input_ends: false, is_quiet: false }) Some(FirstOnes)
-eureka, serve, --port, 0, --sessions, 1, --connections, 1, --idle-ms, 1, --request-ms, 1 = serve true 85 30 60000 None None Some(Serving { port: 0, bind: 127.0.0.1, sessions: Some(1), workers: 2, expected: 1, connections: 1, idle_ms: 1, request_ms: 1, until_input_ends: false, is_quiet: false }) Some(FirstOnes)
-eureka, serve, --port, 0, --sessions, 1, --connections, 1000000, --idle-ms, 4294967295, --request-ms, 4294967294 = serve true 85 30 60000 None None Some(Serving { port: 0, bind: 127.0.0.1, sessions: Some(1), workers: 2, expected: 1, connections: 1000000, idle_ms: 4294967295, request_ms: 4294967294, until_input_ends: false, is_quiet: false }) Some(FirstOnes)
-eureka, serve, --port, 0, --sessions, 1, --seed, 7 = serve true 85 30 60000 Some(7) None Some(Serving { port: 0, bind: 127.0.0.1, sessions: Some(1), workers: 2, expected: 1, connections: 10000, idle_ms: 90000, request_ms: 10000, until_input_ends: false, is_quiet: false }) Some(Seeded(7))
-eureka, serve, --port, 0, --sessions, 1, --seed, system = serve true 85 30 60000 None None Some(Serving { port: 0, bind: 127.0.0.1, sessions: Some(1), workers: 2, expected: 1, connections: 10000, idle_ms: 90000, request_ms: 10000, until_input_ends: false, is_quiet: false }) Some(FromSystem)"#;
+    r#"eureka, serve, --port, 8761, --sessions, 7 = serve true 85 30 60000 None None Some(Serving { port: 8761, bind: 127.0.0.1, sessions: Some(7), workers: 2, expected: 1, connections: 10000, idle_ms: 90000, request_ms: 10000, until_input_ends: false, is_quiet: false, accepts_peers: true }) Some(FirstOnes) None
+eureka, serve, --port, 0, --sessions, 0, --workers, 16, --expected, 500 = serve true 85 30 60000 None None Some(Serving { port: 0, bind: 127.0.0.1, sessions: Some(0), workers: 16, expected: 500, connections: 10000, idle_ms: 90000, request_ms: 10000, until_input_ends: false, is_quiet: false, accepts_peers: true }) Some(FirstOnes) None
+eureka, serve, --journal=x, --port, 0, --sessions, 0 = serve true 85 30 60000 None Some("x") Some(Serving { port: 0, bind: 127.0.0.1, sessions: Some(0), workers: 2, expected: 1, connections: 10000, idle_ms: 90000, request_ms: 10000, until_input_ends: false, is_quiet: false, accepts_peers: true }) Some(FirstOnes) None
+eureka, serve, --port, 0, --forever = serve true 85 30 60000 None None Some(Serving { port: 0, bind: 127.0.0.1, sessions: None, workers: 2, expected: 1, connections: 10000, idle_ms: 90000, request_ms: 10000, until_input_ends: false, is_quiet: false, accepts_peers: true }) Some(FirstOnes) None
+eureka, serve, --port, 0, --forever, --until-input-ends = serve true 85 30 60000 None None Some(Serving { port: 0, bind: 127.0.0.1, sessions: None, workers: 2, expected: 1, connections: 10000, idle_ms: 90000, request_ms: 10000, until_input_ends: true, is_quiet: false, accepts_peers: true }) Some(FirstOnes) None
+eureka, serve, --port, 0, --forever, --quiet = serve true 85 30 60000 None None Some(Serving { port: 0, bind: 127.0.0.1, sessions: None, workers: 2, expected: 1, connections: 10000, idle_ms: 90000, request_ms: 10000, until_input_ends: false, is_quiet: true, accepts_peers: true }) Some(FirstOnes) None
+eureka, serve, --port, 0, --sessions, 1, --bind, 10.0.0.7 = serve true 85 30 60000 None None Some(Serving { port: 0, bind: 10.0.0.7, sessions: Some(1), workers: 2, expected: 1, connections: 10000, idle_ms: 90000, request_ms: 10000, until_input_ends: false, is_quiet: false, accepts_peers: true }) Some(FirstOnes) None
+eureka, serve, --port, 0, --sessions, 1, --bind, 0.0.0.0 = serve true 85 30 60000 None None Some(Serving { port: 0, bind: 0.0.0.0, sessions: Some(1), workers: 2, expected: 1, connections: 10000, idle_ms: 90000, request_ms: 10000, until_input_ends: false, is_quiet: false, accepts_peers: true }) Some(FirstOnes) None
+eureka, serve, --port, 0, --sessions, 1, --bind, ::1 = serve true 85 30 60000 None None Some(Serving { port: 0, bind: ::1, sessions: Some(1), workers: 2, expected: 1, connections: 10000, idle_ms: 90000, request_ms: 10000, until_input_ends: false, is_quiet: false, accepts_peers: true }) Some(FirstOnes) None
+eureka, serve, --port, 0, --sessions, 1, --bind, :: = serve true 85 30 60000 None None Some(Serving { port: 0, bind: ::, sessions: Some(1), workers: 2, expected: 1, connections: 10000, idle_ms: 90000, request_ms: 10000, until_input_ends: false, is_quiet: false, accepts_peers: true }) Some(FirstOnes) None
+eureka, serve, --port, 0, --sessions, 1, --connections, 1, --idle-ms, 1, --request-ms, 1 = serve true 85 30 60000 None None Some(Serving { port: 0, bind: 127.0.0.1, sessions: Some(1), workers: 2, expected: 1, connections: 1, idle_ms: 1, request_ms: 1, until_input_ends: false, is_quiet: false, accepts_peers: true }) Some(FirstOnes) None
+eureka, serve, --port, 0, --sessions, 1, --connections, 1000000, --idle-ms, 4294967295, --request-ms, 4294967294 = serve true 85 30 60000 None None Some(Serving { port: 0, bind: 127.0.0.1, sessions: Some(1), workers: 2, expected: 1, connections: 1000000, idle_ms: 4294967295, request_ms: 4294967294, until_input_ends: false, is_quiet: false, accepts_peers: true }) Some(FirstOnes) None
+eureka, serve, --port, 0, --sessions, 1, --seed, 7 = serve true 85 30 60000 Some(7) None Some(Serving { port: 0, bind: 127.0.0.1, sessions: Some(1), workers: 2, expected: 1, connections: 10000, idle_ms: 90000, request_ms: 10000, until_input_ends: false, is_quiet: false, accepts_peers: true }) Some(Seeded(7)) None
+eureka, serve, --port, 0, --sessions, 1, --seed, system = serve true 85 30 60000 None None Some(Serving { port: 0, bind: 127.0.0.1, sessions: Some(1), workers: 2, expected: 1, connections: 10000, idle_ms: 90000, request_ms: 10000, until_input_ends: false, is_quiet: false, accepts_peers: true }) Some(FromSystem) None
+eureka, serve, --port, 0, --sessions, 1, --accept-peers, off = serve true 85 30 60000 None None Some(Serving { port: 0, bind: 127.0.0.1, sessions: Some(1), workers: 2, expected: 1, connections: 10000, idle_ms: 90000, request_ms: 10000, until_input_ends: false, is_quiet: false, accepts_peers: false }) Some(FirstOnes) None
+eureka, serve, --port, 0, --sessions, 1, --accept-peers, on, --preservation, off = serve false 85 30 60000 None None Some(Serving { port: 0, bind: 127.0.0.1, sessions: Some(1), workers: 2, expected: 1, connections: 10000, idle_ms: 90000, request_ms: 10000, until_input_ends: false, is_quiet: false, accepts_peers: true }) Some(FirstOnes) None
+eureka, serve, --port, 0, --sessions, 1, --allow-origin, https://site.example = serve true 85 30 60000 None None Some(Serving { port: 0, bind: 127.0.0.1, sessions: Some(1), workers: 2, expected: 1, connections: 10000, idle_ms: 90000, request_ms: 10000, until_input_ends: false, is_quiet: false, accepts_peers: true }) Some(FirstOnes) Some("https://site.example")
+eureka, serve, --port, 0, --sessions, 1, --allow-origin=null, --accept-peers=off = serve true 85 30 60000 None None Some(Serving { port: 0, bind: 127.0.0.1, sessions: Some(1), workers: 2, expected: 1, connections: 10000, idle_ms: 90000, request_ms: 10000, until_input_ends: false, is_quiet: false, accepts_peers: false }) Some(FirstOnes) Some("null")"#;
 
 #[test]
 fn a_server_has_what_its_options_say(rt: HostRuntime) {
@@ -135,13 +149,13 @@ fn a_server_has_what_its_options_say(rt: HostRuntime) {
 
 /// An address that is none, and a seed that is none.
 const WRONG: &str =
-    r#"eureka, serve, --port, 0, --sessions, 1, --bind, localhost = serve true 85 30 60000 None None None Some(FirstOnes)
-eureka, serve, --port, 0, --sessions, 1, --bind, 127.0.0.1:80 = serve true 85 30 60000 None None None Some(FirstOnes)
-eureka, serve, --port, 0, --sessions, 1, --bind, [::1] = serve true 85 30 60000 None None None Some(FirstOnes)
-eureka, serve, --port, 0, --sessions, 1, --bind, 127.0.0.256 = serve true 85 30 60000 None None None Some(FirstOnes)
-eureka, serve, --port, 0, --sessions, 1, --bind, 127.1 = serve true 85 30 60000 None None None Some(FirstOnes)
-eureka, serve, --port, 0, --sessions, 1, --bind, localhost, --seed, System = serve true 85 30 60000 None None None None
-eureka, serve, --port, 0, --sessions, 1, --bind, localhost, --seed, 18446744073709551616 = serve true 85 30 60000 None None None None"#;
+    r#"eureka, serve, --port, 0, --sessions, 1, --bind, localhost = serve true 85 30 60000 None None None Some(FirstOnes) None
+eureka, serve, --port, 0, --sessions, 1, --bind, 127.0.0.1:80 = serve true 85 30 60000 None None None Some(FirstOnes) None
+eureka, serve, --port, 0, --sessions, 1, --bind, [::1] = serve true 85 30 60000 None None None Some(FirstOnes) None
+eureka, serve, --port, 0, --sessions, 1, --bind, 127.0.0.256 = serve true 85 30 60000 None None None Some(FirstOnes) None
+eureka, serve, --port, 0, --sessions, 1, --bind, 127.1 = serve true 85 30 60000 None None None Some(FirstOnes) None
+eureka, serve, --port, 0, --sessions, 1, --bind, localhost, --seed, System = serve true 85 30 60000 None None None None None
+eureka, serve, --port, 0, --sessions, 1, --bind, localhost, --seed, 18446744073709551616 = serve true 85 30 60000 None None None None None"#;
 
 #[test]
 fn an_address_and_a_seed_are_judged(rt: HostRuntime) {
@@ -170,12 +184,12 @@ fn connections_are_as_many_as_descriptors_allow(rt: HostRuntime) {
 /// The line of a server, and what it says.
 const SERVER: (&str, &str) = (
     "eureka, serve, --port, 8761, --sessions, 7",
-    "serve true 85 30 60000 None None Some(Serving { port: 8761, bind: 127.0.0.1, sessions: Some(7), workers: 2, expected: 1, connections: 10000, idle_ms: 90000, request_ms: 10000, until_input_ends: false, is_quiet: false }) Some(FirstOnes)",
+    "serve true 85 30 60000 None None Some(Serving { port: 8761, bind: 127.0.0.1, sessions: Some(7), workers: 2, expected: 1, connections: 10000, idle_ms: 90000, request_ms: 10000, until_input_ends: false, is_quiet: false, accepts_peers: true }) Some(FirstOnes) None",
 );
 
 /// What a line says, in room that was made for it before.
 fn told(alloc: Global, said: &str) -> Result<String, Fault> {
-    let mut out = String::with_capacity(alloc, 256)?;
+    let mut out = String::with_capacity(alloc, 512)?;
     Options.tell(alloc, said, &mut out)?;
     Ok(out)
 }

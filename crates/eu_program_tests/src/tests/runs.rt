@@ -269,6 +269,7 @@ eureka serve --port 0 = 2 "" "error: the following required arguments were not p
 eureka serve --port 0 --sessions 0 --forever = 2 "" "error: the argument '--sessions <N>' cannot be used with '--forever'\n*"
 eureka serve --port 0 --sessions 0 --bind localhost = 2 "" "error: invalid value 'localhost' for '--bind <ADDRESS>': not an IP address\n\nFor more information, try '--help'.\n"
 eureka serve --port 0 --sessions 0 --seed x = 2 "" "error: invalid value 'x' for '--seed <N|system>': neither a u64 nor `system`\n\nFor more information, try '--help'.\n"
+eureka serve --port 0 --sessions 0 --accept-peers maybe = 2 "" "error: invalid value 'maybe' for '--accept-peers <on|off>'*"
 eureka serve --port 0 --sessions 0 --connections 0 = 2 "" "error: invalid value '0' for '--connections <N>': *"
 eureka serve --port 0 --sessions 0 --idle-ms 0 = 2 "" "error: invalid value '0' for '--idle-ms <MS>': *"
 eureka serve --port 0 --sessions 0 --request-ms 0 = 2 "" "error: invalid value '0' for '--request-ms <MS>': *"

@@ -4,6 +4,7 @@ use crate::tests::files::{Place, holds_each};
 use crate::tests::runs::{first_wrong, plays};
 use eu_clock::FirstChooser;
 use eu_fixtures::settings;
+use eu_http::Policy;
 use eu_options::{Serving, connections_within};
 use eu_program::serve;
 use libc::types::rlimit;
@@ -31,6 +32,7 @@ fn idle(port: u16) -> Serving {
         request_ms: 10_000,
         until_input_ends: false,
         is_quiet: false,
+        accepts_peers: true,
     }
 }
 
@@ -38,10 +40,10 @@ fn idle(port: u16) -> Serving {
 #[test]
 fn a_server_of_no_session_ends_at_once(rt: HostRuntime) -> Result<(), Fail> {
     let config = settings()?;
-    assert!(rt; serve(&rt, config, idle(0), None, FirstChooser) == 0);
+    assert!(rt; serve(&rt, config, idle(0), Policy::open(), None, FirstChooser) == 0);
     let taken = TcpListener::bind(&rt, "127.0.0.1:0")?;
     let port = taken.local_addr()?.port();
-    assert!(rt; serve(&rt, config, idle(port), None, FirstChooser) == 3);
+    assert!(rt; serve(&rt, config, idle(port), Policy::open(), None, FirstChooser) == 3);
     Ok(())
 }
 
@@ -206,6 +208,53 @@ fn is_limit_told<
 fn fewer_connections_than_were_asked_for_are_told(rt: HostRuntime) -> Result<(), Fail> {
     assert!(rt; is_limit_told(&rt, rt.alloc())?);
     Ok(())
+}
+
+/// A batch of a peer, a cancel that calls itself replicated, and a look at the status page that a page of a site has a browser take.
+const BATCH: &str =
+    "POST /eureka/peerreplication/batch/ HTTP/1.1\r\nHost: x\r\nConnection: close\r\nContent-Length: 22\r\n\r\n{\"replicationList\":[]}";
+
+const REPLICATED: &str =
+    "DELETE /eureka/apps/A/zz HTTP/1.1\r\nHost: x\r\nx-netflix-discovery-replication: true\r\nConnection: close\r\n\r\n";
+
+const OF_A_PAGE: &str =
+    "GET /eureka/status HTTP/1.1\r\nHost: x\r\nOrigin: https://site.example\r\nConnection: close\r\n\r\n";
+
+/// The response to what is forbidden.
+const FORBIDDEN: &str = "HTTP/1.1 403 Forbidden\r\nContent-Length: 0\r\nConnection: close\r\n\r\n";
+
+/// Peers are heard, and pages are not.
+const USUAL_POLICY: [Step; 3] = [
+    Step::Ask(BATCH, "HTTP/1.1 200 *"),
+    Step::Ask(REPLICATED, "HTTP/1.1 404 *"),
+    Step::Ask(OF_A_PAGE, FORBIDDEN),
+];
+
+/// The other way round.
+const OTHER_POLICY: [Step; 3] = [
+    Step::Ask(BATCH, FORBIDDEN),
+    Step::Ask(REPLICATED, FORBIDDEN),
+    Step::Ask(OF_A_PAGE, "HTTP/1.1 200 *"),
+];
+
+/// Servers that take the requests that their options say.
+const TAKING: [Served; 2] = [
+    (
+        r#"eureka serve --port 0 --sessions 3 = 0 "served 3\n" "listening on 127.0.0.1:*\n""#,
+        &USUAL_POLICY,
+    ),
+    (
+        r#"eureka serve --port 0 --sessions 3 --accept-peers off --allow-origin https://site.example = 0 "served 3\n" "listening on 127.0.0.1:*\n""#,
+        &OTHER_POLICY,
+    ),
+];
+
+#[test]
+fn a_server_takes_what_its_policy_allows(rt: HostRuntime) {
+    assert_eq!(rt;
+        first_wrong_server(&rt, rt.alloc(), TAKING.as_slice()),
+        None
+    );
 }
 
 /// Servers that have the settings that they are given, that serve two clients at once, and that have one worker alone.

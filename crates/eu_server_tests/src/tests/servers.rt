@@ -8,6 +8,7 @@ use eu_fixtures::{LAST_MISSING, REGISTRATION as INSTANCE, settings};
 use eu_gate::Periods;
 use eu_hall::Patience;
 use eu_hash::HashKey;
+use eu_http::Policy;
 use eu_server::{Finished, Plan, serve_book, serve_by, serve_with_journal};
 use eu_shared::Blanks;
 use eu_stream::Writing;
@@ -189,6 +190,7 @@ pub fn plan(sessions: u32, workers: u32, waits: Waits) -> Result<Plan, Fault> {
         input: None,
         is_quiet: true,
         hash_key: HashKey::new(0, 0),
+        policy: Policy::open(),
     })
 }
 

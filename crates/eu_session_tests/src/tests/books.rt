@@ -7,12 +7,13 @@
 //! - `minutes`: 65,535 minutes end, and it is told how many steps were made;
 //! - `drain`: the peer is given what waits for it, at the moment 3000, and the reply is told;
 //! - `steps`: it is told how many steps were made.
-use crate::tests::told::{spelled, told};
+use crate::tests::told::{spelled, told_by};
 use eu_base::{Config, Fault, MOST_ENTRIES};
 use eu_book::Book;
 use eu_clock::FirstChooser;
 use eu_fixtures::{at, push_number, settings, tell_fault, tell_reply};
 use eu_hash::HashKey;
+use eu_http::Policy;
 use eu_model::Command;
 use std::alloc::Global;
 
@@ -57,9 +58,15 @@ pub fn request_of(alloc: Global, words: &str) -> Result<String, Fault> {
 }
 
 /// Tells what a session of a request writes; more, where it isn't one of one request.
-fn ask(alloc: Global, book: &mut Book, words: &str, out: &mut String) -> Result<(), Fault> {
+fn ask(
+    alloc: Global,
+    policy: &Policy,
+    book: &mut Book,
+    words: &str,
+    out: &mut String,
+) -> Result<(), Fault> {
     let request = request_of(alloc, words)?;
-    let told = told(alloc, book, &mut request.as_bytes(), usize::MAX)?;
+    let told = told_by(alloc, policy, book, &mut request.as_bytes(), usize::MAX)?;
     let told = told.as_str();
     out.push_str(told.strip_prefix("requests 1 next 1001 ").unwrap_or(told))?;
     Ok(())
@@ -88,36 +95,52 @@ fn drain(alloc: Global, book: &mut Book, out: &mut String) -> Result<(), Fault> 
     }
 }
 
-fn say(alloc: Global, book: &mut Book, said: &str, out: &mut String) -> Result<(), Fault> {
+fn say(
+    alloc: Global,
+    policy: &Policy,
+    book: &mut Book,
+    said: &str,
+    out: &mut String,
+) -> Result<(), Fault> {
     match said {
-        "register" => ask(alloc, book, REGISTRATION, out),
+        "register" => ask(alloc, policy, book, REGISTRATION, out),
         "minutes" => end_minutes(alloc, book, out),
         "drain" => drain(alloc, book, out),
         "steps" => tell_steps(book, out),
-        request => ask(alloc, book, request, out),
+        request => ask(alloc, policy, book, request, out),
     }
 }
 
 /// Whether that comes of a line.
-fn comes(alloc: Global, book: &mut Book, line: &str) -> Result<bool, Fault> {
+fn comes(alloc: Global, policy: &Policy, book: &mut Book, line: &str) -> Result<bool, Fault> {
     let line = spelled(alloc, line)?;
     let (said, wanted) = line.split_once(" = ").ok_or(Fault::BadValue)?;
     let mut out = String::new(alloc);
-    say(alloc, book, said, &mut out)?;
+    say(alloc, policy, book, said, &mut out)?;
     Ok(out.as_str() == wanted)
 }
 
 /// The number, from 1, of the first line of a text of which something else comes, where it is said to a book that is opened so. None where
-/// there is no such line.
-pub fn first_wrong(alloc: Global, opening: &str, text: &str) -> Result<Option<usize>, Fault> {
+/// there is no such line. Its requests are taken by a policy.
+pub fn first_wrong_by(
+    alloc: Global,
+    policy: &Policy,
+    opening: &str,
+    text: &str,
+) -> Result<Option<usize>, Fault> {
     let mut book = opened(alloc, opening)?;
     let mut wrong = None;
     for (number, line) in text.lines().enumerate() {
-        if comes(alloc, &mut book, line) != Ok(true) {
+        if comes(alloc, policy, &mut book, line) != Ok(true) {
             wrong = Some(number.saturating_add(1));
             break;
         }
     }
     drop(book);
     Ok(wrong)
+}
+
+/// The same by the policy of a server that wasn't told otherwise.
+pub fn first_wrong(alloc: Global, opening: &str, text: &str) -> Result<Option<usize>, Fault> {
+    first_wrong_by(alloc, &Policy::open(), opening, text)
 }

@@ -4,6 +4,7 @@ ghost use Rattle.std.specs.Prelude.{None};
 use eu_base::{Fault, Moment};
 use eu_clock::Clock;
 use eu_fixtures::Parts;
+use eu_http::Policy;
 use eu_model::{Answer, Ask, Desk, Reply};
 use eu_routes::Routes;
 use eu_session::{SessionRoom, serve_session};
@@ -113,6 +114,7 @@ fn serve(
     match serve_session(
         alloc,
         routes,
+        &Policy::open(),
         &mut SessionRoom::new(alloc),
         &mut desk,
         &mut clock,

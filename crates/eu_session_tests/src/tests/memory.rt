@@ -3,6 +3,7 @@ use crate::tests::books::{USUAL, opened, request_of};
 use eu_base::Fault;
 use eu_book::Book;
 use eu_fixtures::{MISSING, clock, pause_or_go_on};
+use eu_http::Policy;
 use eu_routes::Routes;
 use eu_session::{SessionFault, SessionRoom, serve_session};
 use eu_stream::Writing;
@@ -51,6 +52,7 @@ fn say(
     let ended = serve_session(
         alloc,
         routes,
+        &Policy::open(),
         &mut room,
         book,
         &mut clock,
@@ -215,7 +217,7 @@ fn is_answered(alloc: Global, twins: &mut Twins, request: &str, head: &str) -> R
 }
 
 /// Requests, each with how its answer begins; the last four begin with none.
-const ROWS: [&str; 18] = [
+const ROWS: [&str; 19] = [
     "POST /eureka/apps/A HTTP/1.1\r\nHost: x\r\nTransfer-Encoding: chunked\r\n\r\n96\r\n{\"instance\":{\"instanceId\":\"i1\",\"hostName\":\"h\",\"app\":\"a\",\"ipAddr\":\"10.0.0.1\",\"status\":\"UP\",\"lastDirtyTimestamp\":\"5\",\"dataCenterInfo\":{\"name\":\"MyOwn\"}}}\r\n0\r\n\r\n = HTTP/1.1 204 No Content\r\n\r\n",
     "POST /eureka/peerreplication/batch/ {\"replicationList\":[{\"action\":\"Heartbeat\",\"appName\":\"A\",\"id\":\"i1\",\"lastDirtyTimestamp\":\"4\"}]} = HTTP/1.1 200 OK\r\n",
     "GET /eureka/apps/A/%69%31 = HTTP/1.1 200 OK\r\n",
@@ -228,6 +230,7 @@ const ROWS: [&str; 18] = [
     "PUT /eureka/config?preservation=on&percent=50&interval=15&evictMs=60000 = HTTP/1.1 200 OK\r\n",
     "PUT /eureka/config?preservation=on&percent=101&interval=15&evictMs=60000 = HTTP/1.1 400 Bad Request\r\n",
     "GET /eureka/apps/delta = HTTP/1.1 403 Forbidden\r\n",
+    "DELETE /eureka/apps/A/i1 HTTP/1.1\r\nHost: x\r\nOrigin: https://site.example\r\nOrigin: null\r\n\r\n = HTTP/1.1 403 Forbidden\r\n",
     "DELETE /eureka/apps/A/i1 = HTTP/1.1 200 OK\r\n",
     "GET /eureka/apps/A/i1 = HTTP/1.1 404 Not Found\r\n",
     "GET /eureka/apps HTTP/1.1\r\n\r\n = HTTP/1.1 400 Bad Request\r\n",

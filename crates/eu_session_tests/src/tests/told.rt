@@ -4,6 +4,7 @@ ghost use Rattle.std.specs.Prelude.{None};
 use eu_base::Fault;
 use eu_clock::{Clock, ListClock};
 use eu_fixtures::{clock, written_out};
+use eu_http::Policy;
 use eu_model::Desk;
 use eu_routes::Routes;
 use eu_session::{SessionFault, SessionRoom, serve_session};
@@ -46,6 +47,7 @@ impl Sink for Narrow {
 
 fn serve<D: Desk, R: Source>(
     alloc: Global,
+    policy: &Policy,
     desk: &mut D,
     clock: &mut ListClock,
     reader: &mut R,
@@ -54,7 +56,9 @@ fn serve<D: Desk, R: Source>(
     match Routes::new(alloc) {
         Ok(routes) => {
             let mut room = SessionRoom::new(alloc);
-            let served = serve_session(alloc, &routes, &mut room, desk, clock, reader, writer);
+            let served = serve_session(
+                alloc, &routes, policy, &mut room, desk, clock, reader, writer,
+            );
             drop(routes);
             served
         }
@@ -62,10 +66,11 @@ fn serve<D: Desk, R: Source>(
     }
 }
 
-/// Serves a session at the moments 1000, 1001 and 1002 to a writer that holds so much. Tells how many requests it had, or the number of its
+/// Serves a session by a policy, at the moments 1000, 1001 and 1002, to a writer that holds so much. Tells how many requests it had, or the number of its
 /// fault; the moment that the clock tells next; and what was written.
-pub fn told<D: Desk, R: Source>(
+pub fn told_by<D: Desk, R: Source>(
     alloc: Global,
+    policy: &Policy,
     desk: &mut D,
     reader: &mut R,
     most: usize,
@@ -76,7 +81,7 @@ pub fn told<D: Desk, R: Source>(
         most,
         has_failed: false,
     };
-    let (word, number) = match serve(alloc, desk, &mut clock, reader, &mut writer) {
+    let (word, number) = match serve(alloc, policy, desk, &mut clock, reader, &mut writer) {
         Ok(count) => ("requests", count),
         Err(fault) => ("fault", u32::from(fault.fault().number())),
     };
@@ -85,6 +90,16 @@ pub fn told<D: Desk, R: Source>(
     let told = format!(in alloc; "{word} {number} next {next} {written}");
     drop((clock, writer));
     Ok(told?)
+}
+
+/// The same by the policy of a server that wasn't told otherwise.
+pub fn told<D: Desk, R: Source>(
+    alloc: Global,
+    desk: &mut D,
+    reader: &mut R,
+    most: usize,
+) -> Result<String, Fault> {
+    told_by(alloc, &Policy::open(), desk, reader, most)
 }
 
 /// A text with its marks written out: `¶` is CR LF, `␤` is LF, and `‹3 ab›` is `ababab`.

@@ -5,6 +5,7 @@ use eu_book::Book;
 use eu_clock::ListClock;
 use eu_fixtures::{Parts, joined};
 use eu_framing::{EMPTY_ROOM, Room};
+use eu_http::Policy;
 use eu_routes::Routes;
 use eu_session::{SessionFault, SessionRoom, Talk, Turned, serve_session, take_turn};
 use eu_stream::{Source, Writing};
@@ -34,6 +35,7 @@ const LAST_ANSWER: &str =
 struct Talking {
     alloc: Global,
     routes: Routes,
+    policy: Policy,
     book: Book,
     talk: Talk,
     room: Room,
@@ -45,6 +47,7 @@ impl Talking {
         Ok(Talking {
             alloc,
             routes: Routes::new(alloc)?,
+            policy: Policy::open(),
             book: opened(alloc, USUAL)?,
             talk: Talk::new(alloc),
             room: EMPTY_ROOM,
@@ -57,6 +60,7 @@ impl Talking {
         let turned = take_turn(
             self.alloc,
             &self.routes,
+            &self.policy,
             &mut self.room,
             &mut self.talk,
             &mut self.book,
@@ -110,6 +114,7 @@ fn serve(alloc: Global, room: &mut SessionRoom, texts: &[&str]) -> Result<(u32, 
     let served = serve_session(
         alloc,
         &routes,
+        &Policy::open(),
         room,
         &mut book,
         &mut clock,

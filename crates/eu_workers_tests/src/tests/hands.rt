@@ -1,6 +1,7 @@
 //! Workers in a list, each with a pass of its own, and what they work at.
 use eu_base::Fault;
 use eu_clock::{FirstChooser, ListClock};
+use eu_http::Policy;
 use eu_peer::Peer;
 use eu_routes::Routes;
 use eu_shared::{Label, Pass, Shared};
@@ -73,11 +74,13 @@ pub fn work_through<
     workers: &mut [Hand<K, S, P>],
 ) -> Result<(), Fault> {
     let routes = Routes::new(alloc)?;
+    let policy = Policy::open();
     let site = Site {
         rt,
         alloc,
         shared,
         routes: &routes,
+        policy: &policy,
         gate,
     };
     run_all(&site, workers);

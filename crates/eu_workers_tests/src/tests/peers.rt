@@ -7,6 +7,7 @@ use crate::tests::servers::{clock, leases, open};
 use crate::tests::victims::register as register_by;
 use eu_base::{Fault, Moment};
 use eu_clock::ListClock;
+use eu_http::Policy;
 use eu_in_process::InProcess;
 use eu_model::Query;
 use eu_routes::Routes;
@@ -62,11 +63,13 @@ fn replicate_by<K: Label, L: Label, R: Wait>(
     peer: &mut Way<'_, L, R>,
 ) -> Result<Ended, Fault> {
     let routes = Routes::new(alloc)?;
+    let policy = Policy::open();
     let site = Site {
         rt,
         alloc,
         shared: here,
         routes: &routes,
+        policy: &policy,
         gate: &Open,
     };
     let ended = work(&site, peer);

@@ -9,6 +9,7 @@ use eu_book::Book;
 use eu_clock::{FirstChooser, ListClock};
 use eu_fixtures::{registration, settings};
 use eu_hash::HashKey;
+use eu_http::Policy;
 use eu_in_process::InProcess;
 use eu_model::Command;
 use eu_peer::{ItemAnswer, Lost, Peer};
@@ -99,11 +100,13 @@ fn send_from<K: Label, R: Wait>(
     config: &Config,
 ) -> Result<(Ended, u64), Fault> {
     let routes = Routes::new(alloc)?;
+    let policy = Policy::open();
     let site = Site {
         rt,
         alloc,
         shared,
         routes: &routes,
+        policy: &policy,
         gate: &Open,
     };
     let reached = reach(&site, number, *config);
@@ -223,11 +226,13 @@ fn turns_by<K: Label, R: Wait>(
     shared: &Shared<K>,
 ) -> Result<(Ended, u64), Fault> {
     let routes = Routes::new(alloc)?;
+    let policy = Policy::open();
     let site = Site {
         rt,
         alloc,
         shared,
         routes: &routes,
+        policy: &policy,
         gate: &Open,
     };
     let done = turns_at(&site);

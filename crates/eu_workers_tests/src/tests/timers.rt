@@ -7,6 +7,7 @@ use eu_base::{Fault, Moment};
 use eu_clock::{FirstChooser, ListClock};
 use eu_fixtures::settings;
 use eu_hash::HashKey;
+use eu_http::Policy;
 use eu_model::Command;
 use eu_routes::Routes;
 use eu_shared::{Blanks, Label, PARTS, Pass, Shared, close};
@@ -142,11 +143,13 @@ fn work_by<K: Label, R: Wait>(
     limits: Limits,
 ) -> Result<Timers, Fault> {
     let routes = Routes::new(alloc)?;
+    let policy = Policy::open();
     let site = Site {
         rt,
         alloc,
         shared,
         routes: &routes,
+        policy: &policy,
         gate: &Always { go },
     };
     let timers = work_at(&site, clock, limits);
@@ -311,11 +314,13 @@ fn roll_on<K: Label, R: Wait>(
     turns: u64,
 ) -> Result<(Pass<K>, Ended), Fault> {
     let routes = Routes::new(alloc)?;
+    let policy = Policy::open();
     let site = Site {
         rt,
         alloc,
         shared,
         routes: &routes,
+        policy: &policy,
         gate: &Always { go: Go::On },
     };
     let after_minute = roll_at(&site, turns);

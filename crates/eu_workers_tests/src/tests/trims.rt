@@ -10,6 +10,7 @@ use eu_book::Book;
 use eu_clock::{FirstChooser, ListClock};
 use eu_fixtures::{RENEWAL, settings};
 use eu_hash::HashKey;
+use eu_http::Policy;
 use eu_in_process::InProcess;
 use eu_routes::Routes;
 use eu_session::Talk;
@@ -245,11 +246,13 @@ fn work_on<K: Label, R: Wait>(
     config: &Config,
 ) -> Result<Leaving, Fault> {
     let routes = Routes::new(alloc)?;
+    let policy = Policy::open();
     let site = Site {
         rt,
         alloc,
         shared,
         routes: &routes,
+        policy: &policy,
         gate: &Twice {
             turns: AtomicU64::new(0),
         },

@@ -7,6 +7,7 @@ use eu_base::{Config, Fault, Moment};
 use eu_clock::{FirstChooser, ListChooser, ListClock};
 use eu_fixtures::{clock, ids, registration};
 use eu_hash::HashKey;
+use eu_http::Policy;
 use eu_model::Reply;
 use eu_routes::Routes;
 use eu_shared::{Blanks, Label, PARTS, Pass, Shared};
@@ -114,11 +115,13 @@ fn evicts_of<K: Label, R: Wait>(
 ) -> Result<(u64, String), Fault> {
     register_all(rt, shared, alloc)?;
     let routes = Routes::new(alloc)?;
+    let policy = Policy::open();
     let site = Site {
         rt,
         alloc,
         shared,
         routes: &routes,
+        policy: &policy,
         gate: &Open,
     };
     let evicted = evicts(&site);

@@ -12,4 +12,4 @@ returns c =
     let top : app_of c.subcommand_required.result ≡ record (new_app (codes "eureka")) { top = record (new_app (codes "eureka")).top { subcommand_required = true } } = search rules in
     let first = c.in_ok-subcommand.ensures.shape c.in_ok-script.ensures.local ∙ ap₂ with_subcommand top (ap (λ (a : App). a.top) one.2) in
     let second = c.in_ok-subcommand-2.ensures.shape c.in_ok-audit.ensures.local ∙ ap₂ with_subcommand first (ap (λ (a : App). a.top) other.2) in
-    IfOk-weaker c.subcommand-3.result _ _ (λ _ h. (one.0, other.0, third.0, one.1, other.1, third.1, h.shape c.in_ok-serve.ensures.local ∙ ap₂ with_subcommand second (ap (λ (a : App). a.top) third.2))) c.subcommand-3.ensures
+    IfOk-weaker c.subcommand-3.result _ _ (λ _ h. (one.0, other.0, third.0, third.1, one.1, other.1, third.2, third.3, h.shape c.in_ok-serve.ensures.local ∙ ap₂ with_subcommand second (ap (λ (a : App). a.top) third.4))) c.subcommand-3.ensures

@@ -59,3 +59,8 @@ pub returns-in_err-is_quiet-clause-none : goal.returns-in_err-is_quiet-clause-no
 returns-in_err-is_quiet-clause-none c = λ s _ _ _ _ _ h.
     let found = c.flag_of-2.ensures.none s.is_quiet h.9 in
     search (rules, found)
+
+pub returns-in_err-accepts_peers-clause-none : goal.returns-in_err-accepts_peers-clause-none
+returns-in_err-accepts_peers-clause-none c = λ s _ _ _ _ _ h.
+    let found = c.switch_of.ensures.none s.accepts_peers h.10 in
+    search (rules, found)

@@ -5,7 +5,7 @@ use Rattle.eu_session.proofs.session.serve_session.Given as goal
 
 abbrev pub invariant-turns : goal.invariant-turns
 invariant-turns g l = record {
-  goes_on : Part (Step g.D.Desk.asked g.C.Clock.tells) 0 l.room.talk.served
+  goes_on : Part (Step l.policy g.D.Desk.asked g.C.Clock.tells) 0 l.room.talk.served
       (record { left = g.R.Source.remaining l.initial.reader; desk = l.initial.desk; clock = l.initial.clock })
       (record { left = pending l.room.talk.inbox (g.R.Source.remaining l.reader); desk = l.desk; clock = l.clock })
       (g.W.Sink.contents l.initial.writer) (g.W.Sink.contents l.writer);

@@ -3,7 +3,7 @@ use Rattle.eu_session.proofs.talk.turns_are_connections.Goals as goal
 
 pub returns : goal.returns
 returns g c = record {
-  carry = parts_carry g.D.Desk.asked g.C.Clock.tells;
-  join = parts_join_over g.D.Desk.asked g.C.Clock.tells;
-  end = parts_end_over g.D.Desk.asked g.C.Clock.tells;
+  carry = λ policy. parts_carry policy g.D.Desk.asked g.C.Clock.tells;
+  join = λ policy. parts_join_over policy g.D.Desk.asked g.C.Clock.tells;
+  end = λ policy. parts_end_over policy g.D.Desk.asked g.C.Clock.tells;
 }

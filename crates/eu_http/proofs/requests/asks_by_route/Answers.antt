@@ -4,7 +4,7 @@ use Rattle.eu_framing.specs.Message as target
 use Rattle.eu_routes.specs.Path.{IsUncoded}
 use Rattle.eu_routes.specs.Table.{needs_memory, resource_of, route_of, IsKnown}
 use Rattle.eu_http.proofs.AskLemmas.{asked, not_json, path_in, query_in}
-use Rattle.eu_http.proofs.requests.asks.Goals as goal
+use Rattle.eu_http.proofs.requests.asks_by_route.Goals as goal
 
 pub returns-in-Ok-clause-memory : goal.returns-in-Ok-clause-memory
 returns-in-Ok-clause-memory c =

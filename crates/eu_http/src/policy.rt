@@ -1,0 +1,96 @@
+//! Which requests a server takes.
+ghost use Rattle.std.specs.Prelude.{◌≡◌, None, IfOk, true, not, option_map, string_bytes};
+ghost use Rattle.std.specs.List.{list_any};
+ghost use Rattle.eu_http.specs.Policy as spec;
+
+use eu_framing::Request;
+use eu_routes::Routes;
+use std::alloc::{AllocError, Global};
+
+/// Which requests a server takes, whatever they ask.
+///
+/// No client of a registry is a browser, but a browser can reach one, and a page from anywhere can have it send a POST without asking. It then
+/// sends a field `Origin` with the site of that page (RFC 6454, section 7; the Fetch standard, "`Origin` header"). So a request with one is forbidden, unless it's the
+/// origin that is allowed. And a server without peers needn't take what only peers send.
+#[derive(Debug, Drop)]
+pub struct Policy {
+    /// Whether requests of peers are taken: those that call themselves replicated, and batches.
+    pub accepts_peers: bool,
+    /// The origin whose pages may ask, as a browser writes it (`https://example.com`), if there is one.
+    pub allowed_origin: Option<String>,
+}
+
+/// Whether an origin is the one that is allowed, byte by byte.
+fn is_allowed(allowed: &Option<String>, origin: &Vec<u8>) -> bool
+    ensures { result ≡ spec.is_allowed allowed.now origin.now.items }
+{
+    match allowed {
+        Some(allowed) => origin.as_slice() == allowed.as_bytes(),
+        None => false,
+    }
+}
+
+/// Whether one of these origins isn't the one that is allowed.
+fn has_other(allowed: &Option<String>, origins: &[Vec<u8>]) -> bool
+    ensures { result ≡ list_any (λ o. not (spec.is_allowed allowed.now o.items)) origins.now }
+{
+    for origin in origins {
+        if !is_allowed(allowed, origin) {
+            return true;
+        }
+    }
+    false
+}
+
+/// Whether a request is one that only peers send: it calls itself replicated, or is a batch.
+fn is_of_peer(routes: &Routes, request: &Request) -> bool
+    ensures { result ≡ spec.is_of_peer request.now }
+{
+    let (path, _) = request.parts();
+    request.replicated || routes.is_batch(&request.method, path)
+}
+
+impl Policy {
+    /// One by which requests of peers are taken or not, and pages of this origin may ask, if there is one. `AllocError` where there is no memory
+    /// for the origin.
+    pub fn new(
+        alloc: Global,
+        accepts_peers: bool,
+        allowed_origin: Option<&str>,
+    ) -> Result<Policy, AllocError>
+        ensures peers { IfOk result (λ p. p.accepts_peers ≡ accepts_peers) }
+        ensures origin { IfOk result (λ p. option_map (λ o. string_bytes o) p.allowed_origin ≡ option_map (λ o. o.now) allowed_origin.entry) }
+    {
+        let allowed_origin = match allowed_origin {
+            Some(origin) => Some(String::from_str(alloc, origin)?),
+            None => None,
+        };
+        Ok(Policy {
+            accepts_peers,
+            allowed_origin,
+        })
+    }
+
+    /// That of a server which wasn't told otherwise: requests of peers are taken, and no page may ask. Takes no memory.
+    pub fn open() -> Policy
+        ensures peers { result.accepts_peers ≡ true }
+        ensures origin { result.allowed_origin ≡ None }
+    {
+        Policy {
+            accepts_peers: true,
+            allowed_origin: None,
+        }
+    }
+
+    /// Whether a request is forbidden: it has an `Origin` field that isn't the origin that is allowed, byte by byte; or requests of peers
+    /// aren't taken, and it calls itself replicated or is a batch. Takes no memory.
+    #[tactic(auto, unfolding(crate::specs::Policy::forbids))]
+    pub fn forbids(&self, routes: &Routes, request: &Request) -> bool
+        ensures { result ≡ spec.forbids self.now request.now }
+    {
+        if has_other(&self.allowed_origin, &request.origins) {
+            return true;
+        }
+        !self.accepts_peers && is_of_peer(routes, request)
+    }
+}

@@ -1,0 +1,20 @@
+-- Each argument is added with its rule, and none is global
+use Rattle.std.proofs.Common.{refl, ap₂, codes, ◌≡◌, ◌∙◌, ◌||◌, false}
+use Rattle.std.proofs.lemmas.Result.{IfOk-weaker}
+use Rattle.clap.specs.Words.{rule_of, with_rule}
+use Rattle.eu_options.specs.Options.{option_rule, IsSwitchParser}
+use Rattle.eu_options.proofs.options.with_policy.Goals as goal
+
+pub returns-clause-app : goal.returns-clause-app
+returns-clause-app c =
+    let switch = c.from-switch.result in
+    let words : IsSwitchParser switch = rw (c.from-switch.ensures, c.as_slice.ensures) refl in
+    let peers : rule_of c.help-peers.result ≡ option_rule (codes "accept-peers") switch (codes "on") = rw c.help-peers.ensures c.option.ensures.rule in
+    let first = c.in_ok-arg.ensures.shape (rw c.help-peers.ensures c.option.ensures.local) ∙ ap₂ with_rule refl peers in
+    IfOk-weaker c.arg-2.result _ _ (λ _ h. (switch, words, h.shape c.origin_option.ensures.local ∙ ap₂ with_rule first c.origin_option.ensures.rule)) c.arg-2.ensures
+
+pub returns-clause-local : goal.returns-clause-local
+returns-clause-local c = λ none.
+    let peers : c.help-peers.result.global ≡ false = rw c.help-peers.ensures c.option.ensures.local in
+    let first = c.in_ok-arg.ensures.globals ∙ ap₂ (λ a b. a || b) none peers in
+    IfOk-weaker c.arg-2.result _ _ (λ _ h. h.globals ∙ ap₂ (λ a b. a || b) first c.origin_option.ensures.local) c.arg-2.ensures

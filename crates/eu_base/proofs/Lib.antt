@@ -1,5 +1,6 @@
 pub mod KeyLemmas
 pub mod NameLemmas
+pub mod HostLemmas
 pub mod RestLemmas
 pub mod StatusLemmas
 pub mod Crossing

@@ -1,6 +1,5 @@
 -- The members of an instance that are kept as they came
-use Rattle.std.specs.Prelude.{◌≡◌, ℕ, true, false, is_some, Option, Some, None, List, codes, String, string_bytes}
-use Rattle.std.specs.Borrow.{Bor}
+use Rattle.std.specs.Prelude.{◌≡◌, ℕ, true, false, is_some, List, codes, String, string_bytes}
 use Rattle.std.specs.declared.alloc.Global.{Global}
 use Rattle.serde_json.specs.Data.{Data, string, object, no_members, member}
 use Rattle.serde_json.specs.Find.{as_object}
@@ -26,7 +25,6 @@ rest_of_host host = object
     (member (codes "hostName") (string host)
     (member (codes "ipAddr") (string (codes "0.0.0.0")) no_members)))
 
--- a member that may be there: its name and its tree
-abbrev pub named_tree : Option (Bor (String Global) × Bor Value) → Option (List ℕ × Data)
-named_tree None = None
-named_tree (Some m) = Some (string_bytes m.0.now, view m.1.now)
+-- a member: its name and its tree
+abbrev pub named_tree : String Global × Value → List ℕ × Data
+named_tree m = (string_bytes m.0, view m.1)

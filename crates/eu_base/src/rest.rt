@@ -59,15 +59,23 @@ impl Rest {
     }
 
     /// The members of a value that is known to be such an object, so that it isn't looked through. `AllocError` where no memory is left.
-    pub fn of_fit(alloc: Global, value: Value) -> Result<Rest, AllocError>
+    fn of_fit(alloc: Global, value: Value) -> Result<Rest, AllocError>
         requires { IsRest (tree_of value) }
         ensures { IfOk result (λ r. r ≡ tree_of value) }
     {
         let members = members_of(value).unwrap();
-        if let Some(host) = host_of(&members) {
+        let entries = entries_of(alloc, members)?;
+        Rest::of_entries(alloc, entries)
+    }
+
+    /// The object with these members, which are known to fit, so that they aren't looked through. `AllocError` where no memory is left.
+    pub fn of_entries(alloc: Global, entries: Vec<Member>) -> Result<Rest, AllocError>
+        requires { is_fit (object (members_view entries.items)) ≡ true }
+        ensures { IfOk result (λ r. r ≡ object (members_view entries.items)) }
+    {
+        if let Some(host) = host_of(entries.as_slice()) {
             return Rest::of_host(alloc, host);
         }
-        let entries = entries_of(alloc, members)?;
         let text = ObjectText::new(alloc, entries.as_slice())?;
         let text = Box::new(alloc, text)?;
         Ok(Rest {

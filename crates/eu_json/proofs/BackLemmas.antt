@@ -17,9 +17,9 @@ use Rattle.eu_base.specs.declared.statuses.Status.{Status}
 use Rattle.eu_base.specs.declared.statuses.Status.TheVariants.{Up, Down, Starting, OutOfService, Unknown}
 use Rattle.eu_base.specs.Gives.{◌>>=◌}
 use Rattle.eu_json.specs.Tree.{text_at, is_blank, instance_tree, lease_tree}
-use Rattle.eu_json.specs.Reading.{address_stands, alike, app_stands, center_stands, interval_in, first_of, lease_member, name_of, of_member, of_object, overridden_at, rest_of, secs_in, short, stamp_in, status_in}
+use Rattle.eu_json.specs.Reading.{address_stands, alike, app_stands, center_stands, interval_in, first_of, lease_member, name_of, of_member, of_object, overridden_at, own_names, rest_of, secs_in, short, stamp_in, status_in}
 use Rattle.eu_json.proofs.KeptLemmas.{Lacks, buts_puts, puts, puts_get, set_last}
-use Rattle.eu_json.proofs.SaidLemmas.{IsSaid, address_by, center_by, name_by, own_names, text_by}
+use Rattle.eu_json.proofs.SaidLemmas.{IsSaid, address_by, center_by, name_by, text_by}
 use Rattle.eu_json.proofs.TreeLemmas.{whole_lease, whole_put}
 
 -- ---- values that are written and read
@@ -77,7 +77,7 @@ got : (q : List ℕ) (i : Instance) (ms : Members) → get_member q (written i m
 got q i ms = puts_get q (sets i) ms
 
 rest_back : (i : Instance) (ms : Members) → Lacks own_names ms → rest_of (object (written i ms)) ≡ object ms
-rest_back i ms lacks = ap object (buts_puts own_names (sets i) ms lacks (refl, refl, (refl, refl, (refl, refl, (refl, refl, (refl, refl, (refl, refl, tt)))))))
+rest_back i ms lacks = ap object (buts_puts own_names (sets i) ms lacks (refl, (refl, (refl, (refl, (refl, (refl, tt)))))))
 
 whole_puts : (ps : List (List ℕ × Data)) (ms : Members) → members_have_float ms ≡ false → AllByRecursion (λ p. has_float p.1 ≡ false) ps → members_have_float (puts ps ms) ≡ false
 whole_puts [] ms whole each = whole

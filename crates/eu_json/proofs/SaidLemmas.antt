@@ -10,20 +10,14 @@ use Rattle.eu_base.specs.declared.faults.Fault.TheVariants.{MissingId, MissingHo
 use Rattle.eu_base.specs.declared.instances.Instance.{Instance}
 use Rattle.eu_base.specs.Gives.{◌>>=◌}
 use Rattle.eu_base.specs.Limits.{longest_name}
-use Rattle.eu_json.specs.Tree.{text_at, is_blank}
-use Rattle.eu_json.specs.Reading.{address_stands, app_stands, center_stands, digits_within, instance_of, interval_in, interval_within, lease_member, name_of, of_body, of_member, of_object, secs_digits, secs_in, secs_within, short, stamp_in}
-use Rattle.eu_json.proofs.KeptLemmas.{Lacks, buts, buts_other, buts_self, in_order_buts}
-use Rattle.eu_json.proofs.MemberLemmas.{whole_get, whole_without}
+use Rattle.eu_json.specs.Tree.{but_members, text_at, is_blank}
+use Rattle.eu_json.specs.Reading.{address_stands, app_stands, center_stands, digits_within, instance_of, interval_in, interval_within, lease_member, name_of, of_body, of_member, of_object, own_names, secs_digits, secs_in, secs_within, short, stamp_in}
+use Rattle.eu_json.proofs.KeptLemmas.{Lacks, buts_other, buts_self, in_order_buts}
+use Rattle.eu_json.proofs.MemberLemmas.{whole_buts, whole_get}
 use Rattle.eu_text.proofs.FitLemmas.{IsOrdered, MembersOrdered, read_ordered}
 use Rattle.eu_json.proofs.OrderLemmas.{in_order_get}
 
--- the members that the registry writes itself
-abbrev pub own_names : List (List ℕ)
-own_names =
-    codes "instanceId" ∷ codes "app" ∷ codes "status" ∷ codes "overriddenStatus"
-    ∷ codes "overriddenstatus" ∷ codes "lastDirtyTimestamp" ∷ codes "leaseInfo" ∷ []
-
--- an instance whose members but those are these
+-- an instance whose members but the registry's own are these
 pub record IsSaid (i : Instance) (ms : Members) : Type 0 where
   pub rest : i.rest ≡ object ms
   pub lacks : Lacks own_names ms
@@ -99,11 +93,7 @@ center_by d =
 abbrev pub text_by : Option Data → List ℕ
 text_by d = unwrap_or (option_and_then as_str d) []
 
-whole_rest : (ns : List (List ℕ)) (ms : Members) → members_have_float ms ≡ false → members_have_float (buts ns ms) ≡ false
-whole_rest [] ms whole = whole
-whole_rest (n ∷ ns) ms whole = whole_without n (object (buts ns ms)) (whole_rest ns ms whole)
-
-said_of_object : (i : Instance) (app : List ℕ) (moment : ℕ) (ms : Members) → MembersOrdered ms → members_have_float ms ≡ false → of_object app moment (object ms) ≡ Ok i → IsSaid i (buts own_names ms)
+said_of_object : (i : Instance) (app : List ℕ) (moment : ℕ) (ms : Members) → MembersOrdered ms → members_have_float ms ≡ false → of_object app moment (object ms) ≡ Ok i → IsSaid i (but_members own_names ms)
 unfolding of_object
 said_of_object i app moment ms order whole is =
     let name = ok_step (name_of (object ms)) _ i is in
@@ -118,9 +108,9 @@ said_of_object i app moment ms order whole is =
     let filled = named_by (text_at (codes "hostName") (object ms)) (text_at (codes "instanceId") (object ms)) name.0 name.1 in
     record {
       rest = sym (ap (λ j. j.rest) same);
-      lacks = buts_self own_names ms order;
+      lacks = buts_self own_names ms;
       order = in_order_buts own_names ms order;
-      whole = whole_rest own_names ms whole;
+      whole = whole_buts own_names ms whole;
       host = ap (λ d. is_blank (text_by d)) (buts_other (codes "hostName") own_names ms refl) ∙ filled.0;
       address = ap address_by (buts_other (codes "ipAddr") own_names ms refl) ∙ address.1;
       center = ap center_by (buts_other (codes "dataCenterInfo") own_names ms refl) ∙ center.1;
@@ -135,7 +125,7 @@ said_of_object i app moment ms order whole is =
 said_of_member : (i : Instance) (app : List ℕ) (moment : ℕ) (body d : Data) (fraction : Bool) → fraction ≡ has_float body → IsOrdered body → get (codes "instance") body ≡ Some d
     → cond (is_some (as_object d)) (cond fraction (Err NotWhole) (of_object app moment d)) (Err NotJson) ≡ Ok i → (ms : Members) × IsSaid i ms
 said_of_member i app moment body (object ms) false whole order got is =
-    (buts own_names ms, said_of_object i app moment ms (in_order_get (codes "instance") body (object ms) order got) (whole_get (codes "instance") body (object ms) (sym whole) got) is)
+    (but_members own_names ms, said_of_object i app moment ms (in_order_get (codes "instance") body (object ms) order got) (whole_get (codes "instance") body (object ms) (sym whole) got) is)
 said_of_member i app moment body d fraction whole order got is = absurd cc
 
 said_of_found : (i : Instance) (app : List ℕ) (moment : ℕ) (body : Data) (d : Option Data) → IsOrdered body → get (codes "instance") body ≡ d

@@ -1,5 +1,5 @@
 -- What a JSON text says of an instance that is to be registered
-use Rattle.std.specs.Prelude.{ℕ, ◌^◌, ◌&&◌, Bool, List, length, Option, Some, None, Result, Ok, Err, if◌then◌else◌, nat_lt, nat_le, ◌==◌, codes, option_and_then, is_some, unwrap_or}
+use Rattle.std.specs.Prelude.{ℕ, ◌^◌, ◌&&◌, Bool, List, [], ◌∷◌, length, Option, Some, None, Result, Ok, Err, if◌then◌else◌, nat_lt, nat_le, ◌==◌, codes, option_and_then, is_some, unwrap_or}
 use Rattle.std.specs.Str.{all_ascii_digits, bytes_eq, str_to_ascii_uppercase}
 use Rattle.std.specs.Str.Parse.{digits_value}
 use Rattle.serde_json.specs.Data.{Num, unsigned, negative, float, Data, null, boolean, number, string, array, object}
@@ -14,7 +14,7 @@ use Rattle.eu_base.specs.declared.statuses.Status.{Status}
 use Rattle.eu_base.specs.declared.statuses.Status.TheVariants.{Up, Unknown}
 use Rattle.eu_base.specs.Limits.{longest_lease, longest_name}
 use Rattle.eu_base.specs.Gives.{◌>>=◌}
-use Rattle.eu_json.specs.Tree.{text_at, is_blank, without}
+use Rattle.eu_json.specs.Tree.{text_at, is_among, is_blank, without}
 
 -- up to so many decimal digits, and at least one
 abbrev pub digits_within : ℕ → List ℕ → Option ℕ
@@ -157,11 +157,19 @@ interval_in (Some (object ms)) = 30
 
 -- ---- the whole
 
+-- the members that the registry writes itself; of the one with two spellings it reads either
+abbrev pub own_names : List (List ℕ)
+own_names =
+    codes "instanceId" ∷ codes "app" ∷ codes "status" ∷ codes "overriddenStatus"
+    ∷ codes "overriddenstatus" ∷ codes "lastDirtyTimestamp" ∷ codes "leaseInfo" ∷ []
+
+-- whether a member of that name is one of them
+unfoldable pub is_own : List ℕ → Bool
+is_own name = is_among own_names name
+
 -- the members that the registry keeps as they came: all but those that it writes itself
 abbrev pub rest_of : Data → Data
-rest_of i =
-    without (codes "instanceId") (without (codes "app") (without (codes "status") (without (codes "overriddenStatus")
-    (without (codes "overriddenstatus") (without (codes "lastDirtyTimestamp") (without (codes "leaseInfo") i))))))
+rest_of i = without own_names i
 
 -- what is checked, in this order
 unfoldable pub of_object : List ℕ → ℕ → Data → Result Instance Fault

@@ -1,7 +1,7 @@
 -- The trees of what is listed, with the members that the registry adds
 use Rattle.std.specs.Prelude.{ℕ, Bool, true, false, List, [], ◌∷◌, option_and_then, unwrap_or, map, Option, Some, None, if◌then◌else◌, decimal, codes}
-use Rattle.std.specs.Ordering.{nat_cmp, match_ordering}
-use Rattle.std.specs.Cmp.Lexicographic.{slice_cmp}
+use Rattle.std.specs.List.{list_any}
+use Rattle.std.specs.Str.{bytes_eq}
 use Rattle.serde_json.specs.Data.{Data, null, boolean, number, string, array, object, Members, no_members, member, unsigned, put}
 use Rattle.serde_json.specs.Find.{get, as_str}
 use Rattle.serde_json.specs.View.{items_of}
@@ -21,19 +21,23 @@ abbrev pub is_blank : List ℕ → Bool
 is_blank [] = true
 is_blank (b ∷ bs) = false
 
--- the members but the one of the name
-abbrev pub but_member : List ℕ → Members → Members
-but_member name no_members = no_members
-but_member name (member l d ms) = match_ordering (slice_cmp nat_cmp name l) (member l d (but_member name ms)) ms (member l d (but_member name ms))
+-- whether a name is one of these
+abbrev pub is_among : List (List ℕ) → List ℕ → Bool
+is_among names name = list_any (bytes_eq name) names
 
--- an object without the member of the name
-abbrev pub without : List ℕ → Data → Data
-without name null = null
-without name (boolean b) = boolean b
-without name (number n) = number n
-without name (string s) = string s
-without name (array ds) = array ds
-without name (object ms) = object (but_member name ms)
+-- the members but those of these names
+abbrev pub but_members : List (List ℕ) → Members → Members
+but_members names no_members = no_members
+but_members names (member l d ms) = if is_among names l then but_members names ms else member l d (but_members names ms)
+
+-- an object without the members of these names
+abbrev pub without : List (List ℕ) → Data → Data
+without names null = null
+without names (boolean b) = boolean b
+without names (number n) = number n
+without names (string s) = string s
+without names (array ds) = array ds
+without names (object ms) = object (but_members names ms)
 
 -- ---- the JSON that is written for instances and listings
 

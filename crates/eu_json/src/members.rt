@@ -3,8 +3,7 @@ ghost use Rattle.std.specs.Prelude.{◌≡◌};
 ghost use Rattle.std.specs.Option.{option_map};
 ghost use Rattle.serde_json.specs.Find.{get};
 ghost use Rattle.serde_json.specs.View.{view};
-ghost use Rattle.eu_base.specs.Rest.{IsRest};
-ghost use Rattle.eu_json.specs.Tree.{text_at, without};
+ghost use Rattle.eu_json.specs.Tree.{text_at};
 
 use serde_json::Value;
 
@@ -25,19 +24,5 @@ pub fn take(object: Value, name: &str) -> Option<Value>
             drop(other);
             None
         }
-    }
-}
-
-/// The object without a member.
-pub fn without(object: Value, name: &str) -> Value
-    ensures value { view result ≡ without name.now (view object) }
-    ensures rest { IsRest (view object) → IsRest (view result) }
-{
-    match object {
-        Value::Object(mut members) => {
-            drop(members.remove(name));
-            Value::Object(members)
-        }
-        other => other,
     }
 }

@@ -2,21 +2,22 @@
 ghost use Rattle.std.specs.Prelude.{◌≡◌, ◌≢◌, ◌⊎◌, ◌<◌, [], codes, length, not, Err, IfErr, IfOk, IsOk, MatchResult, Ok, OnOk, Some, None};
 ghost use Rattle.std.specs.Option.{option_map};
 ghost use Rattle.serde_json.specs.Read.{read};
-ghost use Rattle.serde_json.specs.View.{view};
+ghost use Rattle.serde_json.specs.View.{view, members_view};
 ghost use Rattle.serde_json.specs.Written.{has_float};
 ghost use Rattle.eu_text.specs.Fit.{is_fit};
 ghost use Rattle.eu_base.specs.Rest.{IsRest};
 ghost use Rattle.eu_base.specs.Gives.{Gives, result_map};
 ghost use Rattle.eu_json.specs.Parts.{BodyFits, FitsIfWhole};
-ghost use Rattle.eu_json.specs.Reading.{instance_of, lease_member, of_body, of_object, rest_of, short};
+ghost use Rattle.eu_json.specs.Reading.{instance_of, is_own, lease_member, of_body, of_object, own_names, rest_of, short};
+ghost use Rattle.eu_json.specs.Tree.{but_members};
 
 use crate::checks::{check_address, check_app, check_center, name_of};
-use crate::members::{take, without};
+use crate::members::take;
 use crate::numbers::{interval_in, secs_in, stamp_in};
 use crate::statuses::{overridden_at, status_in};
 use eu_base::{App, Fault, Id, Instance, Key, LONGEST_NAME, Moment, Rest, SharedInstance, Status};
-use eu_text::is_fit;
-use serde_json::Value;
+use eu_text::{Member, is_fit, members_of};
+use serde_json::{Map, Value};
 use std::alloc::{AllocError, Global};
 
 /// The JSON of a text. `NotJson` where it is none, and `OutOfMemory`, which a text without a byte never is.
@@ -86,20 +87,45 @@ fn id_of(alloc: Global, name: &str) -> Result<Id, Fault>
     Id::read(alloc, name)
 }
 
+/// Whether the registry writes the member of that name itself.
+#[tactic(auto, unfolding(crate::specs::Reading::is_own))]
+fn is_own(name: &str) -> bool
+    ensures { result ≡ is_own name.now }
+{
+    match name {
+        "instanceId"
+        | "app"
+        | "status"
+        | "overriddenStatus"
+        | "overriddenstatus"
+        | "lastDirtyTimestamp"
+        | "leaseInfo" => true,
+        _ => false,
+    }
+}
+
+/// The members of an object but those that the registry writes itself, in their order. `AllocError` where no memory is left.
+#[tactic(auto, using(crate::proofs::MemberLemmas::others_view))]
+fn others_of(alloc: Global, members: Map<String, Value>) -> Result<Vec<Member>, AllocError>
+    ensures { IfOk result (λ others. members_view others.items ≡ but_members own_names (members_view members.entries)) }
+{
+    let mut others = Vec::with_capacity(alloc, members.len())?;
+    for member in members {
+        if !is_own(member.0.as_str()) {
+            others.push(member)?;
+        }
+    }
+    Ok(others)
+}
+
 /// The members that the registry keeps as they came: all but those that it writes itself. `AllocError` where no memory is left.
 fn rest_of(alloc: Global, instance: Value) -> Result<Rest, AllocError>
     requires { IsRest (view instance) }
     ensures { IfOk result (λ r. r ≡ rest_of (view instance)) }
 {
-    let mut rest = instance;
-    rest = without(rest, "leaseInfo");
-    rest = without(rest, "lastDirtyTimestamp");
-    rest = without(rest, "overriddenstatus");
-    rest = without(rest, "overriddenStatus");
-    rest = without(rest, "status");
-    rest = without(rest, "app");
-    rest = without(rest, "instanceId");
-    Rest::of_fit(alloc, rest)
+    let members = members_of(instance).unwrap();
+    let others = others_of(alloc, members)?;
+    Rest::of_entries(alloc, others)
 }
 
 /// The instance of an object whose numbers are all whole. What is wrong with it is told before any memory is taken.

@@ -9,12 +9,12 @@ included.
 """
 import os
 import re
-import socket
 import subprocess
 import sys
 import tempfile
 
-A_CONNECTION = 96  # requests on one connection; a session ends with its 100th
+from reads import A_CONNECTION, send
+
 PORT = 18771
 
 
@@ -34,24 +34,6 @@ def registration(name):
 
 def heartbeat(name):
     return b"PUT /eureka/apps/SVC/%s HTTP/1.1\r\nHost: x\r\nContent-Length: 0\r\n\r\n" % name.encode()
-
-
-def answer(stream):
-    """Reads a response, and fails where it isn't one of success."""
-    status, length = stream.readline(), 0
-    assert b" 20" in status, status
-    while (field := stream.readline()) != b"\r\n":
-        if field.lower().startswith(b"content-length:"):
-            length = int(field.split(b":")[1])
-    stream.read(length)
-
-
-def send(port, requests):
-    for first in range(0, len(requests), A_CONNECTION):
-        with socket.create_connection(("127.0.0.1", port)) as connection, connection.makefile("rb") as stream:
-            for request in requests[first:first + A_CONNECTION]:
-                connection.sendall(request)
-                answer(stream)
 
 
 def instructions(program, port, requests):

@@ -86,4 +86,5 @@ def main():
     print(f"a listing, an instance: {a_listing / count:.0f}; a status page: {(pages - once) / 96:.0f}; a registration: {a_registration:.0f}")
 
 
-main()
+if __name__ == "__main__":
+    main()

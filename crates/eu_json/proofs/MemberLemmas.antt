@@ -1,5 +1,5 @@
 -- Members that are left out of an object
-use Rattle.std.proofs.Common.{◌≡◌, ℕ, Bool, true, false, not, ◌&&◌, List, [], ◌∷◌, Option, Some, None, Ordering, Equal, cond, filter, if◌then◌else◌, is_lt, string_bytes, unwrap_or, refl, ap, ap₂, ◌∙◌}
+use Rattle.std.proofs.Common.{◌≡◌, ℕ, Bool, true, false, not, ◌&&◌, List, [], ◌∷◌, ◌++◌, Option, Some, None, Ordering, Equal, cond, filter, if◌then◌else◌, is_lt, string_bytes, unwrap_or, append-nil, refl, sym, ap, ap₂, ◌∙◌}
 use Rattle.std.proofs.lemmas.Bool.{and_parts, or_parts}
 use Rattle.std.proofs.lemmas.Cmp.{nat_list_cmp_total}
 use Rattle.std.specs.Ordering.{nat_cmp, match_ordering}
@@ -25,10 +25,14 @@ step : (own : Bool) (e : Entry) (es : List Entry) (rest : Members) → members_v
 step true e es rest is = is
 step false e es rest is = ap (λ (m : Members). member (string_bytes e.0) (view e.1) m) is
 
-pub others_view : (es : List Entry) → members_view (filter is_others es) ≡ but_members own_names (members_view es)
+others_view : (es : List Entry) → members_view (filter is_others es) ≡ but_members own_names (members_view es)
 unfolding is_own
 others_view [] = refl
 others_view (e ∷ es) = step (is_own (string_bytes e.0)) e (filter is_others es) _ (others_view es)
+
+-- where no entry is left, those that were kept are the others
+pub others_done : (done left all : List Entry) → done ++ filter is_others left ≡ filter is_others all → left ≡ [] → members_view done ≡ but_members own_names (members_view all)
+others_done done left all kept none = ap members_view (sym (append-nil done) ∙ ap (λ es. done ++ filter is_others es) (sym none) ∙ kept) ∙ others_view all
 
 -- ---- no member of whole numbers has a fraction
 
@@ -85,7 +89,7 @@ fit_without ns (object ms) fit = fit_buts ns 126 None ms fit
 fit_without ns d fit = fit
 
 -- the members of an object, without some
-pub members_without : (ns : List (List ℕ)) (d : Data) (ms : Members) → Some ms ≡ as_object d → object (but_members ns ms) ≡ without ns d
+members_without : (ns : List (List ℕ)) (d : Data) (ms : Members) → Some ms ≡ as_object d → object (but_members ns ms) ≡ without ns d
 members_without ns (object all) ms is = ap (λ o. object (but_members ns (unwrap_or o no_members))) is
 members_without ns d ms is = absurd cc
 

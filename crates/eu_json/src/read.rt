@@ -105,7 +105,6 @@ fn is_own(name: &str) -> bool
 }
 
 /// The members of an object but those that the registry writes itself, in their order. `AllocError` where no memory is left.
-#[tactic(auto, using(crate::proofs::MemberLemmas::others_view))]
 fn others_of(alloc: Global, members: Map<String, Value>) -> Result<Vec<Member>, AllocError>
     ensures { IfOk result (λ others. members_view others.items ≡ but_members own_names (members_view members.entries)) }
 {

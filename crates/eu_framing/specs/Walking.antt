@@ -1,8 +1,7 @@
 -- How far a request was gone through that isn't whole yet. Only the contracts of private functions speak of this.
-use Rattle.std.specs.Prelude.{◌≡◌, ◌≤◌, ℕ, ◌+◌, ◌-◌, ◌*◌, List, [], ◌∷◌, Option, Some, None, IfSome, length, drop, string_capacity, Vec, vec_capacity}
+use Rattle.std.specs.Prelude.{◌≤◌, ℕ, ◌+◌, ◌-◌, ◌*◌, List, [], ◌∷◌, Option, Some, None, IfSome, length, drop, string_capacity, Vec, vec_capacity}
 use Rattle.std.specs.declared.alloc.Global.{Global}
 use Rattle.eu_framing.specs.declared.walk.Walk.{Walk}
-use Rattle.eu_framing.specs.declared.request.Head.{Head}
 use Rattle.eu_framing.specs.declared.request.Begun.{Begun}
 use Rattle.eu_framing.specs.Chunks.{Chunk, max_raw}
 use Rattle.eu_framing.specs.Fields.{IsWithin}

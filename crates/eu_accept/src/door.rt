@@ -1,11 +1,10 @@
 //! The door of a server, at which connections are accepted.
 ghost use Rattle.std.specs.Prelude.{◌≡◌};
 ghost use Rattle.eu_accept.specs.Passing as spec;
-ghost use Rattle.eu_accept.specs.Turns.{turn_after, whose_turn};
 
 use crate::admission::Entry;
 use crate::hub::Hub;
-use crate::mail::Mail;
+use crate::mail::{Mail, Mailbox};
 use mio::net::{TcpListener, TcpStream};
 use mio::unix::SourceFd;
 use mio::{Events, Interest, Poll, Token};
@@ -45,7 +44,7 @@ pub struct Door<'a, R: Wait + Clock> {
     listener: TcpListener,
     poll: Poll,
     events: Events,
-    next: usize,
+    sessions: Vec<u32>,
     has_input: bool,
     is_behind: bool,
     began: Instant,
@@ -89,14 +88,15 @@ fn failed(error: &io::Error) -> Accepted
     Accepted::Later
 }
 
-/// Which of so many loops has the turn, and which one has the next. Where there is none, both are 0.
-fn in_turn(turn: usize, loops: usize) -> (usize, usize)
-    ensures turn { result.0 ≡ whose_turn turn loops }
-    ensures next { result.1 ≡ turn_after result.0 loops }
-{
-    let count = loops.max(1);
-    let number = turn % count;
-    (number, (number + 1) % count)
+/// Which of the loops has the fewest sessions, the first of several. 0 where there is no loop.
+fn fewest(sessions: &[u32]) -> usize {
+    let mut found = 0;
+    for (number, count) in sessions.iter().enumerate() {
+        if *count < sessions[found] {
+            found = number;
+        }
+    }
+    found
 }
 
 impl<'a, R: Wait + Clock> Door<'a, R> {
@@ -123,7 +123,7 @@ impl<'a, R: Wait + Clock> Door<'a, R> {
             listener,
             poll,
             events: Events::with_capacity(hub.alloc, 16)?,
-            next: 0,
+            sessions: Vec::with_capacity(hub.alloc, hub.boxes.len())?,
             has_input: input.is_some(),
             is_behind: false,
             began: Instant::now(hub.rt)?,
@@ -140,7 +140,16 @@ impl<'a, R: Wait + Clock + Eprint> Door<'a, R> {
         }
     }
 
-    /// Deals a connection to the next loop, which serves it or tells it that there is no room; or drops it.
+    /// The mailbox of the loop that has the fewest sessions.
+    fn least_busy(&mut self) -> Option<&'a Mailbox> {
+        self.sessions.clear();
+        for mailbox in &self.hub.boxes {
+            let _ = self.sessions.push(mailbox.sessions(self.hub.rt));
+        }
+        self.hub.boxes.get(fewest(self.sessions.as_slice()))
+    }
+
+    /// Deals a connection to the loop that has the fewest, which serves it or tells it that there is no room; or drops it.
     fn deal(&mut self, stream: TcpStream) {
         let _ = stream.set_nodelay(true);
         let mail = match self.hub.admit() {
@@ -148,12 +157,12 @@ impl<'a, R: Wait + Clock + Eprint> Door<'a, R> {
             Entry::Refused => Mail::Refused(stream),
             Entry::Dropped => return,
         };
-        let (number, next) = in_turn(self.next, self.hub.boxes.len());
-        self.next = next;
-        let Some(mailbox) = self.hub.boxes.get(number) else {
+        let Some(mailbox) = self.least_busy() else {
             return;
         };
+        mailbox.begin_session(self.hub.rt);
         if mailbox.put(self.hub.rt, mail).is_err() {
+            mailbox.end_session(self.hub.rt);
             self.hub.let_out();
         }
     }

@@ -120,10 +120,27 @@ impl<'a, R: Wait + Clock> Loop<'a, R> {
         }
     }
 
-    /// Frees the place of a connection, and closes what stands there.
-    fn leave(&mut self, key: usize) {
-        if self.hall.leave(key) {
-            self.hub.let_out();
+    /// Notes that a session is over: the loop can be dealt another one.
+    fn end_session(&self) {
+        if let Some(mailbox) = self.hub.boxes.get(self.number) {
+            mailbox.end_session(self.hub.rt);
+        }
+    }
+
+    /// Counts a connection out that got no place.
+    fn turn_away(&self) {
+        self.hub.let_out();
+        self.end_session();
+    }
+
+    /// Frees the place of a connection of whose peer this was awaited, and closes what stands there.
+    fn leave(&mut self, key: usize, phase: Phase) {
+        if !self.hall.leave(key) {
+            return;
+        }
+        self.hub.let_out();
+        if phase != Phase::Lingering {
+            self.end_session();
         }
     }
 
@@ -133,7 +150,7 @@ impl<'a, R: Wait + Clock> Loop<'a, R> {
         guest.talk.inbox.release(self.hub.alloc);
         let bytes = held_by(guest.as_ref());
         if self.hall.come_back(key, guest, awaited, bytes).is_err() {
-            self.leave(key);
+            self.leave(key, awaited.phase);
         }
     }
 
@@ -144,7 +161,7 @@ impl<'a, R: Wait + Clock> Loop<'a, R> {
             self.park(key, guest, awaited);
         } else {
             drop(guest);
-            self.leave(key);
+            self.leave(key, awaited.phase);
         }
     }
 
@@ -158,9 +175,10 @@ impl<'a, R: Wait + Clock> Loop<'a, R> {
         } = visit;
         if guest.socket.shutdown(Shutdown::Write).is_err() {
             drop(guest);
-            self.leave(key);
+            self.leave(key, awaited.phase);
             return;
         }
+        self.end_session();
         let patience = self.hub.limits.patience;
         let awaited = awaited.next(patience, Phase::Lingering, Happened::Nothing, self.now);
         self.linger(key, guest, awaited);
@@ -190,7 +208,7 @@ impl<'a, R: Wait + Clock> Loop<'a, R> {
         };
         if let Err(job) = self.hub.pool.put(self.hub.rt, job) {
             drop(job);
-            self.leave(key);
+            self.leave(key, Phase::Asking);
         }
     }
 
@@ -203,13 +221,13 @@ impl<'a, R: Wait + Clock> Loop<'a, R> {
             NextStep::ParksForMore(phase, happened) => {
                 self.park_after(visit, phase, happened);
                 if self.again.push(key).is_err() {
-                    self.leave(key);
+                    self.leave(key, phase);
                 }
             }
             NextStep::GoesToPool => self.hand_over(visit),
             NextStep::Leaves => {
                 drop(visit);
-                self.leave(key);
+                self.leave(key, Phase::Asking);
             }
         }
     }
@@ -241,7 +259,7 @@ impl<'a, R: Wait + Clock> Loop<'a, R> {
     fn enter(&mut self, guest: Connection) {
         let awaited = Awaited::begin(self.hub.limits.patience, Phase::Idle, self.now);
         let Ok(key) = self.hall.enter(guest, awaited) else {
-            self.hub.let_out();
+            self.turn_away();
             return;
         };
         let Some((mut guest, awaited)) = self.hall.call(key) else {
@@ -251,20 +269,20 @@ impl<'a, R: Wait + Clock> Loop<'a, R> {
             self.park(key, guest, awaited);
         } else {
             drop(guest);
-            self.leave(key);
+            self.leave(key, awaited.phase);
         }
     }
 
     /// Takes in a connection for which there is no room, to tell it so. It is closed where there is no memory for that.
     fn refuse(&mut self, socket: TcpStream) {
         let Ok(mut guest) = connection(self.hub.alloc, socket) else {
-            self.hub.let_out();
+            self.turn_away();
             return;
         };
         if end_by(guest.as_mut(), FULL) {
             self.enter(guest);
         } else {
-            self.hub.let_out();
+            self.turn_away();
         }
     }
 
@@ -273,14 +291,14 @@ impl<'a, R: Wait + Clock> Loop<'a, R> {
         match mail {
             Mail::New(socket) => match connection(self.hub.alloc, socket) {
                 Ok(guest) => self.enter(guest),
-                Err(_) => self.hub.let_out(),
+                Err(_) => self.turn_away(),
             },
             Mail::Refused(socket) => self.refuse(socket),
             Mail::Back(visit, left) => {
                 let call = back_of(visit.key, left);
                 self.take_back(visit, left);
                 if self.ready.push_back(call).is_err() {
-                    self.leave(call.key);
+                    self.leave(call.key, Phase::Asking);
                 }
             }
         }
@@ -308,7 +326,7 @@ impl<'a, R: Wait + Clock> Loop<'a, R> {
         };
         if awaited.phase != Phase::Asking || !end_by(guest.as_mut(), SLOW) {
             drop(guest);
-            self.leave(key);
+            self.leave(key, awaited.phase);
             return;
         }
         let awaited = Awaited::begin(self.hub.limits.patience, Phase::Answering, self.now);

@@ -22,6 +22,7 @@ pub(crate) enum Mail {
 #[derive(Drop)]
 pub struct Mailbox {
     mail: Mutex<Vec<Mail>>,
+    sessions: Mutex<u32>,
     waker: Waker,
 }
 
@@ -30,6 +31,7 @@ impl Mailbox {
     pub fn new(alloc: Global, most: usize, waker: Waker) -> Result<Mailbox, AllocError> {
         Ok(Mailbox {
             mail: Mutex::new(Vec::with_capacity(alloc, most)?),
+            sessions: Mutex::new(0),
             waker,
         })
     }
@@ -46,6 +48,23 @@ impl Mailbox {
             self.wake();
         }
         Ok(())
+    }
+
+    /// How many connections the loop was dealt whose sessions aren't over.
+    pub(crate) fn sessions<R: Wait>(&self, rt: &R) -> u32 {
+        *self.sessions.lock(rt)
+    }
+
+    /// Counts a connection that the loop is dealt.
+    pub(crate) fn begin_session<R: Wait>(&self, rt: &R) {
+        let mut sessions = self.sessions.lock(rt);
+        *sessions = sessions.saturating_add(1);
+    }
+
+    /// Counts one out whose session is over.
+    pub(crate) fn end_session<R: Wait>(&self, rt: &R) {
+        let mut sessions = self.sessions.lock(rt);
+        *sessions = sessions.saturating_sub(1);
     }
 
     /// Takes all out, in place of an empty list.

@@ -1,2 +1,3 @@
 pub mod BehindLemmas
 pub mod QueueLemmas
+pub mod TurnLemmas

@@ -1,10 +1,8 @@
 -- Which loop gets the next connection
-use Rattle.std.specs.Prelude.{ℕ, ◌+◌, ◌%◌, max}
+use Rattle.std.specs.Prelude.{◌≤◌, ◌<◌, ℕ, List, get_or, max}
 
--- of so many loops the one whose turn it is
-abbrev pub whose_turn : ℕ → ℕ → ℕ
-whose_turn turn loops = turn % max loops 1
-
--- the one that follows it; the first follows the last
-abbrev pub turn_after : ℕ → ℕ → ℕ
-turn_after number loops = (number + 1) % max loops 1
+-- of the first so many loops, which have so many sessions, that one has the fewest, and is the first of those that have as few; 0 where there is none
+pub record IsFewest (sessions : List ℕ) (count number : ℕ) : Type 0 where
+  pub within : number < max count 1
+  pub fewest : (other : ℕ) → other < count → get_or sessions number 0 ≤ get_or sessions other 0
+  pub first : (other : ℕ) → other < number → get_or sessions number 0 < get_or sessions other 0

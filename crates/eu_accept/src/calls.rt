@@ -1,7 +1,6 @@
 //! Which connections a loop calls, and what becomes of one after a visit.
-ghost use Rattle.std.specs.Prelude.{◌≡◌, ◌||◌, not, true, false};
-ghost use Rattle.mio.specs.Event.{event_token, is_read_closed, is_error};
-ghost use Rattle.eu_accept.specs.Calls.{asks_still};
+ghost use Rattle.std.specs.Prelude.{◌≡◌, ◌||◌, true, false};
+ghost use Rattle.mio.specs.Event.{event_token, is_readable, is_read_closed, is_error};
 ghost use Rattle.eu_accept.specs.Calls as spec;
 
 use eu_hall::{Awaited, Guest, Happened, Left, Phase, Visit};
@@ -32,25 +31,23 @@ pub(crate) fn call_anew(key: usize) -> Call
     }
 }
 
-/// The visit that an event calls for. Where the peer's side has ended it is read to its end, since no further event tells of that.
+/// The visit that an event calls for. Where the peer's side has ended it is read to its end, since no further event tells of that. Where nothing has come,
+/// nothing is left to others: what takes long isn't whole, and would go to and fro.
 pub(crate) fn call_of(event: &Event) -> Call
-    ensures { result ≡ record { key = (event_token event.now).0; leaves_long = true; reads_on = is_read_closed event.now || is_error event.now } }
+    ensures { result ≡ record { key = (event_token event.now).0; leaves_long = is_readable event.now; reads_on = is_read_closed event.now || is_error event.now } }
 {
     Call {
+        leaves_long: event.is_readable(),
         reads_on: event.is_read_closed() || event.is_error(),
         ..call_anew(event.token().0)
     }
 }
 
-/// The visit of a connection that was at the pool, which left it so: it is read on, since events were passed over meanwhile. A request that isn't whole
-/// doesn't go back at once, or it would go to and fro.
-pub(crate) fn back_of(key: usize, left: Left) -> Call
-    ensures { result ≡ record { key = key; leaves_long = not (asks_still left); reads_on = true } }
+/// Whether the rest of a request is awaited of a connection that a visit left so.
+pub(crate) fn asks_still(left: Left) -> bool
+    ensures { result ≡ spec.asks_still left }
 {
-    Call {
-        leaves_long: !matches!(left, Left::Waits(Phase::Asking, _)),
-        ..call_anew(key)
-    }
+    matches!(left, Left::Waits(Phase::Asking, _))
 }
 
 /// The visit of a connection that was called so, of whose peer this was awaited.

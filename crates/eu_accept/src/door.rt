@@ -1,6 +1,7 @@
 //! The door of a server, at which connections are accepted.
-ghost use Rattle.std.specs.Prelude.{◌≡◌};
+ghost use Rattle.std.specs.Prelude.{◌≡◌, length};
 ghost use Rattle.eu_accept.specs.Passing as spec;
+ghost use Rattle.eu_accept.specs.Turns.{IsFewest};
 
 use crate::admission::Entry;
 use crate::hub::Hub;
@@ -88,8 +89,11 @@ fn failed(error: &io::Error) -> Accepted
     Accepted::Later
 }
 
-/// Which of the loops has the fewest sessions, the first of several. 0 where there is no loop.
-fn fewest(sessions: &[u32]) -> usize {
+/// Which of the loops that have so many sessions has the fewest, the first of several. 0 where there is no loop.
+#[tactic(auto, using(crate::proofs::TurnLemmas::none_yet, crate::proofs::TurnLemmas::fewer_yet, crate::proofs::TurnLemmas::no_fewer))]
+fn fewest(sessions: &[u32]) -> usize
+    ensures { IsFewest sessions.now (length sessions.now) result }
+{
     let mut found = 0;
     for (number, count) in sessions.iter().enumerate() {
         if *count < sessions[found] {

@@ -2,7 +2,7 @@
 ghost use Rattle.std.specs.Prelude.{◌≡◌, ◌≤◌, ◌+◌, ◌-◌, ◌^◌, ◌++◌, [], true, false, length, min};
 
 use crate::behind::drop_what_came;
-use crate::calls::{Call, NextStep, back_of, call_anew, call_of, next_step, visit_of};
+use crate::calls::{Call, NextStep, asks_still, call_anew, call_of, next_step, visit_of};
 use crate::hub::Hub;
 use crate::mail::Mail;
 use crate::queue::Job;
@@ -91,6 +91,11 @@ fn end_by<S, T>(guest: &mut Guest<S, T>, response: &str) -> bool
 {
     guest.has_ended = true;
     write_whole(&mut guest.unsent, response.as_bytes()).is_ok()
+}
+
+/// What a connection is polled for.
+fn interest() -> Interest {
+    Interest::READABLE.add(Interest::WRITABLE)
 }
 
 impl<'a, R: Wait + Clock> Loop<'a, R> {
@@ -250,9 +255,8 @@ impl<'a, R: Wait + Clock> Loop<'a, R> {
 
     /// Has a connection polled under the key of its place.
     fn register(&self, guest: &mut Connection, key: usize) -> io::Result<()> {
-        let interest = Interest::READABLE.add(Interest::WRITABLE);
         let registry = self.poll.registry();
-        registry.register(&mut guest.socket, Token(key), interest)
+        registry.register(&mut guest.socket, Token(key), interest())
     }
 
     /// Gives a connection a place, and has it polled, which tells at once what has come of it. It is closed where that fails.
@@ -286,6 +290,35 @@ impl<'a, R: Wait + Clock> Loop<'a, R> {
         }
     }
 
+    /// Has a connection polled anew, which tells at once what has come of it meanwhile.
+    fn poll_anew(&mut self, key: usize) {
+        let Some((mut guest, awaited)) = self.hall.call(key) else {
+            return;
+        };
+        let registry = self.poll.registry();
+        if registry
+            .reregister(&mut guest.socket, Token(key), interest())
+            .is_ok()
+        {
+            self.park(key, guest, awaited);
+        } else {
+            drop(guest);
+            self.leave(key, awaited.phase);
+        }
+    }
+
+    /// Takes a connection back that was at the pool. It is visited at once, since events were passed over meanwhile; where the rest of a request is awaited,
+    /// once an event tells that some has come.
+    fn come_back(&mut self, visit: Visit<TcpStream, Talk>, left: Left) {
+        let key = visit.key;
+        self.take_back(visit, left);
+        if asks_still(left) {
+            self.poll_anew(key);
+        } else if self.ready.push_back(call_anew(key)).is_err() {
+            self.leave(key, Phase::Asking);
+        }
+    }
+
     /// Takes one mail.
     fn take_one(&mut self, mail: Mail) {
         match mail {
@@ -294,13 +327,7 @@ impl<'a, R: Wait + Clock> Loop<'a, R> {
                 Err(_) => self.turn_away(),
             },
             Mail::Refused(socket) => self.refuse(socket),
-            Mail::Back(visit, left) => {
-                let call = back_of(visit.key, left);
-                self.take_back(visit, left);
-                if self.ready.push_back(call).is_err() {
-                    self.leave(call.key, Phase::Asking);
-                }
-            }
+            Mail::Back(visit, left) => self.come_back(visit, left),
         }
     }
 

@@ -1,5 +1,5 @@
 -- Which requests take long
-use Rattle.std.specs.Prelude.{ℕ, ◌==◌, ◌||◌, ◌&&◌, Bool, not, List, length, drop, nat_eq, codes}
+use Rattle.std.specs.Prelude.{ℕ, ◌==◌, ◌||◌, ◌&&◌, Bool, not, List, length, drop, nat_eq, nat_le, codes}
 use Rattle.std.specs.List.{before_first, position_or_len, starts_with}
 
 -- the paths under which the registry is listed, whole or by application, and that of a peer's batch
@@ -38,6 +38,10 @@ names_no_instance rest = length (behind_slashes (behind_slashes (before_first en
 abbrev pub lists : List ℕ → List ℕ → Bool
 lists bytes path = starts_with nat_eq bytes path && names_no_instance (drop (length path) bytes)
 
--- a listing, unless it names an instance, or a batch
-abbrev pub is_long : List ℕ → Bool
-is_long bytes = lists bytes listing || lists bytes listing_2 || starts_with nat_eq bytes batch
+-- a request with a body of which some came before, or that is as long as a read
+abbrev pub has_long_body : Bool → List ℕ → Bool
+has_long_body came_before bytes = starts_with nat_eq bytes (codes "POST ") && (came_before || nat_le 4096 (length bytes))
+
+-- a listing, unless it names an instance, or a batch, or one that has a long body
+abbrev pub is_long : Bool → List ℕ → Bool
+is_long came_before bytes = lists bytes listing || lists bytes listing_2 || starts_with nat_eq bytes batch || has_long_body came_before bytes

@@ -13,6 +13,12 @@ const LISTING_2: &[u8] = b"GET /eureka/v2/apps";
 /// The path of a peer's batch.
 const BATCH: &[u8] = b"POST /eureka/peerreplication";
 
+/// What a request with a body begins by.
+const POST: &[u8] = b"POST ";
+
+/// How many bytes a read gives at most.
+const READ: usize = 4_096;
+
 /// Where the first blank or `?` stands, which ends a path. The length where there is none.
 #[tactic(auto, using(crate::proofs::PlaceLemmas::place_is, crate::proofs::PlaceLemmas::place_none))]
 fn place_of_end(bytes: &[u8]) -> usize
@@ -77,10 +83,20 @@ fn lists(bytes: &[u8], path: &[u8]) -> bool
     bytes.starts_with(path) && names_no_instance(&bytes[path.len()..])
 }
 
-/// Whether these bytes begin like a request that takes long: a listing, of all or of an application, or a peer's batch. It only tells who takes
-/// the turn: a wrong answer costs time alone.
-pub(crate) fn is_long(bytes: &[u8]) -> bool
-    ensures { result ≡ spec.is_long bytes.now }
+/// Whether these bytes begin like a request with a body that isn't short: some of them came before the last read, or they are as many as a read gives.
+fn has_long_body(came_before: bool, bytes: &[u8]) -> bool
+    ensures { result ≡ spec.has_long_body came_before bytes.now }
 {
-    lists(bytes, LISTING) || lists(bytes, LISTING_2) || bytes.starts_with(BATCH)
+    bytes.starts_with(POST) && (came_before || bytes.len() >= READ)
+}
+
+/// Whether these bytes, of which some came before the last read, or none, begin like a request that takes long: a listing, of all or of an application, a
+/// peer's batch, or a body that isn't short. It only tells who takes the turn: a wrong answer costs time alone.
+pub(crate) fn is_long(came_before: bool, bytes: &[u8]) -> bool
+    ensures { result ≡ spec.is_long came_before bytes.now }
+{
+    lists(bytes, LISTING)
+        || lists(bytes, LISTING_2)
+        || bytes.starts_with(BATCH)
+        || has_long_body(came_before, bytes)
 }

@@ -157,6 +157,7 @@ fn look_ahead<K: Label, R: Wait, G: Gate, S: Read>(
         return None;
     }
     let guest = visit.guest.as_mut();
+    let came_before = !guest.talk.inbox.as_slice().is_empty();
     let mut source = GatedSource::new(
         &mut guest.socket,
         site.gate,
@@ -168,7 +169,7 @@ fn look_ahead<K: Label, R: Wait, G: Gate, S: Read>(
     let waits = source.waits();
     visit.is_drained = source.is_drained();
     match read {
-        Ok(()) if is_long(guest.talk.inbox.as_slice()) => Some(Left::Long),
+        Ok(()) if is_long(came_before, guest.talk.inbox.as_slice()) => Some(Left::Long),
         Err(Fault::Read) if waits => Some(Left::Waits(phase_of(&guest.talk), Happened::Nothing)),
         Err(Fault::Read) => Some(Left::Gone),
         _ => None,

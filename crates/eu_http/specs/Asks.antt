@@ -2,7 +2,7 @@
 use Rattle.std.specs.Prelude.{◌≡◌, ◌≢◌, ℕ, Bool, true, false, List, [], ◌∷◌, codes, Option, Some, None, Result, Ok, Err, map, if◌then◌else◌, string_bytes}
 use Rattle.std.specs.Str.{is_utf8}
 use Rattle.eu_base.specs.declared.faults.Fault.{Fault}
-use Rattle.eu_base.specs.declared.faults.Fault.TheVariants.{NotJson, BadBatch}
+use Rattle.eu_base.specs.declared.faults.Fault.TheVariants.{NotJson, BadBatch, BodyTooLong}
 use Rattle.eu_base.specs.declared.instances.Instance.{Instance}
 use Rattle.eu_model.specs.declared.commands.Command.{Command}
 use Rattle.eu_model.specs.declared.commands.Command.TheVariants as command
@@ -23,7 +23,7 @@ use Rattle.eu_http.specs.declared.policy.Policy.{Policy}
 use Rattle.eu_http.specs.declared.wanted.Wanted.{Wanted}
 use Rattle.eu_http.specs.declared.wanted.Wanted.TheVariants as wanted
 use Rattle.eu_http.specs.declared.exchange.Asked.TheVariants as asked
-use Rattle.eu_http.specs.Policy.{forbids}
+use Rattle.eu_http.specs.Policy.{forbids, is_too_long}
 
 -- the instance that a body says, for an application at a moment
 abbrev pub instance_in : List ℕ → ℕ → List ℕ → Result Instance Fault
@@ -61,15 +61,17 @@ asks_for (route.One key) replicated body moment = Ok (Some (record { wanted = wa
 asks_for route.Delta replicated body moment = Ok None
 asks_for route.StatusPage replicated body moment = Ok (Some (record { wanted = wanted.Page; asks = See query.Page ∷ [] }))
 
--- what a request asks at a moment, where no policy forbids it, or its first fault
+-- what a request asks at a moment that the policy takes, or its first fault
 abbrev pub asks_by_route : Request → ℕ → Result (Option Wants) Fault
 asks_by_route request moment = do
   named ← route_of (string_bytes request.method) (target.path_of (string_bytes request.target)) (target.query_of (string_bytes request.target)) request.replicated
   asks_for named request.replicated request.body.items moment
 
--- what a request asks at a moment, or its first fault; nothing, where the policy forbids it, whatever it would ask
+-- what a request asks at a moment, or its first fault; nothing, where the policy forbids it, whatever it would ask; and a body that is longer than the policy takes
+-- is one, whatever it says
 abbrev pub asks_of : Policy → Request → ℕ → Result (Option Wants) Fault
-asks_of policy request moment = if forbids policy request then Ok None else asks_by_route request moment
+asks_of policy request moment =
+    if forbids policy request then Ok None else if is_too_long policy request then Err BodyTooLong else asks_by_route request moment
 
 abbrev pub wants_in : Asked → Option Wants
 wants_in asked.Forbidden = None
@@ -97,6 +99,6 @@ HasRoute request =
     IsKnown (resource_of (path_of (target.path_of (string_bytes request.target)))) (string_bytes request.method) (path_of (target.path_of (string_bytes request.target)))
     × (IsUncoded (target.path_of (string_bytes request.target)) → string_bytes request.method ≡ codes "POST" → IsText request.body.items)
 
--- the policy doesn't forbid it, and it has a route
+-- the policy takes it, and it has a route
 abbrev pub IsAsked : Policy → Request → Type 0
-IsAsked policy request = (forbids policy request ≡ false) × HasRoute request
+IsAsked policy request = (forbids policy request ≡ false) × (is_too_long policy request ≡ false) × HasRoute request

@@ -1,9 +1,10 @@
 //! Which requests a server takes.
 ghost use Rattle.std.specs.Prelude.{◌≡◌, None, IfOk, true, not, option_map, string_bytes};
+ghost use Rattle.eu_framing.specs.Fields.{max_body};
 ghost use Rattle.std.specs.List.{list_any};
 ghost use Rattle.eu_http.specs.Policy as spec;
 
-use eu_framing::Request;
+use eu_framing::{MAX_BODY, Request};
 use eu_routes::Routes;
 use std::alloc::{AllocError, Global};
 
@@ -11,11 +12,13 @@ use std::alloc::{AllocError, Global};
 ///
 /// No client of a registry is a browser, but a browser can reach one, and a page from anywhere can have it send a POST without asking. It then
 /// sends a field `Origin` with the site of that page (RFC 6454, section 7; the Fetch standard, "`Origin` header"). So a request with one is forbidden, unless it's the
-/// origin that is allowed. And a server without peers needn't take what only peers send.
+/// origin that is allowed. A server without peers needn't take what only peers send, and one whose instances are small needn't take long bodies.
 #[derive(Debug, Drop)]
 pub struct Policy {
     /// Whether requests of peers are taken: those that call themselves replicated, and batches.
     pub accepts_peers: bool,
+    /// The most bytes of a body. At most `MAX_BODY` are read, whatever this says.
+    pub most_body: usize,
     /// The origin whose pages may ask, as a browser writes it (`https://example.com`), if there is one.
     pub allowed_origin: Option<String>,
 }
@@ -51,14 +54,16 @@ fn is_of_peer(routes: &Routes, request: &Request) -> bool
 }
 
 impl Policy {
-    /// One by which requests of peers are taken or not, and pages of this origin may ask, if there is one. `AllocError` where there is no memory
-    /// for the origin.
+    /// One by which requests of peers are taken or not, bodies have at most so many bytes, and pages of this origin may ask, if there is one. `AllocError`
+    /// where there is no memory for the origin.
     pub fn new(
         alloc: Global,
         accepts_peers: bool,
+        most_body: usize,
         allowed_origin: Option<&str>,
     ) -> Result<Policy, AllocError>
         ensures peers { IfOk result (λ p. p.accepts_peers ≡ accepts_peers) }
+        ensures body { IfOk result (λ p. p.most_body ≡ most_body) }
         ensures origin { IfOk result (λ p. option_map (λ o. string_bytes o) p.allowed_origin ≡ option_map (λ o. o.now) allowed_origin.entry) }
     {
         let allowed_origin = match allowed_origin {
@@ -67,17 +72,20 @@ impl Policy {
         };
         Ok(Policy {
             accepts_peers,
+            most_body,
             allowed_origin,
         })
     }
 
-    /// That of a server which wasn't told otherwise: requests of peers are taken, and no page may ask. Takes no memory.
+    /// That of a server which wasn't told otherwise: requests of peers are taken, and each body that is read, and no page may ask. Takes no memory.
     pub fn open() -> Policy
         ensures peers { result.accepts_peers ≡ true }
+        ensures body { result.most_body ≡ max_body }
         ensures origin { result.allowed_origin ≡ None }
     {
         Policy {
             accepts_peers: true,
+            most_body: MAX_BODY,
             allowed_origin: None,
         }
     }
@@ -92,5 +100,11 @@ impl Policy {
             return true;
         }
         !self.accepts_peers && is_of_peer(routes, request)
+    }
+    /// Whether a request's body is longer than the policy takes. Takes no memory.
+    pub fn is_too_long(&self, request: &Request) -> bool
+        ensures { result ≡ spec.is_too_long self.now request.now }
+    {
+        request.body.len() > self.most_body
     }
 }

@@ -132,7 +132,7 @@ fn lacks_text(request: &Request, path: &str) -> bool
     !is_text(&request.body)
 }
 
-/// What a request asks that no policy forbids. The faults are those of `asks`.
+/// What a request asks that the policy takes. The faults are those of `asks`.
 fn asks_by_route(
     alloc: Global,
     routes: &Routes,
@@ -153,7 +153,8 @@ fn asks_by_route(
 /// What a request asks of the registry at a moment (`ApplicationResource`, `InstanceResource`, `ApplicationsResource` and
 /// `PeerReplicationResource` in Eureka).
 ///
-/// `Forbidden` comes first, where the policy forbids the request (`Policy::forbids`), whatever it would ask, and takes no memory.
+/// `Forbidden` comes first, where the policy forbids the request (`Policy::forbids`), and then `BodyTooLong`, where its body is longer than the policy takes
+/// (`Policy::is_too_long`), whatever it would ask. Neither takes memory.
 ///
 /// A command is replicated where the request is. A registration's instance is the one that the body says, for the path's
 /// application, at that moment. A batch asks the commands that the body says at that moment, in their order, which are all
@@ -167,7 +168,7 @@ fn asks_by_route(
 /// - the faults of `eu_json::read_instance`;
 /// - `BadBatch`: the body of a batch isn't UTF-8, or isn't one (`eu_json::read_batch`).
 ///
-/// `OutOfMemory` comes where memory is refused, but never in place of `Forbidden` by the policy, nor of `NoRoute`, nor, where nothing in the path is encoded, of
+/// `OutOfMemory` comes where memory is refused, but never in place of what the policy answers, nor of `NoRoute`, nor, where nothing in the path is encoded, of
 /// `BadPath`, or of `NotJson` and `BadBatch` for a body without a byte or that isn't UTF-8.
 pub fn asks(
     alloc: Global,
@@ -181,6 +182,9 @@ pub fn asks(
 {
     if policy.forbids(routes, request) {
         return Ok(Asked::Forbidden);
+    }
+    if policy.is_too_long(request) {
+        return Err(Fault::BodyTooLong);
     }
     asks_by_route(alloc, routes, request, moment)
 }

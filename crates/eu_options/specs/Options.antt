@@ -113,11 +113,15 @@ with_quiet app = with_rule app quiet_rule
 abbrev pub origin_rule : Rule
 origin_rule = record (new_rule (codes "allow-origin")) { long = Some (codes "allow-origin"); value_names = 1 }
 
--- a command with the two options more that say which requests a server takes
+-- a command with the three options more that say which requests a server takes: those of peers or not, bodies of 1 to 1,048,576 bytes, and those of an origin
 abbrev pub with_policy : App → ValueParser → App
-with_policy app switch = with_rule (with_rule app (option_rule (codes "accept-peers") switch (codes "on"))) origin_rule
+with_policy app switch =
+    with_rule (with_rule (with_rule app
+    (option_rule (codes "accept-peers") switch (codes "on")))
+    (option_rule (codes "max-body") (Signed (pos 1) (pos 1048576)) (codes "1048576")))
+    origin_rule
 
--- a command with the eighteen options of a server more
+-- a command with the nineteen options of a server more
 abbrev pub with_server_options : App → ValueParser → ValueParser → App
 with_server_options app switch peers =
     with_quiet (with_policy (with_limits (with_work (with_address (with_rule (with_settings app switch) drawing_rule)))) peers)
@@ -186,4 +190,4 @@ IsServing m s =
     × IsNumber m (codes "expected") s.expected × IsNumber m (codes "connections") s.connections
     × IsNumber m (codes "idle-ms") s.idle_ms × IsNumber m (codes "request-ms") s.request_ms
     × IsFlag m (codes "until-input-ends") s.until_input_ends × IsFlag m (codes "quiet") s.is_quiet
-    × IsSwitch m (codes "accept-peers") s.accepts_peers
+    × IsSwitch m (codes "accept-peers") s.accepts_peers × IsNumber m (codes "max-body") s.most_body

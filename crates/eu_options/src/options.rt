@@ -22,6 +22,9 @@ static SWITCH: [&str; 2] = ["on", "off"];
 /// The most connections at once that a server may be asked to have.
 const MOST_CONNECTIONS: u32 = 1_000_000;
 
+/// The most bytes of a body that a server may be asked to take: as many as are read.
+const MOST_BODY: u32 = 1_048_576;
+
 /// What `--journal` does at a command that makes a journal.
 const WRITES_JOURNAL: &str =
     "Writes the journal to this file at the end; what the file held before is lost";
@@ -262,7 +265,11 @@ fn with_policy<'a>(alloc: Global, command: Command<'a>) -> Result<Command<'a>, A
     let peers = option(alloc, "accept-peers", "on|off", switch, "on").help(
         "Whether requests that only peers send are taken: replicated ones, and batches",
     );
-    command.arg(peers)?.arg(origin_option(alloc))
+    let most = value_parser!(u32).range(1..=1_048_576);
+    let body = option(alloc, "max-body", "BYTES", most, "1048576").help(
+        "The most bytes of a request's body; a longer one is refused",
+    );
+    command.arg(peers)?.arg(body)?.arg(origin_option(alloc))
 }
 
 /// The option that names the file of a journal.
@@ -504,6 +511,7 @@ pub fn serving_of(matches: &ArgMatches<'_>) -> Option<Serving>
     let until_input_ends = flag_of(matches, "until-input-ends")?;
     let is_quiet = flag_of(matches, "quiet")?;
     let accepts_peers = switch_of(matches, "accept-peers")?;
+    let most_body = number_within(matches, "max-body", 1, MOST_BODY)?;
     Some(Serving {
         port,
         bind,
@@ -516,5 +524,6 @@ pub fn serving_of(matches: &ArgMatches<'_>) -> Option<Serving>
         until_input_ends,
         is_quiet,
         accepts_peers,
+        most_body,
     })
 }

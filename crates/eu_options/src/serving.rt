@@ -28,10 +28,13 @@ pub struct Serving {
     pub is_quiet: bool,
     /// Whether it takes requests of peers.
     pub accepts_peers: bool,
+    /// The most bytes of a request's body.
+    pub most_body: u32,
     ghost workers_bound: { (1 ≤ workers) × (workers ≤ 16) },
     ghost connections_bound: { (1 ≤ connections) × (connections ≤ 1000000) },
     ghost idle_bound: { 1 ≤ idle_ms },
     ghost request_bound: { 1 ≤ request_ms },
+    ghost body_bound: { (1 ≤ most_body) × (most_body ≤ 1048576) },
 }
 
 /// How the victims of a server's evictions are drawn.

@@ -264,7 +264,8 @@ fn start_server<
         return tell_value(rt, "--seed <N|system>", seed, "neither a u64 nor `system`");
     };
     let origin = origin_of(matches);
-    let Ok(policy) = Policy::new(rt.alloc(), serving.accepts_peers, origin) else {
+    let most_body = serving.most_body as usize;
+    let Ok(policy) = Policy::new(rt.alloc(), serving.accepts_peers, most_body, origin) else {
         return End::Failed(Fault::OutOfMemory).tell(rt);
     };
     let journal = journal_of(matches);

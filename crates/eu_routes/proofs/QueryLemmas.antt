@@ -1,21 +1,57 @@
 -- Stamps and statuses
-use Rattle.std.proofs.Common.{◌≡◌, ℕ, ◌<◌, ◌^◌, Bool, true, false, List, length, Option, Some, None, Result, Ok, Err, SomeIff, refl, sym, ◌∙◌, ap, arith, nat_lt, ◌&&◌, if◌then◌else◌}
+use Rattle.std.proofs.Common.{◌≡◌, ℕ, ◌<◌, ◌^◌, Bool, true, false, List, [], ◌∷◌, length, Option, Some, None, Result, Ok, Err, SomeIff, refl, sym, subst, ◌∙◌, ap, arith, nat_lt, ◌&&◌, if◌then◌else◌}
 use Rattle.std.proofs.lemmas.Bool.{and_parts, and_from, false_from_ne_true, ltb-true, lt-ltb}
-use Rattle.std.specs.Str.{all_ascii_digits}
+use Rattle.std.specs.Str.{all_ascii_digits, bytes_eq}
 use Rattle.std.specs.Str.Parse.{digits_value}
 use Rattle.std.specs.Result.{OkIff, result_ok}
 use Rattle.eu_base.specs.declared.faults.Fault.{Fault}
 use Rattle.eu_base.specs.declared.statuses.Status.{Status}
-use Rattle.std.proofs.lemmas.Str.{utf8_lossy-IsUtf8}
+use Rattle.std.proofs.lemmas.Slice.Eq.{bytes_eq-Decides}
+use Rattle.std.proofs.lemmas.Str.{utf8_lossy-IsUtf8, IsUtf8-from_ascii}
+use Rattle.std.proofs.lemmas.Str.Ascii.{IsAscii-from_all}
+use Rattle.std.proofs.lemmas.List.Elements.{All-nil, All-cons}
+use Rattle.std.specs.List.{All, list_all}
 use Rattle.std.specs.Str.Lossy.{utf8_lossy}
-use Rattle.form_urlencoded.specs.Form.{IsPlainText}
+use Rattle.form_urlencoded.specs.Form.{IsPlain, IsPlainText}
 use Rattle.form_urlencoded.proofs.FormLemmas.{decode_plain}
 use Rattle.eu_base.specs.Digits.{digits}
-use Rattle.eu_routes.specs.Query.{text_of, is_number, stamp_of, u32_of, value_at, stamp_given, status_given, stamp_at, status_at}
+use Rattle.eu_routes.specs.declared.parameters.Parameter.{Parameter}
+use Rattle.eu_routes.specs.declared.parameters.Parameter.TheVariants as parameters
+use Rattle.eu_routes.specs.Query.{text_of, name_of, is_number, stamp_of, u32_of, value_at, stamp_given, status_given, stamp_at, status_at}
 
 -- bytes that stand for themselves
 pub plain_stands : (bytes : List ℕ) → IsPlainText bytes → text_of bytes ≡ bytes
 plain_stands bytes plain = ap utf8_lossy (decode_plain bytes plain.0) ∙ utf8_lossy-IsUtf8 bytes plain.1
+
+-- letters: neither an escape nor beyond ASCII
+abbrev is_letter : ℕ → Bool
+is_letter b = nat_lt 64 b && nat_lt b 128
+
+letters : (bytes : List ℕ) → list_all is_letter bytes ≡ true → All IsPlain bytes × All (λ b. b < 128) bytes
+letters [] all = (All-nil IsPlain, All-nil (λ b. b < 128))
+letters (b ∷ bytes) all =
+    let p = and_parts _ _ all in
+    let q = and_parts _ _ p.0 in
+    let rest = letters bytes p.1 in
+    let high : 64 < b = ltb-true _ _ q.0 in
+    (All-cons IsPlain b bytes ((λ is. omega (arith, high, is)), (λ is. omega (arith, high, is))) rest.0, All-cons (λ c. c < 128) b bytes (ltb-true _ _ q.1) rest.1)
+
+-- the names of values are letters
+name_letters : (p : Parameter) → list_all is_letter (name_of p) ≡ true
+name_letters parameters.LastDirtyTimestamp = refl
+name_letters parameters.Value = refl
+name_letters parameters.OverriddenStatus = refl
+name_letters parameters.Preservation = refl
+name_letters parameters.Percent = refl
+name_letters parameters.Interval = refl
+name_letters parameters.EvictMs = refl
+
+-- what is the name of a value stands for itself
+pub named_stands : (bytes name : List ℕ) (p : Parameter) (same : Bool) → name ≡ name_of p → same ≡ bytes_eq bytes name → same ≡ true → text_of bytes ≡ bytes
+named_stands bytes name p same named compared hit =
+    let is : bytes ≡ name_of p = (bytes_eq-Decides bytes name).0 (sym compared ∙ hit) ∙ named in
+    let all = letters bytes (subst (λ b. list_all is_letter b ≡ true) (sym is) (name_letters p)) in
+    plain_stands bytes (all.0, IsUtf8-from_ascii bytes (IsAscii-from_all bytes all.1))
 
 -- what the digits of a text tell
 pub digits_some : (text : List ℕ) (v : ℕ) → digits text ≡ Some v → (length text < 20) × (all_ascii_digits text ≡ true) × (digits_value 10 text ≡ v)

@@ -11,8 +11,20 @@ use Rattle.eu_base.specs.declared.statuses.Status.{Status}
 use Rattle.eu_base.specs.declared.settings.Config.{Config}
 use Rattle.eu_base.specs.Values.{settings_from, status_of}
 use Rattle.eu_base.specs.Gives.{◌>>=◌}
+use Rattle.eu_routes.specs.declared.parameters.Parameter.{Parameter}
+use Rattle.eu_routes.specs.declared.parameters.Parameter.TheVariants as parameters
 
 -- ---- pairs of a form
+
+-- the name of a value in a query
+abbrev pub name_of : Parameter → List ℕ
+name_of parameters.LastDirtyTimestamp = codes "lastDirtyTimestamp"
+name_of parameters.Value = codes "value"
+name_of parameters.OverriddenStatus = codes "overriddenstatus"
+name_of parameters.Preservation = codes "preservation"
+name_of parameters.Percent = codes "percent"
+name_of parameters.Interval = codes "interval"
+name_of parameters.EvictMs = codes "evictMs"
 
 -- the text that a name or a value stands for
 abbrev pub text_of : List ℕ → List ℕ

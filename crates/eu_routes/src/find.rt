@@ -6,21 +6,13 @@ ghost use Rattle.eu_base.specs.Gives.{Gives};
 ghost use Rattle.eu_routes.specs.Table.{IsKnown};
 
 use crate::asks::Route;
+use crate::parameters::Parameter;
 use crate::paths::{app_at, cut, key_at, path_of};
 use crate::queries::{config_at, stamp_given, status_given, values_at};
 use crate::table::{Resource, Routes};
 use eu_base::Fault;
 use eu_model::Command;
 use std::alloc::Global;
-
-/// The name of a stamp in a query.
-const STAMP: &str = "lastDirtyTimestamp";
-
-/// The name of a status in a query, where it is to override the instance's own.
-const STATUS: &str = "value";
-
-/// The name of a status in a query, where the client says that it overrides the instance's own.
-const OVERRIDDEN: &str = "overriddenstatus";
 
 #[tactic(auto, unfolding(crate::specs::Table::applications_ask))]
 fn ask_applications(method: &str) -> Result<Route, Fault>
@@ -98,7 +90,12 @@ fn ask_renewal(alloc: Global, path: &str, query: &str, replicated: bool) -> Resu
     ensures memory { IsUncoded path.now → result ≡ Err Fault.OutOfMemory → IsOk (key_at path.now) }
 {
     let key = key_at(alloc, path)?;
-    let (last_dirty, overridden) = values_at(alloc, query, STAMP, OVERRIDDEN)?;
+    let (last_dirty, overridden) = values_at(
+        alloc,
+        query,
+        Parameter::LastDirtyTimestamp,
+        Parameter::OverriddenStatus,
+    )?;
     let last_dirty = stamp_given(last_dirty)?;
     let overridden = status_given(overridden)?;
     Ok(Route::Do(Command::Renew {
@@ -137,7 +134,12 @@ fn ask_setting(alloc: Global, path: &str, query: &str, replicated: bool) -> Resu
     ensures memory { IsUncoded path.now → result ≡ Err Fault.OutOfMemory → IsOk (key_at path.now) }
 {
     let key = key_at(alloc, path)?;
-    let (status, last_dirty) = values_at(alloc, query, STATUS, STAMP)?;
+    let (status, last_dirty) = values_at(
+        alloc,
+        query,
+        Parameter::Value,
+        Parameter::LastDirtyTimestamp,
+    )?;
     let Some(status) = status_given(status)? else {
         return Err(Fault::BadValue);
     };
@@ -156,7 +158,12 @@ fn ask_unsetting(alloc: Global, path: &str, query: &str, replicated: bool) -> Re
     ensures memory { IsUncoded path.now → result ≡ Err Fault.OutOfMemory → IsOk (key_at path.now) }
 {
     let key = key_at(alloc, path)?;
-    let (status, last_dirty) = values_at(alloc, query, STATUS, STAMP)?;
+    let (status, last_dirty) = values_at(
+        alloc,
+        query,
+        Parameter::Value,
+        Parameter::LastDirtyTimestamp,
+    )?;
     let status = status_given(status)?;
     let last_dirty = stamp_given(last_dirty)?;
     Ok(Route::Do(Command::UnsetStatus {

@@ -3,6 +3,7 @@
 
 mod asks;
 mod find;
+mod parameters;
 mod paths;
 mod queries;
 mod table;

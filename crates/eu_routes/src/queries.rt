@@ -7,6 +7,7 @@ ghost use Rattle.form_urlencoded.specs.Form.{IsPlainText};
 ghost use Rattle.eu_base.specs.Gives.{Gives};
 ghost use Rattle.eu_routes.specs.Query as spec;
 
+use crate::parameters::Parameter;
 use eu_base::{Config, Fault, Stamp, Status, read_digits};
 use form_urlencoded::{decode, raw_pairs};
 use std::alloc::{AllocError, Global};
@@ -14,18 +15,6 @@ use std::borrow::CowStr;
 
 /// The most digits of a setting.
 const MOST_U32_DIGITS: usize = 10;
-
-/// The name of the setting that says whether self-preservation is on (`enableSelfPreservation` in Eureka).
-const PRESERVATION: &str = "preservation";
-
-/// The name of the percentage of a setting (`renewalPercentThreshold`).
-const PERCENT: &str = "percent";
-
-/// The name of the seconds between two renewals (`expectedClientRenewalIntervalSeconds`).
-const INTERVAL: &str = "interval";
-
-/// The name of the milliseconds between two evictions (`evictionIntervalTimerInMs`).
-const EVICT_MS: &str = "evictMs";
 
 /// The stamp of that text: 1 to 19 decimal digits, up to 2^63 - 1. None for any other text.
 #[tactic(auto, unfolding(crate::specs::Query::stamp_of))]
@@ -50,21 +39,23 @@ fn is_plain(bytes: &[u8]) -> bool
     true
 }
 
-/// Whether bytes stand for the one name, and whether for the other. Takes no memory where they stand for themselves.
+/// Whether bytes stand for the name of the one, and whether for that of the other. Takes no memory where they stand for themselves.
 fn are_named(
     alloc: Global,
     bytes: &[u8],
-    one: &str,
-    other: &str,
+    one: Parameter,
+    other: Parameter,
 ) -> Result<(bool, bool), AllocError>
-    ensures one { IfOk result (λ named. named.0 ≡ bytes_eq (spec.text_of bytes.now) one.now) }
-    ensures other { IfOk result (λ named. named.1 ≡ bytes_eq (spec.text_of bytes.now) other.now) }
+    ensures one { IfOk result (λ named. named.0 ≡ bytes_eq (spec.text_of bytes.now) (spec.name_of one)) }
+    ensures other { IfOk result (λ named. named.1 ≡ bytes_eq (spec.text_of bytes.now) (spec.name_of other)) }
 {
-    if is_plain(bytes) {
-        return Ok((bytes == one.as_bytes(), bytes == other.as_bytes()));
+    let is_one = bytes == one.name().as_bytes();
+    let is_other = bytes == other.name().as_bytes();
+    if is_one || is_other || is_plain(bytes) {
+        return Ok((is_one, is_other));
     }
     let text = decode(alloc, bytes)?;
-    Ok((text.as_str() == one, text.as_str() == other))
+    Ok((text.as_str() == one.name(), text.as_str() == other.name()))
 }
 
 /// The value that was found before, else that of a pair, where it has the name.
@@ -88,7 +79,7 @@ fn text_of(alloc: Global, value: Option<&[u8]>) -> Result<Option<CowStr<'_, Glob
     }
 }
 
-/// The values of the first pairs of two names in a query, each if one has it, of one look at the pairs. A value borrows the query
+/// The values of two parameters in a query, each that of the first pair with its name, if one has it, of one look at the pairs. A value borrows the query
 /// where nothing in it is encoded.
 ///
 /// The only fault is want of memory.
@@ -96,11 +87,11 @@ fn text_of(alloc: Global, value: Option<&[u8]>) -> Result<Option<CowStr<'_, Glob
 pub fn values_at<'q>(
     alloc: Global,
     query: &'q str,
-    one: &str,
-    other: &str,
+    one: Parameter,
+    other: Parameter,
 ) -> Result<(Option<CowStr<'q, Global>>, Option<CowStr<'q, Global>>), AllocError>
-    ensures one { IfOk result (λ values. option_map cow_str_bytes values.0 ≡ spec.value_at one.now query.now) }
-    ensures other { IfOk result (λ values. option_map cow_str_bytes values.1 ≡ spec.value_at other.now query.now) }
+    ensures one { IfOk result (λ values. option_map cow_str_bytes values.0 ≡ spec.value_at (spec.name_of one) query.now) }
+    ensures other { IfOk result (λ values. option_map cow_str_bytes values.1 ≡ spec.value_at (spec.name_of other) query.now) }
 {
     let mut first = None;
     let mut second = None;
@@ -192,8 +183,13 @@ fn switch_given(value: Option<CowStr<'_, Global>>) -> Result<bool, Fault>
 pub fn config_at(alloc: Global, query: &str) -> Result<Config, Fault>
     ensures { Gives result (spec.settings_at query.now) }
 {
-    let (preservation, percent) = values_at(alloc, query, PRESERVATION, PERCENT)?;
-    let (interval, evict_ms) = values_at(alloc, query, INTERVAL, EVICT_MS)?;
+    let (preservation, percent) = values_at(
+        alloc,
+        query,
+        Parameter::Preservation,
+        Parameter::Percent,
+    )?;
+    let (interval, evict_ms) = values_at(alloc, query, Parameter::Interval, Parameter::EvictMs)?;
     let preservation = switch_given(preservation)?;
     let percent = u32_given(percent)?;
     let interval = u32_given(interval)?;

@@ -38,10 +38,10 @@ names_no_instance rest = length (behind_slashes (behind_slashes (before_first en
 abbrev pub lists : List ℕ → List ℕ → Bool
 lists bytes path = starts_with nat_eq bytes path && names_no_instance (drop (length path) bytes)
 
--- a request with a body of which some came before, or that is as long as a read
-abbrev pub has_long_body : Bool → List ℕ → Bool
-has_long_body came_before bytes = starts_with nat_eq bytes (codes "POST ") && (came_before || nat_le 4096 (length bytes))
+-- a request with a body, as long as a read or longer
+abbrev pub has_long_body : List ℕ → Bool
+has_long_body bytes = starts_with nat_eq bytes (codes "POST ") && nat_le 4096 (length bytes)
 
 -- a listing, unless it names an instance, or a batch, or one that has a long body
-abbrev pub is_long : Bool → List ℕ → Bool
-is_long came_before bytes = lists bytes listing || lists bytes listing_2 || starts_with nat_eq bytes batch || has_long_body came_before bytes
+abbrev pub is_long : List ℕ → Bool
+is_long bytes = lists bytes listing || lists bytes listing_2 || starts_with nat_eq bytes batch || has_long_body bytes

@@ -1,5 +1,5 @@
 -- How a visit leaves a connection
-use Rattle.std.specs.Prelude.{ℕ, List, [], ◌∷◌, Bool, true, false, Result, Ok, Err, ◌||◌}
+use Rattle.std.specs.Prelude.{ℕ, List, [], ◌∷◌, Bool, true, false, Option, Some, None, Result, Ok, Err, ◌||◌}
 use Rattle.eu_hall.specs.declared.guest.Left.{Left}
 use Rattle.eu_hall.specs.declared.guest.Left.TheVariants.{Waits, GoesOn, Long, Gone}
 use Rattle.eu_hall.specs.declared.phase.Happened.TheVariants as happened
@@ -9,6 +9,8 @@ use Rattle.eu_session.specs.declared.faults.SessionFault.{SessionFault}
 use Rattle.eu_session.specs.declared.faults.SessionFault.TheVariants as fault
 use Rattle.eu_session.specs.declared.talk.Turned.{Turned}
 use Rattle.eu_session.specs.declared.talk.Turned.TheVariants as turned
+use Rattle.eu_workers.specs.declared.gated.Halt.{Halt}
+use Rattle.eu_workers.specs.declared.gated.Halt.TheVariants as halt
 use Rattle.eu_workers.specs.declared.sessions.Progress.{Progress}
 use Rattle.eu_workers.specs.declared.sessions.Progress.TheVariants.{Answered, Over}
 
@@ -24,15 +26,22 @@ after_answers GoesOn = GoesOn
 after_answers Long = GoesOn
 after_answers Gone = Gone
 
--- what came of a turn, where the last read would have waited, or not, and these bytes weren't used: a session that waits for more isn't over, one that has failed is gone;
--- that there was no memory for an answer may have been told
-abbrev pub judged : Result Turned SessionFault → Bool → List ℕ → Progress
-judged (Ok turned.GoesOn) waits inbox = Answered
-judged (Ok (turned.Ended requests)) waits inbox = Answered
-judged (Err fault.Read) true inbox = Over (Waits (phase_of inbox) happened.Nothing)
-judged (Err fault.Read) false inbox = Over Gone
-judged (Err fault.Write) waits inbox = Over Gone
-judged (Err fault.OutOfMemory) waits inbox = Answered
+-- How a read that failed leaves a connection, of whose peer this is awaited: the gate stopped it, more than was read hasn't come, or so much came that others are to read on;
+-- else it was the connection's, which would have waited, or has failed
+abbrev pub left_by : Option Halt → Bool → Phase → Left
+left_by (Some halt.Stopped) waits phase = Gone
+left_by (Some halt.Drained) waits phase = Waits phase happened.Nothing
+left_by (Some halt.Long) waits phase = Long
+left_by None true phase = Waits phase happened.Nothing
+left_by None false phase = Gone
+
+-- what came of a turn, where a read that failed leaves the connection so; that there was no memory for an answer may have been told
+abbrev pub judged : Result Turned SessionFault → Left → Progress
+judged (Ok turned.GoesOn) left = Answered
+judged (Ok (turned.Ended requests)) left = Answered
+judged (Err fault.Read) left = Over left
+judged (Err fault.Write) left = Over Gone
+judged (Err fault.OutOfMemory) left = Answered
 
 -- whether the session has ended by the turn, and what was told is to be sent
 abbrev pub has_ended : Result Turned SessionFault → Bool

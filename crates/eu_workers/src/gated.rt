@@ -1,55 +1,78 @@
 //! Connections behind a gate.
-ghost use Rattle.std.specs.Prelude.{◌≡◌, ◌≤◌, ◌<◌, ◌||◌, ◌&&◌, not, true, false, length, nat_lt, take, IfOk, OnErr, OnOk};
+ghost use Rattle.std.specs.Prelude.{◌≡◌, ◌≤◌, ◌<◌, ◌||◌, ◌&&◌, not, true, false, Some, is_some, length, nat_lt, take, IfOk, OnErr, OnOk};
 ghost use Rattle.std.specs.Io.KnownBytes.{Consumes, IsAtEnd, Keeps};
+ghost use Rattle.eu_workers.specs.Visits as spec;
 
 use eu_gate::{Gate, Go, Point};
-use eu_hall::Arriving;
+use eu_hall::{Arriving, Happened, Left, Phase};
 use eu_stream::{ReadFault, Sink, Source, WriteFault};
 use std::io::Read;
 
+/// Why a read fails before the connection is asked.
+#[derive(Clone, Copy, PartialEq, Eq)]
+enum Halt {
+    /// The gate stopped it.
+    Stopped,
+    /// More than was read hasn't come.
+    Drained,
+    /// So much came that others are to read on.
+    Long,
+}
+
 /// What has arrived of a connection; it passes a gate before each read. Where the gate says `Stop` the read fails, as one does that would wait. Where
-/// the connection is drained it would, and nothing is read.
+/// the connection is drained it would, and nothing is read. Nor is anything where long requests are left to others and the last read gave all that there was room for.
 #[derive(Drop)]
 pub(crate) struct GatedSource<'a, R: Read, G: Gate> {
     arriving: Arriving<'a, R>,
     gate: &'a G,
     who: u32,
     reads_on: bool,
+    leaves_long: bool,
     is_drained: bool,
-    was_stopped: bool,
-    was_drained: bool,
+    is_full: bool,
+    halt: Option<Halt>,
 }
 
 impl<'a, R: Read, G: Gate> GatedSource<'a, R, G> {
-    /// A reader for the worker of that number. No read of it has failed so far. It reads on, or may be drained, as `Visit` says.
+    /// A reader for the worker of that number. No read of it has failed so far. It reads on, leaves long requests to others, or may be drained, as `Visit` says.
     pub(crate) fn new(
         reader: &'a mut R,
         gate: &'a G,
         who: u32,
         reads_on: bool,
+        leaves_long: bool,
         is_drained: bool,
     ) -> GatedSource<'a, R, G>
         ensures stream { ⟦<GatedSource<'a, R, G> as Source>⟧.stream result ≡ reader.entry.ghost_name }
         ensures remaining { ⟦<GatedSource<'a, R, G> as Source>⟧.remaining result ≡ R.remaining reader.old }
         ensures sound { ⟦<GatedSource<'a, R, G> as Source>⟧.failed result ≡ false }
-        ensures drained { (result.reads_on ≡ reads_on) × (result.is_drained ≡ is_drained) }
+        ensures reads { (result.reads_on ≡ reads_on) × (result.leaves_long ≡ leaves_long) }
+        ensures drained { result.is_drained ≡ is_drained }
+        ensures full { result.is_full ≡ false }
     {
         GatedSource {
             arriving: Arriving::new(reader),
             gate,
             who,
             reads_on,
+            leaves_long,
             is_drained,
-            was_stopped: false,
-            was_drained: false,
+            is_full: false,
+            halt: None,
         }
     }
 
-    /// Whether its last read would have waited, and the gate stopped none.
-    pub(crate) fn waits(&self) -> bool
-        ensures { result ≡ ((self.now.arriving.waits || self.now.was_drained) && not self.now.was_stopped) }
+    /// How a read that has failed leaves the connection, of whose peer this is awaited.
+    pub(crate) fn left(&self, phase: Phase) -> Left
+        ensures { result ≡ spec.left_by self.now.halt self.now.arriving.waits phase }
     {
-        (self.arriving.waits() || self.was_drained) && !self.was_stopped
+        match self.halt {
+            Some(Halt::Stopped) => Left::Gone,
+            Some(Halt::Drained) => Left::Waits(phase, Happened::Nothing),
+            Some(Halt::Long) => Left::Long,
+            None if self.arriving.waits() => Left::Waits(phase, Happened::Nothing),
+            None => Left::Gone,
+        }
     }
 
     /// Whether more than was read hasn't come.
@@ -65,7 +88,7 @@ impl<'a, R: Read, G: Gate> Source for GatedSource<'a, R, G> {
 
     ghost remaining = { λ s. R.remaining s.arriving.reader.now };
 
-    ghost failed = { λ s. s.was_stopped || (s.was_drained || (s.arriving.waits || s.arriving.has_failed)) };
+    ghost failed = { λ s. is_some s.halt || (s.arriving.waits || s.arriving.has_failed) };
 
     fn read_some(&mut self, buffer: &mut [u8]) -> Result<usize, ReadFault>
         ensures bound { IfOk result (λ n. n ≤ length buffer.new) }
@@ -75,19 +98,27 @@ impl<'a, R: Read, G: Gate> Source for GatedSource<'a, R, G> {
         ensures kept { OnErr result (Keeps (R.remaining self.old.arriving.reader.now) (R.remaining self.new.arriving.reader.now)) }
         ensures failed { OnErr result (⟦<GatedSource<'a, R, G> as Source>⟧.failed self.new ≡ true) }
         ensures same_stream { self.new.arriving.reader.ghost_name ≡ self.old.arriving.reader.ghost_name }
-        ensures drained { self.old.is_drained ≡ true → self.new ≡ record self.old { was_drained = true } }
+        ensures drained { self.old.is_drained ≡ true → self.new ≡ record self.old { halt = Some Halt.Drained } }
+        ensures long { self.old.is_drained ≡ false → self.old.is_full ≡ true → self.new ≡ record self.old { halt = Some Halt.Long } }
         ensures short { IfOk result (λ n. self.new.is_drained ≡ (not self.old.reads_on && nat_lt 0 n && nat_lt n (length buffer.new))) }
+        ensures full { IfOk result (λ n. self.new.is_full ≡ (self.old.leaves_long && not (nat_lt n (length buffer.new)))) }
     {
         if self.is_drained {
-            self.was_drained = true;
+            self.halt = Some(Halt::Drained);
+            return Err(ReadFault);
+        }
+        if self.is_full {
+            self.halt = Some(Halt::Long);
             return Err(ReadFault);
         }
         if self.gate.pass(self.who, Point::Read) == Go::Stop {
-            self.was_stopped = true;
+            self.halt = Some(Halt::Stopped);
             return Err(ReadFault);
         }
         let count = self.arriving.read_some(buffer)?;
-        self.is_drained = !self.reads_on && count > 0 && self.arriving.was_short();
+        let was_short = self.arriving.was_short();
+        self.is_drained = !self.reads_on && count > 0 && was_short;
+        self.is_full = self.leaves_long && !was_short;
         Ok(count)
     }
 }

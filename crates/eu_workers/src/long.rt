@@ -83,20 +83,20 @@ fn lists(bytes: &[u8], path: &[u8]) -> bool
     bytes.starts_with(path) && names_no_instance(&bytes[path.len()..])
 }
 
-/// Whether these bytes begin like a request with a body that isn't short: some of them came before the last read, or they are as many as a read gives.
-fn has_long_body(came_before: bool, bytes: &[u8]) -> bool
-    ensures { result ≡ spec.has_long_body came_before bytes.now }
+/// Whether these bytes begin like a request with a body that isn't short: they are at least as many as a read gives.
+fn has_long_body(bytes: &[u8]) -> bool
+    ensures { result ≡ spec.has_long_body bytes.now }
 {
-    bytes.starts_with(POST) && (came_before || bytes.len() >= READ)
+    bytes.starts_with(POST) && bytes.len() >= READ
 }
 
-/// Whether these bytes, of which some came before the last read, or none, begin like a request that takes long: a listing, of all or of an application, a
-/// peer's batch, or a body that isn't short. It only tells who takes the turn: a wrong answer costs time alone.
-pub(crate) fn is_long(came_before: bool, bytes: &[u8]) -> bool
-    ensures { result ≡ spec.is_long came_before bytes.now }
+/// Whether these bytes begin like a request that takes long: a listing, of all or of an application, a peer's batch, or a body that isn't short. It only
+/// tells who takes the turn: a wrong answer costs time alone.
+pub(crate) fn is_long(bytes: &[u8]) -> bool
+    ensures { result ≡ spec.is_long bytes.now }
 {
     lists(bytes, LISTING)
         || lists(bytes, LISTING_2)
         || bytes.starts_with(BATCH)
-        || has_long_body(came_before, bytes)
+        || has_long_body(bytes)
 }

@@ -55,14 +55,14 @@ fn phase_of(talk: &Talk) -> Phase
     }
 }
 
-/// What came of a turn, where the last read would have waited, or not. A session that has ended is noted, also where there was no memory for an answer,
+/// What came of a turn, where a read that failed leaves the connection so. A session that has ended is noted, also where there was no memory for an answer,
 /// since that may have been told; one that has failed leaves its connection to be closed.
 fn judge<S>(
     turned: Result<Turned, SessionFault>,
-    waits: bool,
+    left: Left,
     guest: &mut Guest<S, Talk>,
 ) -> Progress
-    ensures value { result ≡ judged turned waits guest.old.talk.inbox }
+    ensures value { result ≡ judged turned left }
     ensures ended { guest.new ≡ record guest.old { has_ended = guest.old.has_ended || has_ended turned } }
 {
     match turned {
@@ -71,10 +71,8 @@ fn judge<S>(
             guest.has_ended = true;
             Progress::Answered
         }
-        Err(SessionFault::Read) if waits => {
-            Progress::Over(Left::Waits(phase_of(&guest.talk), Happened::Nothing))
-        }
-        Err(_) => Progress::Over(Left::Gone),
+        Err(SessionFault::Read) => Progress::Over(left),
+        Err(SessionFault::Write) => Progress::Over(Left::Gone),
     }
 }
 
@@ -96,6 +94,7 @@ fn turn<K: Label, R: Wait, G: Gate, C: Clock, S: Read>(
         site.gate,
         who,
         visit.reads_on,
+        visit.leaves_long,
         visit.is_drained,
     );
     let mut sink = GatedSink::new(&mut guest.unsent, site.gate, who);
@@ -110,9 +109,9 @@ fn turn<K: Label, R: Wait, G: Gate, C: Clock, S: Read>(
         &mut source,
         &mut sink,
     );
-    let waits = source.waits();
+    let left = source.left(phase_of(&guest.talk));
     visit.is_drained = source.is_drained();
-    judge(turned, waits, guest)
+    judge(turned, left, guest)
 }
 
 /// How a visit left a connection, at which a request was answered before. Where the next one is left to others, it begins anew.
@@ -157,21 +156,20 @@ fn look_ahead<K: Label, R: Wait, G: Gate, S: Read>(
         return None;
     }
     let guest = visit.guest.as_mut();
-    let came_before = !guest.talk.inbox.as_slice().is_empty();
     let mut source = GatedSource::new(
         &mut guest.socket,
         site.gate,
         who,
         visit.reads_on,
+        visit.leaves_long,
         visit.is_drained,
     );
     let read = guest.talk.inbox.read_ahead(&mut source, room);
-    let waits = source.waits();
+    let left = source.left(phase_of(&guest.talk));
     visit.is_drained = source.is_drained();
     match read {
-        Ok(()) if is_long(came_before, guest.talk.inbox.as_slice()) => Some(Left::Long),
-        Err(Fault::Read) if waits => Some(Left::Waits(phase_of(&guest.talk), Happened::Nothing)),
-        Err(Fault::Read) => Some(Left::Gone),
+        Ok(()) if is_long(guest.talk.inbox.as_slice()) => Some(Left::Long),
+        Err(Fault::Read) => Some(left),
         _ => None,
     }
 }

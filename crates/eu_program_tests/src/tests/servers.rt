@@ -33,6 +33,7 @@ fn idle(port: u16) -> Serving {
         until_input_ends: false,
         is_quiet: false,
         accepts_peers: true,
+        most_body: 1_048_576,
     }
 }
 
@@ -237,8 +238,11 @@ const OTHER_POLICY: [Step; 3] = [
     Step::Ask(OF_A_PAGE, "HTTP/1.1 200 *"),
 ];
 
+/// A body of 22 bytes is one too long.
+const SHORT_BODIES: [Step; 1] = [Step::Ask(BATCH, "HTTP/1.1 413 *")];
+
 /// Servers that take the requests that their options say.
-const TAKING: [Served; 2] = [
+const TAKING: [Served; 4] = [
     (
         r#"eureka serve --port 0 --sessions 3 = 0 "served 3\n" "listening on 127.0.0.1:*\n""#,
         &USUAL_POLICY,
@@ -246,6 +250,14 @@ const TAKING: [Served; 2] = [
     (
         r#"eureka serve --port 0 --sessions 3 --accept-peers off --allow-origin https://site.example = 0 "served 3\n" "listening on 127.0.0.1:*\n""#,
         &OTHER_POLICY,
+    ),
+    (
+        r#"eureka serve --port 0 --sessions 1 --max-body 21 = 0 "served 1\n" "listening on 127.0.0.1:*\n""#,
+        &SHORT_BODIES,
+    ),
+    (
+        r#"eureka serve --port 0 --sessions 3 --max-body 22 = 0 "served 3\n" "listening on 127.0.0.1:*\n""#,
+        &USUAL_POLICY,
     ),
 ];
 

@@ -1,6 +1,7 @@
 //! Sessions by the policies that a server may have: which requests are taken, and which are forbidden and ask nothing.
 use crate::tests::books::{USUAL, first_wrong, first_wrong_by};
 use eu_base::Fault;
+use eu_framing::MAX_BODY;
 use eu_http::Policy;
 use std::alloc::Global;
 
@@ -23,10 +24,11 @@ fn a_page_asks_nothing(rt: HostRuntime) {
 fn first_wrong_with(
     alloc: Global,
     accepts_peers: bool,
+    most_body: usize,
     origin: Option<&str>,
     text: &str,
 ) -> Result<Option<usize>, Fault> {
-    let policy = Policy::new(alloc, accepts_peers, origin)?;
+    let policy = Policy::new(alloc, accepts_peers, most_body, origin)?;
     let wrong = first_wrong_by(alloc, &policy, USUAL, text);
     drop(policy);
     wrong
@@ -49,7 +51,7 @@ steps = 5"#;
 
 #[test]
 fn pages_of_one_site_may_ask(rt: HostRuntime) {
-    let wrong = first_wrong_with(rt.alloc(), true, Some("https://site.example"), SITE);
+    let wrong = first_wrong_with(rt.alloc(), true, MAX_BODY, Some("https://site.example"), SITE);
     assert_eq!(rt; wrong, Ok(None));
 }
 
@@ -69,7 +71,7 @@ steps = 3"#;
 
 #[test]
 fn a_server_without_peers_takes_nothing_of_theirs(rt: HostRuntime) {
-    assert_eq!(rt; first_wrong_with(rt.alloc(), false, None, PEERS), Ok(None));
+    assert_eq!(rt; first_wrong_with(rt.alloc(), false, MAX_BODY, None, PEERS), Ok(None));
 }
 
 /// Where nothing else is said, peers are heard.
@@ -82,4 +84,19 @@ steps = 3"#;
 #[test]
 fn peers_are_heard_unless_it_is_said(rt: HostRuntime) {
     assert_eq!(rt; first_wrong(rt.alloc(), USUAL, HEARD), Ok(None));
+}
+
+/// Where a body may have 22 bytes: one of 23 is refused whatever it would ask, also where it came in chunks, and the session goes on. What is forbidden is told first.
+const SHORT: &str = r#"POST /eureka/peerreplication/batch/ {"replicationList":[]} = HTTP/1.1 200 OK¶Content-Type: application/json¶Content-Length: 19¶¶{"responseList":[]}
+POST /eureka/peerreplication/batch/ {"replicationList":[] } = HTTP/1.1 413 Payload Too Large¶Content-Type: application/json¶Content-Length: 12¶¶{"fault":34}
+PUT /eureka/apps/A/i1 {"replicationList":[] } = HTTP/1.1 413 Payload Too Large¶Content-Type: application/json¶Content-Length: 12¶¶{"fault":34}
+GET /eureka/nowhere {"replicationList":[] } = HTTP/1.1 413 Payload Too Large¶Content-Type: application/json¶Content-Length: 12¶¶{"fault":34}
+POST /eureka/apps/A HTTP/1.1¶Host: x¶Transfer-Encoding: chunked¶¶10¶0123456789abcdef¶7¶0123456¶0¶¶ = HTTP/1.1 413 Payload Too Large¶Content-Type: application/json¶Content-Length: 12¶¶{"fault":34}
+POST /eureka/apps/A HTTP/1.1¶Host: x¶Transfer-Encoding: chunked¶¶10¶0123456789abcdef¶6¶012345¶0¶¶ = HTTP/1.1 400 Bad Request¶Content-Type: application/json¶Content-Length: 12¶¶{"fault":20}
+POST /eureka/apps/A HTTP/1.1¶Host: x¶Origin: null¶Content-Length: 24¶¶{"replicationList":[]}¶ = HTTP/1.1 403 Forbidden¶Content-Length: 0¶¶
+steps = 0"#;
+
+#[test]
+fn bodies_are_as_short_as_the_policy_says(rt: HostRuntime) {
+    assert_eq!(rt; first_wrong_with(rt.alloc(), true, 22, None, SHORT), Ok(None));
 }

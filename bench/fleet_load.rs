@@ -12,8 +12,8 @@
 //!
 //! `fleet_load lists PORT CLIENTS SECONDS`: each client fetches the listing of all without pause. Prints how many were fetched, and how many bytes.
 //!
-//! `fleet_load fleet PORT CLIENTS SECONDS`: each client has two connections. By one it renews its lease each 2 s, by the other it fetches the listing of
-//! all each 10 s. Prints as `beats` does, and how many listings were fetched.
+//! `fleet_load fleet PORT CLIENTS SECONDS [PAUSE_S]`: each client has two connections. By one it renews its lease each 2 s, or each PAUSE_S, by the other it
+//! fetches the listing of all at each fifth of these times. Prints as `beats` does, and how many listings were fetched.
 //!
 //! `fleet_load register PORT LEASES`: registers A/i1 and so on.
 //!
@@ -258,7 +258,7 @@ fn lists(port: u16, clients: usize, seconds: u64) {
 }
 
 /// Some clients of a fleet, one after the other, in the time that each of them has.
-fn members(port: u16, first: usize, count: usize, until: Instant, listings: &AtomicU64) -> Times {
+fn members(port: u16, first: usize, count: usize, until: Instant, pause: Duration, listings: &AtomicU64) -> Times {
     let mut times = Times::default();
     let mut buffer = Vec::new();
     let mut beats: Vec<Option<(TcpStream, usize)>> = (0..count).map(|_| None).collect();
@@ -276,7 +276,7 @@ fn members(port: u16, first: usize, count: usize, until: Instant, listings: &Ato
             }
         }
         round += 1;
-        thread::sleep(Duration::from_secs(2).saturating_sub(began.elapsed()));
+        thread::sleep(pause.saturating_sub(began.elapsed()).min(until.saturating_duration_since(Instant::now())));
     }
     times
 }
@@ -303,7 +303,7 @@ fn once(port: u16, place: &mut Option<(TcpStream, usize)>, buffer: &mut Vec<u8>,
     }
 }
 
-fn fleet(port: u16, clients: usize, seconds: u64) {
+fn fleet(port: u16, clients: usize, seconds: u64, pause: u64) {
     let until = Instant::now() + Duration::from_secs(seconds);
     let listings = Arc::new(AtomicU64::new(0));
     let each = clients.div_ceil(40).max(1);
@@ -313,8 +313,8 @@ fn fleet(port: u16, clients: usize, seconds: u64) {
             let listings = Arc::clone(&listings);
             let count = each.min(clients - first);
             thread::spawn(move || {
-                thread::sleep(Duration::from_millis((first * 2_000 / clients) as u64));
-                members(port, first + 1, count, until, &listings)
+                thread::sleep(Duration::from_millis(first as u64 * pause * 1_000 / clients as u64));
+                members(port, first + 1, count, until, Duration::from_secs(pause), &listings)
             })
         })
         .collect();
@@ -359,7 +359,7 @@ fn main() -> io::Result<()> {
         Some("idle") => idle(port, number(2) as usize, number(3))?,
         Some("slow") => slow(port, number(2) as usize, number(3), number(4))?,
         Some("lists") => lists(port, number(2) as usize, number(3)),
-        Some("fleet") => fleet(port, number(2) as usize, number(3)),
+        Some("fleet") => fleet(port, number(2) as usize, number(3), if words.len() > 4 { number(4) } else { 2 }),
         Some("register") => register(port, number(2) as usize)?,
         Some("chunks") => chunks(port, number(2) as usize, number(3) as usize)?,
         _ => panic!("see the first lines of the source"),

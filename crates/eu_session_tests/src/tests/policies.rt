@@ -51,7 +51,13 @@ steps = 5"#;
 
 #[test]
 fn pages_of_one_site_may_ask(rt: HostRuntime) {
-    let wrong = first_wrong_with(rt.alloc(), true, MAX_BODY, Some("https://site.example"), SITE);
+    let wrong = first_wrong_with(
+        rt.alloc(),
+        true,
+        MAX_BODY,
+        Some("https://site.example"),
+        SITE,
+    );
     assert_eq!(rt; wrong, Ok(None));
 }
 
@@ -71,7 +77,10 @@ steps = 3"#;
 
 #[test]
 fn a_server_without_peers_takes_nothing_of_theirs(rt: HostRuntime) {
-    assert_eq!(rt; first_wrong_with(rt.alloc(), false, MAX_BODY, None, PEERS), Ok(None));
+    assert_eq!(rt;
+        first_wrong_with(rt.alloc(), false, MAX_BODY, None, PEERS),
+        Ok(None)
+    );
 }
 
 /// Where nothing else is said, peers are heard.
@@ -87,7 +96,8 @@ fn peers_are_heard_unless_it_is_said(rt: HostRuntime) {
 }
 
 /// Where a body may have 22 bytes: one of 23 is refused whatever it would ask, also where it came in chunks, and the session goes on. What is forbidden is told first.
-const SHORT: &str = r#"POST /eureka/peerreplication/batch/ {"replicationList":[]} = HTTP/1.1 200 OK¶Content-Type: application/json¶Content-Length: 19¶¶{"responseList":[]}
+const SHORT: &str =
+    r#"POST /eureka/peerreplication/batch/ {"replicationList":[]} = HTTP/1.1 200 OK¶Content-Type: application/json¶Content-Length: 19¶¶{"responseList":[]}
 POST /eureka/peerreplication/batch/ {"replicationList":[] } = HTTP/1.1 413 Payload Too Large¶Content-Type: application/json¶Content-Length: 12¶¶{"fault":34}
 PUT /eureka/apps/A/i1 {"replicationList":[] } = HTTP/1.1 413 Payload Too Large¶Content-Type: application/json¶Content-Length: 12¶¶{"fault":34}
 GET /eureka/nowhere {"replicationList":[] } = HTTP/1.1 413 Payload Too Large¶Content-Type: application/json¶Content-Length: 12¶¶{"fault":34}
@@ -98,5 +108,8 @@ steps = 0"#;
 
 #[test]
 fn bodies_are_as_short_as_the_policy_says(rt: HostRuntime) {
-    assert_eq!(rt; first_wrong_with(rt.alloc(), true, 22, None, SHORT), Ok(None));
+    assert_eq!(rt;
+        first_wrong_with(rt.alloc(), true, 22, None, SHORT),
+        Ok(None)
+    );
 }

@@ -1,5 +1,5 @@
 -- How a visit leaves a connection
-use Rattle.std.specs.Prelude.{ℕ, List, [], ◌∷◌, Bool, true, false, Option, Some, None, Result, Ok, Err, ◌||◌}
+use Rattle.std.specs.Prelude.{ℕ, List, [], ◌∷◌, Bool, true, false, Result, Ok, Err, ◌||◌}
 use Rattle.eu_hall.specs.declared.guest.Left.{Left}
 use Rattle.eu_hall.specs.declared.guest.Left.TheVariants.{Waits, GoesOn, Long, Gone}
 use Rattle.eu_hall.specs.declared.phase.Happened.TheVariants as happened
@@ -26,22 +26,26 @@ after_answers GoesOn = GoesOn
 after_answers Long = GoesOn
 after_answers Gone = Gone
 
--- How a read that failed leaves a connection, of whose peer this is awaited: the gate stopped it, more than was read hasn't come, or so much came that others are to read on;
--- else it was the connection's, which would have waited, or has failed
-abbrev pub left_by : Option Halt → Bool → Phase → Left
-left_by (Some halt.Stopped) waits phase = Gone
-left_by (Some halt.Drained) waits phase = Waits phase happened.Nothing
-left_by (Some halt.Long) waits phase = Long
-left_by None true phase = Waits phase happened.Nothing
-left_by None false phase = Gone
+-- what a read that failed tells: the gate stopped it; so much came that others are to read on; it would have waited; or the connection has failed
+abbrev pub halt_of : Bool → Bool → Bool → Halt
+halt_of true was_cut waits = halt.Failed
+halt_of false true waits = halt.Long
+halt_of false false true = halt.Waits
+halt_of false false false = halt.Failed
 
--- what came of a turn, where a read that failed leaves the connection so; that there was no memory for an answer may have been told
-abbrev pub judged : Result Turned SessionFault → Left → Progress
-judged (Ok turned.GoesOn) left = Answered
-judged (Ok (turned.Ended requests)) left = Answered
-judged (Err fault.Read) left = Over left
-judged (Err fault.Write) left = Over Gone
-judged (Err fault.OutOfMemory) left = Answered
+-- how that leaves the connection, of whose session these bytes weren't used
+abbrev pub left_by : Halt → List ℕ → Left
+left_by halt.Waits inbox = Waits (phase_of inbox) happened.Nothing
+left_by halt.Long inbox = Long
+left_by halt.Failed inbox = Gone
+
+-- what came of a turn, where a read that failed tells that, and these bytes weren't used; that there was no memory for an answer may have been told
+abbrev pub judged : Result Turned SessionFault → Halt → List ℕ → Progress
+judged (Ok turned.GoesOn) told inbox = Answered
+judged (Ok (turned.Ended requests)) told inbox = Answered
+judged (Err fault.Read) told inbox = Over (left_by told inbox)
+judged (Err fault.Write) told inbox = Over Gone
+judged (Err fault.OutOfMemory) told inbox = Answered
 
 -- whether the session has ended by the turn, and what was told is to be sent
 abbrev pub has_ended : Result Turned SessionFault → Bool

@@ -1,22 +1,22 @@
 //! Connections behind a gate.
-ghost use Rattle.std.specs.Prelude.{◌≡◌, ◌≤◌, ◌<◌, ◌||◌, ◌&&◌, not, true, false, Some, is_some, length, nat_lt, take, IfOk, OnErr, OnOk};
+ghost use Rattle.std.specs.Prelude.{◌≡◌, ◌≤◌, ◌<◌, ◌||◌, ◌&&◌, not, true, false, length, nat_lt, take, IfOk, OnErr, OnOk};
 ghost use Rattle.std.specs.Io.KnownBytes.{Consumes, IsAtEnd, Keeps};
 ghost use Rattle.eu_workers.specs.Visits as spec;
 
 use eu_gate::{Gate, Go, Point};
-use eu_hall::{Arriving, Happened, Left, Phase};
+use eu_hall::Arriving;
 use eu_stream::{ReadFault, Sink, Source, WriteFault};
 use std::io::Read;
 
-/// Why a read fails before the connection is asked.
-#[derive(Clone, Copy, PartialEq, Eq)]
-enum Halt {
-    /// The gate stopped it.
-    Stopped,
-    /// More than was read hasn't come.
-    Drained,
+/// What a read that has failed tells.
+#[derive(Clone, Copy, Debug, PartialEq, Eq)]
+pub(crate) enum Halt {
+    /// It would have waited.
+    Waits,
     /// So much came that others are to read on.
     Long,
+    /// The connection has failed, or the gate has stopped the read.
+    Failed,
 }
 
 /// What has arrived of a connection; it passes a gate before each read. Where the gate says `Stop` the read fails, as one does that would wait. Where
@@ -30,7 +30,9 @@ pub(crate) struct GatedSource<'a, R: Read, G: Gate> {
     leaves_long: bool,
     is_drained: bool,
     is_full: bool,
-    halt: Option<Halt>,
+    was_stopped: bool,
+    was_drained: bool,
+    was_cut: bool,
 }
 
 impl<'a, R: Read, G: Gate> GatedSource<'a, R, G> {
@@ -58,20 +60,24 @@ impl<'a, R: Read, G: Gate> GatedSource<'a, R, G> {
             leaves_long,
             is_drained,
             is_full: false,
-            halt: None,
+            was_stopped: false,
+            was_drained: false,
+            was_cut: false,
         }
     }
 
-    /// How a read that has failed leaves the connection, of whose peer this is awaited.
-    pub(crate) fn left(&self, phase: Phase) -> Left
-        ensures { result ≡ spec.left_by self.now.halt self.now.arriving.waits phase }
+    /// What its last read tells, where that has failed.
+    pub(crate) fn halt(&self) -> Halt
+        ensures { result ≡ spec.halt_of self.now.was_stopped self.now.was_cut (self.now.was_drained || self.now.arriving.waits) }
     {
-        match self.halt {
-            Some(Halt::Stopped) => Left::Gone,
-            Some(Halt::Drained) => Left::Waits(phase, Happened::Nothing),
-            Some(Halt::Long) => Left::Long,
-            None if self.arriving.waits() => Left::Waits(phase, Happened::Nothing),
-            None => Left::Gone,
+        if self.was_stopped {
+            Halt::Failed
+        } else if self.was_cut {
+            Halt::Long
+        } else if self.was_drained || self.arriving.waits() {
+            Halt::Waits
+        } else {
+            Halt::Failed
         }
     }
 
@@ -88,7 +94,7 @@ impl<'a, R: Read, G: Gate> Source for GatedSource<'a, R, G> {
 
     ghost remaining = { λ s. R.remaining s.arriving.reader.now };
 
-    ghost failed = { λ s. is_some s.halt || (s.arriving.waits || s.arriving.has_failed) };
+    ghost failed = { λ s. s.was_stopped || (s.was_drained || (s.was_cut || (s.arriving.waits || s.arriving.has_failed))) };
 
     fn read_some(&mut self, buffer: &mut [u8]) -> Result<usize, ReadFault>
         ensures bound { IfOk result (λ n. n ≤ length buffer.new) }
@@ -98,21 +104,21 @@ impl<'a, R: Read, G: Gate> Source for GatedSource<'a, R, G> {
         ensures kept { OnErr result (Keeps (R.remaining self.old.arriving.reader.now) (R.remaining self.new.arriving.reader.now)) }
         ensures failed { OnErr result (⟦<GatedSource<'a, R, G> as Source>⟧.failed self.new ≡ true) }
         ensures same_stream { self.new.arriving.reader.ghost_name ≡ self.old.arriving.reader.ghost_name }
-        ensures drained { self.old.is_drained ≡ true → self.new ≡ record self.old { halt = Some Halt.Drained } }
-        ensures long { self.old.is_drained ≡ false → self.old.is_full ≡ true → self.new ≡ record self.old { halt = Some Halt.Long } }
+        ensures drained { self.old.is_drained ≡ true → self.new ≡ record self.old { was_drained = true } }
+        ensures long { self.old.is_drained ≡ false → self.old.is_full ≡ true → self.new ≡ record self.old { was_cut = true } }
         ensures short { IfOk result (λ n. self.new.is_drained ≡ (not self.old.reads_on && nat_lt 0 n && nat_lt n (length buffer.new))) }
         ensures full { IfOk result (λ n. self.new.is_full ≡ (self.old.leaves_long && not (nat_lt n (length buffer.new)))) }
     {
         if self.is_drained {
-            self.halt = Some(Halt::Drained);
+            self.was_drained = true;
             return Err(ReadFault);
         }
         if self.is_full {
-            self.halt = Some(Halt::Long);
+            self.was_cut = true;
             return Err(ReadFault);
         }
         if self.gate.pass(self.who, Point::Read) == Go::Stop {
-            self.halt = Some(Halt::Stopped);
+            self.was_stopped = true;
             return Err(ReadFault);
         }
         let count = self.arriving.read_some(buffer)?;

@@ -5,7 +5,7 @@ ghost use Rattle.eu_workers.specs.Visits.{has_ended, judged};
 ghost use Rattle.eu_workers.specs.Visits as spec;
 
 use crate::ended::Ended;
-use crate::gated::{GatedSink, GatedSource};
+use crate::gated::{GatedSink, GatedSource, Halt};
 use crate::incoming::Incoming;
 use crate::long::is_long;
 use crate::site::Site;
@@ -55,14 +55,25 @@ fn phase_of(talk: &Talk) -> Phase
     }
 }
 
-/// What came of a turn, where a read that failed leaves the connection so. A session that has ended is noted, also where there was no memory for an answer,
+/// How a read that failed leaves a connection, where it tells that.
+fn left_by(halt: Halt, talk: &Talk) -> Left
+    ensures { result ≡ spec.left_by halt talk.now.inbox }
+{
+    match halt {
+        Halt::Waits => Left::Waits(phase_of(talk), Happened::Nothing),
+        Halt::Long => Left::Long,
+        Halt::Failed => Left::Gone,
+    }
+}
+
+/// What came of a turn, where a read that failed tells that. A session that has ended is noted, also where there was no memory for an answer,
 /// since that may have been told; one that has failed leaves its connection to be closed.
 fn judge<S>(
     turned: Result<Turned, SessionFault>,
-    left: Left,
+    halt: Halt,
     guest: &mut Guest<S, Talk>,
 ) -> Progress
-    ensures value { result ≡ judged turned left }
+    ensures value { result ≡ judged turned halt guest.old.talk.inbox }
     ensures ended { guest.new ≡ record guest.old { has_ended = guest.old.has_ended || has_ended turned } }
 {
     match turned {
@@ -71,7 +82,7 @@ fn judge<S>(
             guest.has_ended = true;
             Progress::Answered
         }
-        Err(SessionFault::Read) => Progress::Over(left),
+        Err(SessionFault::Read) => Progress::Over(left_by(halt, &guest.talk)),
         Err(SessionFault::Write) => Progress::Over(Left::Gone),
     }
 }
@@ -109,9 +120,9 @@ fn turn<K: Label, R: Wait, G: Gate, C: Clock, S: Read>(
         &mut source,
         &mut sink,
     );
-    let left = source.left(phase_of(&guest.talk));
+    let halt = source.halt();
     visit.is_drained = source.is_drained();
-    judge(turned, left, guest)
+    judge(turned, halt, guest)
 }
 
 /// How a visit left a connection, at which a request was answered before. Where the next one is left to others, it begins anew.
@@ -165,11 +176,11 @@ fn look_ahead<K: Label, R: Wait, G: Gate, S: Read>(
         visit.is_drained,
     );
     let read = guest.talk.inbox.read_ahead(&mut source, room);
-    let left = source.left(phase_of(&guest.talk));
+    let halt = source.halt();
     visit.is_drained = source.is_drained();
     match read {
         Ok(()) if is_long(guest.talk.inbox.as_slice()) => Some(Left::Long),
-        Err(Fault::Read) => Some(left),
+        Err(Fault::Read) => Some(left_by(halt, &guest.talk)),
         _ => None,
     }
 }

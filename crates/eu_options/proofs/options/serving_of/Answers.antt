@@ -64,3 +64,8 @@ pub returns-in_err-accepts_peers-clause-none : goal.returns-in_err-accepts_peers
 returns-in_err-accepts_peers-clause-none c = λ s _ _ _ _ _ h.
     let found = c.switch_of.ensures.none s.accepts_peers h.10 in
     search (rules, found)
+
+pub returns-in_err-most_body-clause-none : goal.returns-in_err-most_body-clause-none
+returns-in_err-most_body-clause-none c = λ s _ _ _ _ _ h.
+    let found = c.number_within-5.ensures.none s.most_body s.body_bound.0 s.body_bound.1 h.11 in
+    search (rules, found)

@@ -131,17 +131,17 @@ def picture(rows):
 
     left, wide, parts = 80, 700 / max(1, len(rows)), []
     x = lambda n: left + n * wide
-    late = lambda ms: 210 - 60 * (math.log10(max(ms, 0.01)) + 2) / 1.25
+    late = lambda ms: 210 - 34 * (math.log10(max(ms, 0.01)) + 2)
     most = max(row[7] for row in rows) * 1.25
     size = lambda mib: 400 - 140 * mib / most
     for place, kind, words in [(2, "proved", "median"), (3, "tested", "99%"), (4, "trusted", "99.9%")]:
         parts += [f'<circle cx="{x(row[0] - 0.5):g}" cy="{late(row[place]):g}" r="3" class="{kind}"/>' for row in rows]
         parts += [f'<circle cx="{left + 20 + 110 * (place - 2)}" cy="442" r="5" class="{kind}"/>', text(left + 30 + 110 * (place - 2), 447, words, "plain", "start")]
     parts += [f'<rect x="{x(row[0] - 1) + 1:g}" y="{size(row[7]):g}" width="{wide - 2:g}" height="{400 - size(row[7]):g}" class="trusted"/>' for row in rows]
-    parts += [text(left - 8, f"{late(ms) + 4:g}", f"{ms:g}", "small plain", "end") for ms in (0.01, 0.1, 1, 10)]
+    parts += [text(left - 8, f"{late(ms) + 4:g}", f"{ms:g}", "small plain", "end") for ms in (0.01, 0.1, 1, 10, 100)]
     parts += [text(left - 8, f"{size(part * most / 1.25) + 4:g}", f"{part * most / 1.25:.0f}", "small plain", "end") for part in (0, 0.5, 1)]
     parts += [f'<path d="M{left} {y} L{left + 700} {y}" class="line"/>' for y in (210, 400)]
-    parts += [text(left, 30, "a heartbeat of the fleet, ms", "bold plain", "start"), text(left, 244, "the server's memory, MiB", "bold plain", "start")]
+    parts += [text(left, 24, "a heartbeat of the fleet, ms", "bold plain", "start"), text(left, 244, "the server's memory, MiB", "bold plain", "start")]
     parts += [text(f"{x(n):g}", 418, f"{n} min" if n else "0", "small plain") for n in range(0, len(rows) + 1, max(1, len(rows) // 4))]
     return svg(860, 464, parts)
 

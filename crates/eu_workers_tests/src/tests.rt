@@ -1,6 +1,5 @@
 //! The tests, by what they are of.
 mod askers;
-mod bodies;
 mod halls;
 mod hands;
 mod memory;

@@ -2,7 +2,8 @@
 # What a server carries that a fleet uses, with 4 workers: heartbeats of a few clients that keep their connections, alone, beside idle connections, and
 # beside slow ones; many clients at once; heartbeats beside clients that fetch listings without pause; a fleet whose clients renew each 2 s and
 # fetch each 10 s; and a body in chunks of one byte. PROGRAM and BASELINE name the server and the one to compare it with (each is called as `serve --port N
-# --sessions N --workers 4`). Prints heartbeats a second, percentiles in microseconds, and the server's processor time a heartbeat.
+# --sessions N --workers 4`; OPTIONS are further words for PROGRAM, such as `--connections 20000`). Prints heartbeats a second, percentiles in microseconds,
+# and the server's processor time a heartbeat.
 #
 # bench/fleet.sh [WORD ..]: `few`, `idle`, `slow`, `many`, `lists`, `fleet`, `chunks`, `rest`; all where none is named. It wants 25,000 descriptors for all of it;
 # IDLE (10,000), CLIENTS (2,000) and SECONDS_EACH (10) make it smaller or longer.
@@ -23,7 +24,9 @@ ulimit -n "$(ulimit -Hn)"
 # Starts a server, and waits until it listens.
 serve() {
     port=$((port + 1))
-    "$1" serve --port "$port" --sessions 4000000000 --workers 4 > /dev/null 2> "$work/told" &
+    local words=()
+    if [ "$1" = "$program" ]; then read -ra words <<< "${OPTIONS:-}"; fi
+    "$1" serve --port "$port" --sessions 4000000000 --workers 4 "${words[@]}" > /dev/null 2> "$work/told" &
     started=$!
     for _ in $(seq 100); do
         if (exec 3<> "/dev/tcp/127.0.0.1/$port") 2> /dev/null; then return; fi
@@ -81,14 +84,17 @@ for server in "$program" ${BASELINE:+"$BASELINE"}; do
     if wanted lists "$@"; then
         serve "$server"
         "$work/load" register "$port" 10000
-        echo "-- 4 clients at 10,000 leases"
-        measured beats "$port" 4 "$seconds" 0
-        echo "-- beside 6 that fetch all without pause"
-        "$work/load" lists "$port" 6 $((seconds + 2)) > "$work/lists" &
-        sleep 1
-        "$work/load" beats "$port" 4 "$seconds" 0
-        sleep 3
-        cat "$work/lists"
+        for load in "4 0" "64 2"; do
+            read -r count pause <<< "$load"
+            echo "-- $count clients at 10,000 leases, with a pause of $pause ms"
+            measured beats "$port" "$count" "$seconds" "$pause"
+            echo "-- beside 6 that fetch all without pause"
+            "$work/load" lists "$port" 6 $((seconds + 2)) > "$work/lists" &
+            sleep 1
+            "$work/load" beats "$port" "$count" "$seconds" "$pause"
+            sleep 3
+            cat "$work/lists"
+        done
         stop
     fi
     if wanted fleet "$@"; then

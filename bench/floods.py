@@ -123,6 +123,16 @@ def new_keys(port):
     asks(port, [registration("NEW", f"n{number}") for number in range(90)])
 
 
+def reads_late(port):
+    """Asks for the listing of all, and begins to read 0.15 s later: so the rest of it is sent by the loop of its connection, to a client that takes it as fast as it comes."""
+    while True:
+        stream = connect(port)
+        for _ in range(90):
+            stream.sendall(request("GET", "apps"))
+            time.sleep(0.15)
+            read_answer(stream)
+
+
 KINDS = {
     "heads": lambda port: drips(port, b"PUT /eureka/apps/A/i1 HTTP/1.1\r\nHost: x\r\nX-Long: " + b"y" * 6000),
     "bodies": lambda port: drips(port, b"POST /eureka/apps/A HTTP/1.1\r\nHost: x\r\nContent-Length: 100000\r\n\r\n" + b"{" * 90_000),
@@ -131,6 +141,7 @@ KINDS = {
     "batches": lambda port: asks(port, [batch(250 * number) for number in range(40)]),
     "silent": is_silent,
     "listings": lambda port: asks(port, [request("GET", "apps")] * 90),
+    "late": reads_late,
     "new": new_keys,
 }
 
@@ -200,7 +211,7 @@ def main():
         look("nobody", PORT, server)
         is_full = False
         for kind in wanted:
-            if kind in ("listings", "new") and not is_full:
+            if kind in ("listings", "late", "new") and not is_full:
                 fill(PORT)
                 is_full = True
                 look("nobody, a full registry", PORT, server)

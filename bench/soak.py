@@ -8,9 +8,11 @@ two connections each. Beside them run all the while: heads and bodies byte by by
 registrations; listings; new keys; 500 connections that say nothing; and requests that are cut off anywhere, some with a reset. Each of these does one thing, and waits a tenth of a second; after a body of 1 MiB a second.
 
 MINUTES (60) says how long. Each minute prints the fleet's heartbeats with their percentiles in milliseconds, how many requests of the fleet failed, the server's memory in MiB, its descriptors, and the processors
-that it took. At the end the input is closed: the server has to end by itself with exit status 0, tell how many sessions it served, and leave a journal that `PROGRAM audit` says yes to.
+that it took. At the end the server has to have as many descriptors as at the start, and no more than a quarter more memory than after ten minutes. The input is closed: it has to end by itself with exit status 0, tell how many sessions it served (which number nothing else knows, as
+hostile clients may be refused), and leave a journal that `PROGRAM audit` says yes to.
 PICTURE names a file for a picture of the minutes. It wants 12,000 descriptors and rustc.
 """
+import itertools
 import multiprocessing
 import os
 import random
@@ -33,11 +35,11 @@ TOP = os.path.dirname(os.path.dirname(os.path.abspath(__file__)))
 
 
 def asks_slowly(port, requests, pause=PAUSE):
-    """Sends these again and again, with a pause after each answer."""
+    """Sends these again and again, with a pause after each answer; of what has no end each once. A connection has a hundred of them at most."""
     while True:
         try:
             stream = floods.connect(port)
-            for one in requests:
+            for one in itertools.islice(requests, 90):
                 stream.sendall(one)
                 floods.read_answer(stream)
                 time.sleep(pause)
@@ -82,7 +84,7 @@ HOSTILE = {
     "keys": lambda port: asks_slowly(port, [floods.registration("LONG", "long", {"metadata": floods.long_keys()})] * 90, 1),
     "batches": lambda port: asks_slowly(port, [floods.batch(250 * (number % 4)) for number in range(40)]),
     "listings": lambda port: asks_slowly(port, [floods.request("GET", "apps")] * 90),
-    "new": lambda port: asks_slowly(port, [floods.registration("NEW", f"n{number}") for number in range(90)]),
+    "new": lambda port: asks_slowly(port, (floods.registration("NEW", f"n{number}") for number in itertools.count())),
     "silent": is_silent,
     "cuts": cuts,
 }
@@ -109,9 +111,11 @@ def minute(number, load, server):
     return row
 
 
-def close(program, server, journal, err):
-    """Closes the server's input, and judges what it leaves."""
+def close(program, server, journal, err, rows, open_first):
+    """Closes the server's input, and judges what it leaves. At the start it had so many descriptors."""
     open_before = descriptors(server.pid)
+    assert open_before == open_first, f"{open_first} descriptors at the start, {open_before} at the end"
+    assert rows[-1][7] <= 1.25 * rows[min(9, len(rows) - 1)][7], "memory has grown"
     server.stdin.close()
     began = time.monotonic()
     status = server.wait(timeout=120)
@@ -156,6 +160,7 @@ def main():
             words = ["serve", "--port", str(PORT), "--forever", "--until-input-ends", "--seed", "system", "--workers", "4", "--journal", journal]
             server = subprocess.Popen([program, *words], stdin=subprocess.PIPE, stdout=subprocess.PIPE, stderr=err, text=True)
             time.sleep(1)
+            open_first = descriptors(server.pid)
             subprocess.run([load, "register", str(PORT), str(CLIENTS)], check=True, stdout=subprocess.DEVNULL)
             hostile = [multiprocessing.Process(target=kind, args=(PORT,), daemon=True) for kind in HOSTILE.values()]
             for one in hostile:
@@ -166,7 +171,7 @@ def main():
                 one.terminate()
             time.sleep(5)
             err.seek(0)
-            close(program, server, journal, err)
+            close(program, server, journal, err, rows, open_first)
     if "PICTURE" in os.environ:
         with open(os.environ["PICTURE"], "w", encoding="utf-8") as out:
             out.write(picture(rows))

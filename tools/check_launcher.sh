@@ -77,7 +77,7 @@ expect "SIGKILL to the script ends the input, too" "read 0 gone" "$(
 )"
 expect "--memory is a limit, and no word of the program's" "307200 limit one two" "$("$place/eureka" limit one --memory 300 two)"
 expect "--memory=N, too" "409600 limit" "$("$place/eureka" --memory=400 limit)"
-for words in "--memory" "--memory 0" "--memory -1" "--memory=1.5" "--memory 9999999999"; do
+for words in "--memory" "--memory=" "--memory 0" "--memory -1" "--memory=1.5" "--memory 9999999999"; do
     told=0
     # shellcheck disable=SC2086
     "$place/eureka" limit $words > /dev/null 2>&1 || told=$?

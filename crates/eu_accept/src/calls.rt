@@ -3,7 +3,7 @@ ghost use Rattle.std.specs.Prelude.{◌≡◌, ◌||◌, true, false};
 ghost use Rattle.mio.specs.Event.{event_token, is_readable, is_read_closed, is_error};
 ghost use Rattle.eu_accept.specs.Calls as spec;
 
-use eu_hall::{Awaited, Guest, Happened, Left, Phase, Visit};
+use eu_hall::{Awaited, Guest, Happened, Left, Patience, Phase, Visit};
 use mio::event::Event;
 
 /// The most turns that a session has before others have theirs.
@@ -52,7 +52,7 @@ pub(crate) fn asks_still(left: Left) -> bool
 
 /// The visit of a connection that was called so, of whose peer this was awaited.
 pub(crate) fn visit_of<S, T>(call: Call, guest: Box<Guest<S, T>>, awaited: Awaited) -> Visit<S, T>
-    ensures { result ≡ record { key = call.key; guest = guest; awaited = awaited; most_turns = 8; leaves_long = call.leaves_long; reads_on = call.reads_on; is_drained = false } }
+    ensures { result ≡ record { key = call.key; guest = guest; awaited = awaited; most_turns = 8; leaves_long = call.leaves_long; reads_on = call.reads_on; is_drained = false; sends_on = false } }
 {
     Visit {
         key: call.key,
@@ -62,6 +62,19 @@ pub(crate) fn visit_of<S, T>(call: Call, guest: Box<Guest<S, T>>, awaited: Await
         leaves_long: call.leaves_long,
         reads_on: call.reads_on,
         is_drained: false,
+        sends_on: false,
+    }
+}
+
+/// The moment by which a sweep at `now` judges who is late. A server that was seen to stop at `stopped` waits for as long as a whole request and its
+/// response may take; then everybody is late.
+pub(crate) fn moment_of_sweep(patience: Patience, stopped: Option<u64>, now: u64) -> u64
+    ensures { result ≡ spec.moment_of_sweep patience stopped now }
+{
+    let whole = u64::from(patience.request) + u64::from(patience.response);
+    match stopped {
+        Some(since) if now.saturating_sub(since) >= whole => u64::MAX,
+        _ => now,
     }
 }
 
@@ -87,6 +100,7 @@ pub(crate) fn next_step(left: Left) -> NextStep
         Left::Waits(Phase::Lingering, _) => NextStep::Lingers,
         Left::Waits(phase, happened) => NextStep::Parks(phase, happened),
         Left::GoesOn => NextStep::ParksForMore(Phase::Asking, Happened::Answered),
+        Left::SendsOn(happened) => NextStep::ParksForMore(Phase::Answering, happened),
         Left::Long => NextStep::GoesToPool,
         Left::Gone => NextStep::Leaves,
     }

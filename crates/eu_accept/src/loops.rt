@@ -2,7 +2,9 @@
 ghost use Rattle.std.specs.Prelude.{◌≡◌, ◌≤◌, ◌+◌, ◌-◌, ◌^◌, ◌++◌, [], true, false, length, min};
 
 use crate::behind::drop_what_came;
-use crate::calls::{Call, NextStep, asks_still, call_anew, call_of, next_step, visit_of};
+use crate::calls::{
+    Call, NextStep, asks_still, call_anew, call_of, moment_of_sweep, next_step, visit_of,
+};
 use crate::hub::Hub;
 use crate::mail::Mail;
 use crate::queue::Job;
@@ -52,6 +54,8 @@ pub struct Loop<'a, R: Wait + Clock> {
     now: u64,
     swept: u64,
     is_due: bool,
+    /// When it saw that the server stops.
+    stopped: Option<u64>,
 }
 
 /// A connection that has just come, and whose session begins.
@@ -115,6 +119,7 @@ impl<'a, R: Wait + Clock> Loop<'a, R> {
             now: 0,
             swept: 0,
             is_due: false,
+            stopped: None,
         })
     }
 
@@ -361,12 +366,16 @@ impl<'a, R: Wait + Clock> Loop<'a, R> {
         let _ = self.ready.push_back(call_anew(key));
     }
 
-    /// Gives up all that are late, and where the server stops all that are idle.
+    /// Gives up all that are late, and where the server stops all that are idle; in the end all that are left.
     fn sweep(&mut self, now: u64) {
         let stops = self.hub.counts().is_stopping;
+        if stops && self.stopped.is_none() {
+            self.stopped = Some(now);
+        }
+        let judged_by = moment_of_sweep(self.hub.limits.patience, self.stopped, now);
         let mut from = 0;
         for _place in 0..self.hub.limits.places() {
-            let Some(key) = self.hall.late(from, now, stops) else {
+            let Some(key) = self.hall.late(from, judged_by, stops) else {
                 break;
             };
             self.give_up(key);

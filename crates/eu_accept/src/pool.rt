@@ -1,5 +1,5 @@
 //! Connections whose next request takes long.
-ghost use Rattle.std.specs.Prelude.{◌≡◌, false};
+ghost use Rattle.std.specs.Prelude.{◌≡◌, true, false};
 
 use crate::queue::{Job, Queue};
 use eu_hall::Visit;
@@ -22,12 +22,13 @@ pub struct Pool {
 
 /// A visit at the pool: one turn, of whatever request, and no more reads than are needed.
 pub(crate) fn at_pool<S, T>(visit: Visit<S, T>) -> Visit<S, T>
-    ensures { result ≡ record visit { most_turns = 1; leaves_long = false; reads_on = false } }
+    ensures { result ≡ record visit { most_turns = 1; leaves_long = false; reads_on = false; sends_on = true } }
 {
     Visit {
         most_turns: 1,
         leaves_long: false,
         reads_on: false,
+        sends_on: true,
         ..visit
     }
 }

@@ -1,5 +1,5 @@
 //! Where a worker of a server gets its connections from.
-ghost use Rattle.std.specs.Prelude.{◌≡◌, false};
+ghost use Rattle.std.specs.Prelude.{◌≡◌, true, false};
 ghost use Rattle.eu_accept.specs.Stations.{visits_connections};
 
 use crate::door::Door;
@@ -31,7 +31,7 @@ impl<'a, R: Wait + Clock> Hand<'a, R> {
     /// Takes a connection, and tells how it is to be visited.
     fn begin(&mut self, job: Job) -> Visit<TcpStream, Talk>
         ensures number { self.new.number ≡ job.number }
-        ensures visit { result ≡ record job.visit { most_turns = 1; leaves_long = false; reads_on = false } }
+        ensures visit { result ≡ record job.visit { most_turns = 1; leaves_long = false; reads_on = false; sends_on = true } }
     {
         self.number = job.number;
         at_pool(job.visit)

@@ -1,5 +1,5 @@
 -- What callers see of what is to be sent.
-use Rattle.std.specs.Prelude.{◌≡◌, ℕ, ◌≤◌, Bool, List}
+use Rattle.std.specs.Prelude.{ℕ, ◌≤◌, Bool, List}
 
 -- the bytes that are still to be sent, and whether a write into it has failed
 pub record Waiting : Type 0 where

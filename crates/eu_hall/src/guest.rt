@@ -34,6 +34,8 @@ pub struct Visit<S, T> {
     pub reads_on: bool,
     /// Its last read was such a one.
     pub is_drained: bool,
+    /// Whether it is sent to until all is sent, or a write would wait. Else `MOST_AT_ONCE` bytes are sent, and the rest once others had their turn.
+    pub sends_on: bool,
 }
 
 /// How a visit left a connection.
@@ -43,6 +45,8 @@ pub enum Left {
     Waits(Phase, Happened),
     /// It had all its turns, and there may be more to do at once.
     GoesOn,
+    /// More can be sent of it at once, and this happened at the visit.
+    SendsOn(Happened),
     /// Its next request is for a worker that takes long ones.
     Long,
     /// It has failed, and is to be closed.

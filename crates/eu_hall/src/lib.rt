@@ -21,4 +21,4 @@ pub use hall::Hall;
 pub use leaving::{Leaving, Sent};
 pub use phase::{Awaited, Happened, PATIENCE, Patience, Phase};
 pub use place::{Place, Standing};
-pub use unsent::{MOST_KEPT, Unsent};
+pub use unsent::{MOST_AT_ONCE, MOST_KEPT, Unsent};

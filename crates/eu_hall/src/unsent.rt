@@ -1,5 +1,5 @@
 //! What is to be sent to a peer.
-ghost use Rattle.std.specs.Prelude.{◌≡◌, ◌≢◌, ◌≤◌, ◌<◌, ◌↔◌, ◌++◌, ◌==◌, [], Some, Ok, true, false, drop, length, take, vec_len, vec_capacity, IfOk, OnErr, OnOk};
+ghost use Rattle.std.specs.Prelude.{◌≡◌, ◌≢◌, ◌≤◌, ◌<◌, ◌↔◌, ◌+◌, ◌-◌, ◌++◌, ◌==◌, [], Some, Ok, true, false, drop, length, take, vec_len, vec_capacity, IfOk, OnErr, OnOk};
 ghost use Rattle.std.specs.Io.KnownBytes.{Appends, Keeps};
 ghost use Rattle.eu_hall.specs.Sending.{Goes};
 ghost use Rattle.eu_hall.specs.Waiting.{IsLean, stream_of};
@@ -12,6 +12,9 @@ use std::marker::Model;
 
 /// The most bytes of memory that are held where nothing is to be sent: a response without content has room there.
 pub const MOST_KEPT: usize = 256;
+
+/// The most bytes that `send_piece` sends: at some gigabytes a second, others wait for it some tens of microseconds.
+pub const MOST_AT_ONCE: usize = 65_536;
 
 /// Bytes that are to be sent to a peer, first to last. As a `Sink` it takes whatever is written into it, and `send` passes it on to the peer, as far
 /// as that takes it. Contracts see the bytes that are still to be sent, and whether a write into it has failed.
@@ -92,10 +95,8 @@ impl Unsent {
         ensures same_stream { leaving.new.writer.ghost_name ≡ leaving.old.writer.ghost_name }
         ensures has_failed { self.new.has_failed ≡ self.old.has_failed }
     {
-        let (count, sent) = write_front(leaving, &self.bytes[self.sent..]);
-        self.sent += count;
-        let_go(&mut self.bytes, &mut self.sent);
-        sent
+        let most = self.len();
+        self.send_front(leaving, most)
     }
 
     /// Sends as `send_to` does, to any writer of std that never waits (`ErrorKind::WouldBlock` where it would).
@@ -108,6 +109,41 @@ impl Unsent {
     {
         let mut leaving = Leaving::new(writer);
         self.send_to(&mut leaving)
+    }
+
+    /// Sends the first `MOST_AT_ONCE` bytes, or all where fewer are there, as `send` sends all: so others needn't wait until a peer that takes whatever
+    /// comes has all of a long response. Tells `All` where these are sent; then there may be more.
+    pub fn send_piece<W: Write>(&mut self, writer: &mut W) -> Result<Sent, WriteFault>
+        ensures bytes { Goes (W.contents writer.old) (W.contents writer.new) self.old.rest self.new.rest }
+        ensures all { (result ≡ Ok Sent.All) ↔ (length self.new.rest ≡ length self.old.rest - 65536) }
+        ensures most { length self.old.rest ≤ length self.new.rest + 65536 }
+        ensures has_failed { self.new.has_failed ≡ self.old.has_failed }
+    {
+        let mut leaving = Leaving::new(writer);
+        self.send_front(&mut leaving, MOST_AT_ONCE)
+    }
+
+    /// Sends the first `most` bytes, or all where fewer are there, as `send_to` sends all.
+    fn send_front<W: Write>(
+        &mut self,
+        leaving: &mut Leaving<'_, W>,
+        most: usize,
+    ) -> Result<Sent, WriteFault>
+        ensures bytes { Goes (W.contents leaving.old.writer.now) (W.contents leaving.new.writer.now) self.old.rest self.new.rest }
+        ensures all { (result ≡ Ok Sent.All) ↔ (length self.new.rest ≡ length self.old.rest - most) }
+        ensures most { length self.old.rest ≤ length self.new.rest + most }
+        ensures waits { result ≡ Ok Sent.Waits → leaving.new.waits ≡ true }
+        ensures no_wait { result ≢ Ok Sent.Waits → leaving.new.waits ≡ leaving.old.waits }
+        ensures sound { OnOk result (leaving.new.has_failed ≡ leaving.old.has_failed) }
+        ensures failed { OnErr result (leaving.new.has_failed ≡ true) }
+        ensures same_stream { leaving.new.writer.ghost_name ≡ leaving.old.writer.ghost_name }
+        ensures has_failed { self.new.has_failed ≡ self.old.has_failed }
+    {
+        let end = self.sent + self.len().min(most);
+        let (count, sent) = write_front(leaving, &self.bytes[self.sent..end]);
+        self.sent += count;
+        let_go(&mut self.bytes, &mut self.sent);
+        sent
     }
 
     /// Appends all of the bytes. A `WriteFault` comes where no memory is left for them; that is remembered, and nothing else changes.

@@ -1,5 +1,5 @@
 -- Which requests a server takes, whatever they ask
-use Rattle.std.specs.Prelude.{ℕ, Bool, false, not, ◌&&◌, ◌||◌, List, Option, Some, None, String, bytes_eq, length, nat_lt, string_bytes}
+use Rattle.std.specs.Prelude.{ℕ, Bool, false, not, ◌&&◌, ◌||◌, List, Option, Some, None, String, bytes_eq, codes, length, nat_lt, string_bytes}
 use Rattle.std.specs.List.{list_any}
 use Rattle.std.specs.declared.alloc.Global.{Global}
 use Rattle.eu_framing.specs.declared.request.Request.{Request}
@@ -25,6 +25,6 @@ is_of_peer request = request.replicated || is_batch (string_bytes request.method
 unfoldable pub forbids : Policy → Request → Bool
 forbids policy request = is_cross_site policy request || (not policy.accepts_peers && is_of_peer request)
 
--- its body is longer than the policy takes
+-- its body is longer than the policy takes; but a HEAD asks nothing, and its response has no content (RFC 9110, section 9.3.2)
 abbrev pub is_too_long : Policy → Request → Bool
-is_too_long policy request = nat_lt policy.most_body (length request.body.items)
+is_too_long policy request = not (bytes_eq (string_bytes request.method) (codes "HEAD")) && nat_lt policy.most_body (length request.body.items)

@@ -17,7 +17,7 @@ use std::alloc::{AllocError, Global};
 pub struct Policy {
     /// Whether requests of peers are taken: those that call themselves replicated, and batches.
     pub accepts_peers: bool,
-    /// The most bytes of a body. At most `MAX_BODY` are read, whatever this says.
+    /// The most bytes of a body, but for that of a `HEAD`. At most `MAX_BODY` are read, whatever this says.
     pub most_body: usize,
     /// The origin whose pages may ask, as a browser writes it (`https://example.com`), if there is one.
     pub allowed_origin: Option<String>,
@@ -101,10 +101,12 @@ impl Policy {
         }
         !self.accepts_peers && is_of_peer(routes, request)
     }
-    /// Whether a request's body is longer than the policy takes. Takes no memory.
+
+    /// Whether a request's body is longer than the policy takes. That of a `HEAD` never is: it asks nothing, and is told nothing that has content (RFC 9110,
+    /// section 9.3.2). Takes no memory.
     pub fn is_too_long(&self, request: &Request) -> bool
         ensures { result ≡ spec.is_too_long self.now request.now }
     {
-        request.body.len() > self.most_body
+        request.method.as_str() != "HEAD" && request.body.len() > self.most_body
     }
 }

@@ -87,7 +87,7 @@ impl Plan {
         ensures input { result.input ≡ None }
         ensures quiet { result.is_quiet ≡ false }
         ensures hash_key { result.hash_key ≡ hash_key }
-        ensures policy { (result.policy.accepts_peers ≡ true) × (result.policy.allowed_origin ≡ None) }
+        ensures policy { (result.policy.accepts_peers ≡ true) × (result.policy.allowed_origin ≡ None) × (result.policy.most_body ≡ 1048576) }
     {
         Plan {
             config,

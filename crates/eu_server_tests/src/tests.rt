@@ -4,4 +4,5 @@ mod admissions;
 mod client;
 mod cuts;
 mod journals;
+mod polls;
 mod servers;

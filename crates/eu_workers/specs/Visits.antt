@@ -1,7 +1,7 @@
 -- How a visit leaves a connection
 use Rattle.std.specs.Prelude.{ℕ, List, [], ◌∷◌, Bool, true, false, Result, Ok, Err, ◌||◌}
 use Rattle.eu_hall.specs.declared.guest.Left.{Left}
-use Rattle.eu_hall.specs.declared.guest.Left.TheVariants.{Waits, GoesOn, Long, Gone}
+use Rattle.eu_hall.specs.declared.guest.Left.TheVariants.{Waits, GoesOn, SendsOn, Long, Gone}
 use Rattle.eu_hall.specs.declared.phase.Happened.TheVariants as happened
 use Rattle.eu_hall.specs.declared.phase.Phase.{Phase}
 use Rattle.eu_hall.specs.declared.phase.Phase.TheVariants.{Idle, Asking}
@@ -23,6 +23,7 @@ phase_of (byte ∷ bytes) = Asking
 abbrev pub after_answers : Left → Left
 after_answers (Waits phase what) = Waits phase happened.Answered
 after_answers GoesOn = GoesOn
+after_answers (SendsOn what) = SendsOn happened.Answered
 after_answers Long = GoesOn
 after_answers Gone = Gone
 

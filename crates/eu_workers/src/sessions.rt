@@ -1,5 +1,5 @@
 //! Workers that serve sessions, visit by visit.
-ghost use Rattle.std.specs.Prelude.{◌≡◌, ◌<◌, ◌⊎◌, ◌↔◌, ◌||◌, [], None, Some, true};
+ghost use Rattle.std.specs.Prelude.{◌≡◌, ◌<◌, ◌≤◌, ◌+◌, ◌⊎◌, ◌↔◌, ◌||◌, [], None, Some, true, false, length};
 ghost use Rattle.eu_workers.specs.Returned.{HasTurn, IsAsked, TakesTurns};
 ghost use Rattle.eu_workers.specs.Visits.{has_ended, judged};
 ghost use Rattle.eu_workers.specs.Visits as spec;
@@ -131,19 +131,32 @@ fn after_answers(left: Left) -> Left
 {
     match left {
         Left::Waits(phase, _) => Left::Waits(phase, Happened::Answered),
+        Left::SendsOn(_) => Left::SendsOn(Happened::Answered),
         Left::Long => Left::GoesOn,
         left => left,
     }
 }
 
-/// Sends what is to be sent. Tells how that leaves the connection where not all is sent.
-fn send<S: Write>(guest: &mut Guest<S, Talk>) -> Option<Left>
-    ensures all { (result ≡ None) ↔ (guest.new.unsent.rest ≡ []) }
-    ensures rest { guest.new ≡ record guest.old { socket = guest.new.socket; unsent = guest.new.unsent } }
+/// Sends what is to be sent, or a piece of it where the visit doesn't send on. Tells how that leaves the connection where not all is sent.
+fn send<S: Write>(visit: &mut Visit<S, Talk>) -> Option<Left>
+    ensures all { (result ≡ None) ↔ (visit.new.guest.value.unsent.rest ≡ []) }
+    ensures piece { visit.old.sends_on ≡ false → length visit.old.guest.value.unsent.rest ≤ length visit.new.guest.value.unsent.rest + 65536 }
+    ensures moved { result ≡ Some (Left.Waits Phase.Answering Happened.Moved) → length visit.new.guest.value.unsent.rest < length visit.old.guest.value.unsent.rest }
+    ensures still { result ≡ Some (Left.Waits Phase.Answering Happened.Nothing) → length visit.old.guest.value.unsent.rest ≤ length visit.new.guest.value.unsent.rest }
+    ensures sends_on { result ≡ Some (Left.SendsOn Happened.Moved) → visit.old.sends_on ≡ false }
+    ensures rest { visit.new ≡ record visit.old { guest = visit.new.guest } }
+    ensures guest { visit.new.guest.value ≡ record visit.old.guest.value { socket = visit.new.guest.value.socket; unsent = visit.new.guest.value.unsent } }
 {
+    let guest = visit.guest.as_mut();
     let before = guest.unsent.len();
-    match guest.unsent.send(&mut guest.socket) {
-        Ok(Sent::All) => None,
+    let sent = if visit.sends_on {
+        guest.unsent.send(&mut guest.socket)
+    } else {
+        guest.unsent.send_piece(&mut guest.socket)
+    };
+    match sent {
+        Ok(Sent::All) if guest.unsent.is_empty() => None,
+        Ok(Sent::All) => Some(Left::SendsOn(Happened::Moved)),
         Ok(Sent::Waits) if guest.unsent.len() < before => {
             Some(Left::Waits(Phase::Answering, Happened::Moved))
         }
@@ -206,7 +219,7 @@ fn step<K: Label, R: Wait, G: Gate, C: Clock, S: Read + Write>(
         return Progress::Over(left);
     }
     match turn(site, who, room, seat, clock, visit) {
-        Progress::Answered => match send(visit.guest.as_mut()) {
+        Progress::Answered => match send(visit) {
             Some(left) => Progress::Over(after_answers(left)),
             None => Progress::Answered,
         },
@@ -226,7 +239,7 @@ fn serve<K: Label, R: Wait, G: Gate, C: Clock, S: Read + Write>(
 ) -> Left
     ensures { IsAsked seat.old.pass seat.new.pass }
 {
-    if let Some(left) = send(visit.guest.as_mut()) {
+    if let Some(left) = send(visit) {
         return left;
     }
     let mut has_answered = false;

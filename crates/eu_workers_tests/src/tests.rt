@@ -1,5 +1,6 @@
 //! The tests, by what they are of.
 mod askers;
+mod bodies;
 mod halls;
 mod hands;
 mod memory;

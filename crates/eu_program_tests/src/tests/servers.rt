@@ -293,6 +293,42 @@ fn a_server_goes_by_its_options(rt: HostRuntime) {
     );
 }
 
+/// Settings by which evictions are permitted, and by which they are held back where nobody renews.
+const PERMITTED: &str =
+    "PUT /eureka/config?preservation=off&percent=85&interval=30&evictMs=500 HTTP/1.1\r\nHost: x\r\nConnection: close\r\n\r\n";
+
+const HELD_BACK: &str =
+    "PUT /eureka/config?preservation=on&percent=85&interval=30&evictMs=500 HTTP/1.1\r\nHost: x\r\nConnection: close\r\n\r\n";
+
+/// Self-preservation is put off, and on again.
+const PUT_OFF_AND_ON: [Step; 5] = [
+    Step::Ask(PERMITTED, "HTTP/1.1 200 *"),
+    Step::Sleep(4_000),
+    Step::Ask(HELD_BACK, "HTTP/1.1 200 *"),
+    Step::Sleep(4_000),
+    Step::Ask(LOOK, "HTTP/1.1 200 *"),
+];
+
+/// A server that tells both, and one that is quiet.
+const TELLING: [Served; 2] = [
+    (
+        r#"eureka serve --port 0 --sessions 3 --evict-ms 500 = 0 "served 3\n" "listening on 127.0.0.1:*\nevictions permitted: 0 renewals in the last minute, threshold 1\nevictions held back: 0 renewals in the last minute, threshold 1\n""#,
+        &PUT_OFF_AND_ON,
+    ),
+    (
+        r#"eureka serve --port 0 --sessions 3 --evict-ms 500 --quiet = 0 "served 3\n" "listening on 127.0.0.1:*\n""#,
+        &PUT_OFF_AND_ON,
+    ),
+];
+
+#[test]
+fn a_server_tells_whether_evictions_are_permitted(rt: HostRuntime) {
+    assert_eq!(rt;
+        first_wrong_server(&rt, rt.alloc(), TELLING.as_slice()),
+        None
+    );
+}
+
 /// While two keep a worker each, four register, and six seconds later just two are held; then the first one is answered.
 const SEEDED: [Step; 11] = [
     Step::Connect,

@@ -21,6 +21,12 @@ pub enum Step<'a> {
     CutOff(usize, Text<'a>, usize, u64),
     /// It reads that on a connection, and then the end.
     Read(usize, &'a str),
+    /// It reads that on a connection, behind which more may come.
+    Next(usize, Text<'a>),
+    /// It reads so many bytes on a connection, and then the end.
+    Length(usize, usize),
+    /// It ends its side of a connection.
+    End(usize),
     /// It reads nothing on a connection for half a second.
     Silence(usize),
     /// It leaves so many of its connections, the first ones.
@@ -64,6 +70,21 @@ fn whole(alloc: Global, text: Text<'_>) -> Result<String, AllocError> {
 fn reads(alloc: Global, stream: &mut TcpStream, wanted: &str) -> io::Result<bool> {
     let mut answer = Vec::new(alloc);
     stream.read_to_end(&mut answer)?;
+    Ok(answer.as_slice() == wanted.as_bytes())
+}
+
+/// Whether so many bytes are read of a connection, and then the end.
+fn reads_so_many(alloc: Global, stream: &mut TcpStream, wanted: usize) -> io::Result<bool> {
+    let mut answer = Vec::new(alloc);
+    stream.read_to_end(&mut answer)?;
+    Ok(answer.len() == wanted)
+}
+
+/// Whether that is read of a connection, behind which more may come.
+fn reads_next(alloc: Global, stream: &mut TcpStream, wanted: Text<'_>) -> io::Result<bool> {
+    let wanted = whole(alloc, wanted)?;
+    let mut answer = Vec::from_elem(alloc, 0u8, wanted.len())?;
+    stream.read_exact(&mut answer)?;
     Ok(answer.as_slice() == wanted.as_bytes())
 }
 
@@ -139,6 +160,21 @@ impl<'a, R: Clock + Net<Stream = TcpStream>> Client<'a, R> {
         reads(alloc, self.stream(number)?, wanted)
     }
 
+    fn reads_next(&mut self, number: usize, wanted: Text<'_>) -> io::Result<bool> {
+        let alloc = self.alloc;
+        reads_next(alloc, self.stream(number)?, wanted)
+    }
+
+    fn reads_so_many(&mut self, number: usize, wanted: usize) -> io::Result<bool> {
+        let alloc = self.alloc;
+        reads_so_many(alloc, self.stream(number)?, wanted)
+    }
+
+    fn ends(&mut self, number: usize) -> io::Result<bool> {
+        self.stream(number)?.shutdown(Shutdown::Write)?;
+        Ok(true)
+    }
+
     fn reads_nothing(&mut self, number: usize) -> io::Result<bool> {
         let stream = self.stream(number)?;
         stream.set_read_timeout(Some(Duration::from_millis(500)))?;
@@ -194,6 +230,9 @@ impl<'a, R: Clock + Net<Stream = TcpStream>> Client<'a, R> {
                 Ok(was_cut_off(self.dribble(number, text, times, ms)))
             }
             Step::Read(number, wanted) => self.reads(number, wanted),
+            Step::Next(number, wanted) => self.reads_next(number, wanted),
+            Step::Length(number, wanted) => self.reads_so_many(number, wanted),
+            Step::End(number) => self.ends(number),
             Step::Silence(number) => self.reads_nothing(number),
             Step::Leave(count) => self.leave(count),
             Step::Ask(times, text, wanted) => self.asks(times, text, wanted),

@@ -4,7 +4,7 @@ use crate::tests::journals::is_journal;
 use eu_accept::Limits;
 use eu_base::{Config, Fault, Key};
 use eu_clock::FirstChooser;
-use eu_fixtures::{LAST_MISSING, REGISTRATION as INSTANCE, settings};
+use eu_fixtures::{LAST_MISSING, MISSING, REGISTRATION as INSTANCE, settings};
 use eu_gate::Periods;
 use eu_hall::Patience;
 use eu_hash::HashKey;
@@ -246,7 +246,9 @@ const LARGE: Text<'static> = &[
 ];
 
 /// A hundred requests for all that is registered: what they are answered is more than the system keeps of a connection, where that is large.
-const LISTS: Text<'static> = &[("GET /eureka/apps/ HTTP/1.1\r\nHost: x\r\n\r\n", 100)];
+const LISTS: Text<'static> = &[(LIST, 100)];
+
+const LIST: &str = "GET /eureka/apps/ HTTP/1.1\r\nHost: x\r\n\r\n";
 
 /// Servers whose workers are 2, 1, too few, too many and none that is needed.
 const SERVED: [Row; 5] = [
@@ -471,6 +473,118 @@ fn a_client_that_sends_on_is_cut_off(rt: HostRuntime) -> Result<(), Fail> {
     Ok(())
 }
 
+/// The same renewal, by a client that keeps its connection.
+const RENEW: &str = "PUT /eureka/apps/A/zz HTTP/1.1\r\nHost: x\r\n\r\n";
+
+/// A look at all instances and that renewal, and what they are answered where none is registered.
+const LOOK_AND_RENEWAL: &str =
+    "GET /eureka/apps/ HTTP/1.1\r\nHost: x\r\n\r\nPUT /eureka/apps/A/zz HTTP/1.1\r\nHost: x\r\n\r\n";
+
+const NONE_AND_MISSING: &str =
+    "HTTP/1.1 200 OK\r\nContent-Type: application/json\r\nContent-Length: 77\r\n\r\n{\"applications\":{\"application\":[],\"apps__hashcode\":\"\",\"versions__delta\":\"1\"}}HTTP/1.1 404 Not Found\r\nContent-Length: 0\r\n\r\n";
+
+/// A look at all instances, the last request of its connection.
+const LAST_LIST: &str = "GET /eureka/apps/ HTTP/1.1\r\nHost: x\r\nConnection: close\r\n\r\n";
+
+/// Clients that keep their connections.
+const KEPT_ON: [Row; 4] = [
+    // One asks again, and then so often at once that others have their turn between.
+    (
+        1,
+        1,
+        LONG,
+        &[
+            Step::Connect(1),
+            Step::Send(0, &[(RENEW, 1)]),
+            Step::Next(0, &[(MISSING, 1)]),
+            Step::Sleep(50),
+            Step::Send(0, &[(RENEW, 1)]),
+            Step::Next(0, &[(MISSING, 1)]),
+            Step::Send(0, &[(RENEW, 40)]),
+            Step::Next(0, &[(MISSING, 40)]),
+            Step::Send(0, RENEWAL),
+            Step::Read(0, LAST_MISSING),
+            Step::Leave(1),
+        ],
+    ),
+    // One asks while its connection is at the pool, and behind what the pool answers.
+    (
+        1,
+        2,
+        LONG,
+        &[
+            Step::Connect(1),
+            Step::Send(0, &[(LOOK_AND_RENEWAL, 10)]),
+            Step::Send(0, &[(LOOK_AND_RENEWAL, 1)]),
+            Step::Send(0, RENEWAL),
+            Step::Next(0, &[(NONE_AND_MISSING, 11)]),
+            Step::Read(0, LAST_MISSING),
+            Step::Leave(1),
+        ],
+    ),
+    // One doesn't take its responses at once: twenty of 500,549 bytes and a last one of 500,568. Another is answered meanwhile.
+    (
+        3,
+        1,
+        LONG,
+        &[
+            Step::Ask(1, LARGE, REGISTERED),
+            Step::Connect(1),
+            Step::Send(0, &[(LIST, 20), (LAST_LIST, 1)]),
+            Step::Ask(1, RENEWAL, LAST_MISSING),
+            Step::Sleep(200),
+            Step::Length(0, 10_511_548),
+            Step::Leave(1),
+        ],
+    ),
+    // One ends its side once it has asked.
+    (
+        1,
+        2,
+        LONG,
+        &[
+            Step::Connect(1),
+            Step::Send(0, &[(RENEW, 20)]),
+            Step::End(0),
+            Step::Next(0, &[(MISSING, 20)]),
+            Step::Read(0, ""),
+        ],
+    ),
+];
+
+#[test]
+fn clients_keep_their_connections(rt: HostRuntime) -> Result<(), Fail> {
+    assert_eq!(rt; first_wrong(&rt, rt.alloc(), KEPT_ON.as_slice())?, None);
+    Ok(())
+}
+
+/// Half a request, of some 7,000 bytes, and the rest of it.
+const HALF: Text<'static> = &[
+    ("PUT /eureka/apps/A/zz HTTP/1.1\r\nHost: x\r\nx: ", 1),
+    ("0123456789", 700),
+];
+
+const REST: Text<'static> = &[("\r\nConnection: close\r\n\r\n", 1)];
+
+/// The one loop may hold 25,000 bytes, and each half of a request takes 16,384 of memory and some more: so the second is closed, and the first is answered once it is whole.
+#[test]
+fn who_would_hold_too_much_is_closed(rt: HostRuntime) -> Result<(), Fail> {
+    let mut plan = plan(3, 1, USUAL)?;
+    plan.limits.bytes = 50_000;
+    let steps = [
+        Step::Connect(2),
+        Step::Send(0, HALF),
+        Step::Sleep(300),
+        Step::Send(1, HALF),
+        Step::Read(1, ""),
+        Step::Ask(1, RENEWAL, LAST_MISSING),
+        Step::Send(0, REST),
+        Step::Read(0, LAST_MISSING),
+    ];
+    assert!(rt; plays(&rt, rt.alloc(), &plan, Way::Served, steps.as_slice())?);
+    Ok(())
+}
+
 /// A client that has its answer, and says nothing more.
 const KEPT: [Row; 1] = [(
     1,
@@ -521,43 +635,93 @@ fn a_failed_accept_ends_the_server(rt: HostRuntime) -> Result<(), Fail> {
     Ok(())
 }
 
-/// Whether a server that takes as many connections as come ends at the end of its input, and serves two before: one that is answered, and one that
-/// is idle then.
+/// What a client does before the input of a server ends, what it does then, and what the server writes at its end.
+type Stop = (
+    &'static [Step<'static>],
+    &'static [Step<'static>],
+    &'static str,
+);
+
+/// One is answered, one is idle, and of one half a request has come, which is answered.
+const HALF_ASKED: Stop = (
+    &[
+        Step::Ask(1, REGISTRATION, REGISTERED),
+        Step::Connect(2),
+        Step::Send(1, HALF),
+        Step::Sleep(300),
+    ],
+    &[
+        Step::Sleep(400),
+        Step::Send(1, REST),
+        Step::Read(1, LAST_MISSING),
+    ],
+    "served 3\n",
+);
+
+/// One sends half a request, and from then on the rest of each with half of the next: it is closed once a whole request and its response had their time.
+const ASKS_ON: Stop = (
+    &[
+        Step::Connect(1),
+        Step::Send(0, &[("PUT /eureka/apps/A/zz HTTP/1.1\r\nHost: x\r\n", 1)]),
+        Step::Sleep(300),
+    ],
+    &[Step::CutOff(
+        0,
+        &[("\r\nPUT /eureka/apps/A/zz HTTP/1.1\r\nHost: x\r\n", 1)],
+        60,
+        200,
+    )],
+    "served 1\n",
+);
+
+/// Whether a server by a plan stops so at the end of its input.
 fn stops<
     R: Threads + Wait + Clock + Eprint + Sync + Net<Listener = TcpListener, Stream = TcpStream>,
->(rt: &R, alloc: Global, listener: &TcpListener) -> Result<bool, Fail> {
+>(rt: &R, alloc: Global, plan: &mut Plan, stop: Stop) -> Result<bool, Fail> {
+    let (before, then, wanted) = stop;
+    let listener = TcpListener::bind(rt, "127.0.0.1:0")?;
     let inputs = TcpListener::bind(rt, "127.0.0.1:0")?;
     let far = TcpStream::connect(rt, inputs.local_addr()?)?;
     let (near, _) = inputs.accept()?;
-    let mut plan = plan(0, 2, USUAL)?;
-    plan.sessions = u64::MAX;
     plan.input = Some(near.as_raw_fd());
     let mut client = Client::new(rt, alloc, listener.local_addr()?)?;
     let mut out = Vec::new(alloc);
-    let steps = [
-        Step::Ask(1, REGISTRATION, REGISTERED),
-        Step::Connect(1),
-        Step::Sleep(300),
-    ];
-    let (left, wrong) = thread::join(
+    let (left, is_right) = thread::join(
         rt,
-        || serve_by(rt, alloc, listener, &plan, FirstChooser, &mut out),
+        || serve_by(rt, alloc, &listener, plan, FirstChooser, &mut out),
         || {
-            let wrong = client.first_wrong(&steps);
+            let first = client.first_wrong(before);
             let ended = far.shutdown(Shutdown::Both);
-            wrong.is_none() && ended.is_ok()
+            let second = client.first_wrong(then);
+            first.is_none() && ended.is_ok() && second.is_none()
         },
     );
-    Ok(left.is_ok() && wrong && out.as_slice() == b"served 2\n".as_slice())
+    Ok(left.is_ok() && is_right && out.as_slice() == wanted.as_bytes())
 }
 
-/// The one that is idle isn't waited for.
+/// Also where as many connections as it takes have come before. The one that is idle isn't waited for.
 #[test]
 fn a_server_ends_at_the_end_of_its_input(rt: HostRuntime) -> Result<(), Fail> {
     let began = Instant::now(&rt)?;
-    let listener = TcpListener::bind(&rt, "127.0.0.1:0")?;
-    assert!(rt; stops(&rt, rt.alloc(), &listener)?);
-    assert!(rt; began.elapsed(&rt)? < Duration::from_secs(8));
+    for sessions in [u64::MAX, 3] {
+        let mut plan = plan(0, 2, USUAL)?;
+        plan.sessions = sessions;
+        assert!(rt;
+            stops(&rt, rt.alloc(), &mut plan, HALF_ASKED)?,
+            "{sessions} sessions"
+        );
+    }
+    assert!(rt; began.elapsed(&rt)? < Duration::from_secs(16));
+    Ok(())
+}
+
+#[test]
+fn a_server_that_ends_waits_for_one_request_at_most(rt: HostRuntime) -> Result<(), Fail> {
+    let mut plan = plan(0, 2, USUAL)?;
+    plan.sessions = u64::MAX;
+    plan.limits.patience.request = 700;
+    plan.limits.patience.response = 300;
+    assert!(rt; stops(&rt, rt.alloc(), &mut plan, ASKS_ON)?);
     Ok(())
 }
 

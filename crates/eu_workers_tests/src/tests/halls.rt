@@ -129,6 +129,25 @@ fn guests_enter_are_called_and_come_back(rt: HostRuntime) -> Result<(), Fail> {
     Ok(())
 }
 
+/// Who calls by the key of a place that was used again has the guest that stands there now, and nothing of what is awaited of it changes.
+#[test]
+fn a_place_that_is_used_again_is_its_new_guests(rt: HostRuntime) -> Result<(), Fail> {
+    let mut hall: Hall<u32> = Hall::new(rt.alloc(), 1, 100)?;
+    assert_eq!(rt; hall.enter(1, awaited(Phase::Idle, 0, 50)), Ok(0));
+    assert!(rt; hall.call(0).is_some());
+    assert!(rt; hall.leave(0));
+    assert!(rt; hall.call(0).is_none());
+    assert_eq!(rt; hall.enter(2, awaited(Phase::Asking, 7, 90)), Ok(0));
+    assert_eq!(rt; hall.call(0), Some((2, awaited(Phase::Asking, 7, 90))));
+    assert!(rt;
+        hall.come_back(0, 2, awaited(Phase::Asking, 7, 90), 10)
+            .is_ok()
+    );
+    assert_eq!(rt; hall.late(0, 89, false), None);
+    assert_eq!(rt; hall.late(0, 90, false), Some(0));
+    Ok(())
+}
+
 #[test]
 fn a_sweep_finds_those_that_are_late(rt: HostRuntime) -> Result<(), Fail> {
     let mut hall: Hall<u32> = Hall::new(rt.alloc(), 4, 0)?;
@@ -173,6 +192,28 @@ fn what_is_unsent_goes_as_far_as_its_peer_takes_it(rt: HostRuntime) -> Result<()
     assert!(rt; unsent.is_empty());
     assert!(rt; unsent.memory() <= MOST_KEPT);
     assert!(rt; !unsent.has_failed());
+    Ok(())
+}
+
+#[test]
+fn a_piece_of_what_is_unsent_goes_at_once(rt: HostRuntime) -> Result<(), Fail> {
+    let steps = [
+        Step::Moves(65_535),
+        Step::Moves(100),
+        Step::Fails(ErrorKind::WouldBlock),
+        Step::Moves(100),
+    ];
+    let mut peer = Peer::new(rt.alloc(), &steps);
+    let mut unsent = Unsent::new(rt.alloc());
+    let response = "a".repeat(rt.alloc(), 65_538)?;
+    assert_eq!(rt; unsent.write_some(response.as_bytes()), Ok(65_538));
+    assert_eq!(rt; unsent.send_piece(&mut peer), Ok(Sent::All));
+    assert_eq!(rt; unsent.len(), 2);
+    assert_eq!(rt; unsent.send_piece(&mut peer), Ok(Sent::Waits));
+    assert_eq!(rt; unsent.len(), 2);
+    assert_eq!(rt; unsent.send_piece(&mut peer), Ok(Sent::All));
+    assert!(rt; unsent.is_empty());
+    assert_eq!(rt; peer.bytes.len(), 65_538);
     Ok(())
 }
 

@@ -50,5 +50,6 @@ pub fn visit<S: Drop>(
         leaves_long: false,
         reads_on: true,
         is_drained: false,
+        sends_on: true,
     })
 }

@@ -28,14 +28,21 @@ def body(number):
 
 
 def ask(method, path, content=None):
-    """The status of the answer, and how many bytes it has."""
+    """The status of the answer, and how many bytes it has; 0 where the server closed, since it found no memory even to refuse."""
     connection = http.client.HTTPConnection("127.0.0.1", PORT, timeout=60)
     try:
         connection.request(method, path, content, {"Content-Type": "application/json"} if content else {})
         answer = connection.getresponse()
         return answer.status, len(answer.read())
+    except (ConnectionError, http.client.HTTPException):
+        return 0, 0
     finally:
         connection.close()
+
+
+def is_whole(answer):
+    status, length = answer
+    return status == 200 and length > FILLING
 
 
 def fill():
@@ -68,14 +75,20 @@ def main():
             held, status = fill()
             print(f"{held} instances of {len(body(0)):,} bytes under {most} MiB")
             expect("the next registration is refused", 503, status)
-            expect("what is held is renewed", 200, ask("PUT", "/eureka/apps/FILL0/host-0")[0])
-            expect("an unknown lease isn't", 404, ask("PUT", "/eureka/apps/FILL0/nobody")[0])
-            print(f"a listing of all: {ask('GET', '/eureka/apps')[0]}")
+            everything = [f"/eureka/apps/FILL{number}/host-{number}" for number in range(held)]
+            expect("renewed", held, sum(ask("PUT", one)[0] == 200 for one in everything))
+            shown = [ask("GET", one) for one in everything]
+            whole, refused = sum(is_whole(answer) for answer in shown), sum(status in (0, 503) for status, _ in shown)
+            print(f"shown: {whole} whole, {refused} refused, since answers take memory, too")
+            expect("shown whole, or refused", held, whole + refused)
+            expect("most are shown", True, whole > 0.9 * held)
+            expect("an unknown lease isn't renewed", 404, ask("PUT", "/eureka/apps/FILL0/nobody")[0])
+            print(f"a listing of all, which takes as much memory again: {ask('GET', '/eureka/apps')[0]}")
             expect("one is cancelled", 200, ask("DELETE", f"/eureka/apps/FILL{held - 1}/host-{held - 1}")[0])
             expect("one that is small is registered", 204, ask("POST", "/eureka/apps/SMALL", json.dumps({"instance": {
                 "instanceId": "s", "hostName": "s", "app": "SMALL", "ipAddr": "10.0.0.1", "dataCenterInfo": {"name": "MyOwn"}}}))[0])
             expect("and listed", 200, ask("GET", "/eureka/apps/SMALL")[0])
-            expect("what is held is renewed still", 200, ask("PUT", "/eureka/apps/FILL0/host-0")[0])
+            expect("what is left is renewed still", held - 1, sum(ask("PUT", one)[0] == 200 for one in everything))
             server.terminate()
             print("status", server.wait(timeout=100), server.stdout.read().strip())
             expect("it ends well", 0, server.returncode)

@@ -1,6 +1,7 @@
 pub mod Admissions
 pub mod Behind
 pub mod Calls
+pub mod Hands
 pub mod Limits
 pub mod Messages
 pub mod Passing

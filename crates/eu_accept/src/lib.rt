@@ -25,5 +25,5 @@ pub use loops::Loop;
 pub use mail::Mailbox;
 pub use messages::{Message, Told};
 pub use pace::Pace;
-pub use pool::Pool;
+pub use pool::{HandName, Pool};
 pub use station::{Hand, Station};

@@ -6,7 +6,7 @@ use crate::door::Door;
 use crate::hub::Hub;
 use crate::loops::Loop;
 use crate::mail::Mail;
-use crate::pool::at_pool;
+use crate::pool::{HandName, at_pool};
 use crate::queue::Job;
 use eu_hall::{Left, Visit};
 use eu_session::Talk;
@@ -19,13 +19,18 @@ use std::time::Clock;
 #[derive(Drop)]
 pub struct Hand<'a, R: Wait + Clock> {
     hub: &'a Hub<'a, R>,
+    name: HandName,
     number: usize,
 }
 
 impl<'a, R: Wait + Clock> Hand<'a, R> {
     /// One that has no connection.
-    pub fn new(hub: &'a Hub<'a, R>) -> Hand<'a, R> {
-        Hand { hub, number: 0 }
+    pub fn new(hub: &'a Hub<'a, R>, name: HandName) -> Hand<'a, R> {
+        Hand {
+            hub,
+            name,
+            number: 0,
+        }
     }
 
     /// Takes a connection, and tells how it is to be visited.
@@ -38,7 +43,7 @@ impl<'a, R: Wait + Clock> Hand<'a, R> {
     }
 
     fn next(&mut self) -> Option<Visit<TcpStream, Talk>> {
-        let job = self.hub.pool.next(self.hub.rt)?;
+        let job = self.hub.pool.next(self.hub.rt, self.name)?;
         Some(self.begin(job))
     }
 

@@ -1,5 +1,5 @@
 //! The registry.
-ghost use Rattle.std.specs.Prelude.{◌≡◌, ◌≢◌, ◌+◌, ◌<◌, ◌≤◌, ◌⊎◌, ℕ, Bool, false, if◌then◌else◌, not, replicate, IsOk, OnOk, OnErr, Option, None, Some, Ok, Err, List, IfOk, IfErr, is_some};
+ghost use Rattle.std.specs.Prelude.{◌≡◌, ◌≢◌, ◌+◌, ◌<◌, ◌≤◌, ◌⊎◌, ℕ, Bool, false, if◌then◌else◌, not, replicate, IsOk, OnOk, OnErr, Option, None, Some, Ok, Err, List, IfOk, IfErr, IfSome, is_some, length};
 ghost use Rattle.std.specs.Option.{option_copied};
 ghost use Rattle.std.specs.FinMap as map;
 ghost use Rattle.eu_base.specs.declared.names.Key.{Key};
@@ -381,6 +381,14 @@ impl Registry {
         ensures { IfOk result (λ leases. Shows self.now (listing (option_copied app.entry)) leases.items) }
     {
         self.leases.listed(alloc, app)
+    }
+
+    /// How many leases are held of an application, or in all where none is given, as `list` would tell them, without a look at them. None where no order is kept, as
+    /// before the first snapshot. Takes no memory.
+    pub fn number_of(&self, app: Option<&App>) -> Option<usize>
+        ensures { IfSome result (λ number. Shows self.now (λ s. length (listing (option_copied app.entry) s)) number) }
+    {
+        self.leases.number_of(app)
     }
 
     /// Everything that is held, for who holds a lock: it copies no instance, but where a lease came or went, or an instance changed, since

@@ -16,7 +16,7 @@ ghost use Rattle.eu_shared.specs.Closing.{account_of};
 ghost use Rattle.eu_shared.specs.Shares.{HasNames, HasParts};
 
 use crate::no_peer::NoPeer;
-use eu_accept::{Admission, Door, Hand, Hub, Limits, Loop, Station, Told, can_gather};
+use eu_accept::{Admission, Door, Hand, HandName, Hub, Limits, Loop, Station, Told, can_gather};
 use eu_base::{Config, Fault};
 use eu_clock::{Chooser, SystemClock};
 use eu_gate::{BUCKET_MS, MOST_WORKERS, OTHER_WORKERS, Periods, THRESHOLD_MS};
@@ -275,8 +275,8 @@ fn make_stations<'a, R: Wait + Clock + Net>(
     )?;
     stations.push(Station::Door(Door::new(hub, hub.rt, listener, input)?))?;
     add_loops(&mut stations, hub, polls)?;
-    stations.push(Station::Pool(Hand::new(hub)))?;
-    stations.push(Station::Pool(Hand::new(hub)))?;
+    stations.push(Station::Pool(Hand::new(hub, HandName::First)))?;
+    stations.push(Station::Pool(Hand::new(hub, HandName::Second)))?;
     Ok(stations)
 }
 

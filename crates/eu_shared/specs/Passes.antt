@@ -1,5 +1,5 @@
 -- Passes and the shared book, as contracts see them
-use Rattle.std.specs.Prelude.{◌≡◌, ℕ, List, [], ◌∷◌, ◌++◌, ◌≤◌, max, None}
+use Rattle.std.specs.Prelude.{◌≡◌, ℕ, List, [], ◌∷◌, ◌++◌, ◌≤◌, length, max, None, Option}
 use Rattle.eu_base.specs.declared.faults.Fault.{Fault}
 use Rattle.eu_base.specs.declared.faults.Fault.TheVariants.{OutOfMemory}
 use Rattle.eu_book.specs.declared.journal.Logged.{Logged}
@@ -72,6 +72,10 @@ IsShownBySome p q t v p' = (a : Account) × IsLawful a × (p.tally.steps ≤ a.t
 -- some lawful book has these counts, and so many leases due
 abbrev pub IsSeenOfSome : ℕ → Gauges → Type 0
 IsSeenOfSome t g = (a : Account) × IsLawful a × Shows a.state.registry (λ s. model_view.gauges s t) g
+
+-- some lawful book holds so many leases of an application, or in all where none is given
+abbrev pub IsNumberInSome : Option (List ℕ) → ℕ → Type 0
+IsNumberInSome app number = (a : Account) × IsLawful a × Shows a.state.registry (λ s. length (model_view.listing app s)) number
 
 -- some lawful book's journal begins anew for the pass, which has then seen where: after all steps
 abbrev pub IsBegunBySome : PassAccount → PassAccount → Type 0

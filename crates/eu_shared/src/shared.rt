@@ -4,7 +4,8 @@
 //! its command before, and under the lock lets go of an entry in the end, which is dropped after. A read of all makes its listing after, and a
 //! checkpoint the room for the next journal before. What is behind a lock is known
 //! by its type alone: so a clause says of an answer that some lawful book gives it, and not which.
-ghost use Rattle.std.specs.Prelude.{◌≡◌, ◌∷◌, ◌++◌, ◌≤◌, [], map, vec_len, IfOk, IfErr, OnErr, OnOk, IsPermutation};
+ghost use Rattle.std.specs.Prelude.{◌≡◌, ◌∷◌, ◌++◌, ◌≤◌, [], map, vec_len, IfOk, IfErr, IfSome, OnErr, OnOk, IsPermutation};
+ghost use Rattle.std.specs.Option.{option_copied};
 ghost use Rattle.std.specs.List.Sorted.{IsNonDecreasingBy};
 ghost use Rattle.std.specs.Sync.Mutex.{mutex_guard_value};
 ghost use Rattle.eu_book.specs.Account.{entry, logged, IsLawful};
@@ -12,14 +13,14 @@ ghost use Rattle.eu_book.specs.Peers.{state_of};
 ghost use Rattle.eu_model.specs.Delta.{delta, plus};
 ghost use Rattle.eu_settle.specs.declared.closed.PassLog.{PassLog};
 ghost use Rattle.eu_shared.specs.Closing.{account_of, log_of, logged_by, IsReason};
-ghost use Rattle.eu_shared.specs.Passes.{done_for, new_pass, IsAnsweredBySome, IsBegunBySome, IsRefusedBySome, IsSeenOfSome, IsShownBySome};
+ghost use Rattle.eu_shared.specs.Passes.{done_for, new_pass, IsAnsweredBySome, IsBegunBySome, IsNumberInSome, IsRefusedBySome, IsSeenOfSome, IsShownBySome};
 ghost use Rattle.eu_shared.specs.Shares.{HasNames, HasParts};
 
 use crate::closing::Unclosed;
 use crate::held::Held;
 use crate::pass::{Pass, see};
 use crate::shares::{Blanks, Label, PARTS};
-use eu_base::{Config, Fault, MOST_PEERS, Moment};
+use eu_base::{App, Config, Fault, MOST_PEERS, Moment};
 use eu_book::{Journal, Receipt};
 use eu_clock::Chooser;
 use eu_hash::HashKey;
@@ -98,6 +99,14 @@ impl<K: Label> Shared<K> {
         ensures { IfOk result (λ g. IsSeenOfSome moment g) }
     {
         self.lock(rt).book().registry().gauges(alloc, moment)
+    }
+
+    /// How many leases the shared book holds of an application, or in all where none is given (`Registry::number_of`). None where no order of them is kept.
+    /// Takes no memory.
+    pub fn number_of<R: Wait>(&self, rt: &R, app: Option<&App>) -> Option<usize>
+        ensures { IfSome result (λ number. IsNumberInSome (option_copied app.entry) number) }
+    {
+        self.lock(rt).book().registry().number_of(app)
     }
 
     /// A new pass (`Held::pass`). Its number is how many were made before it. Takes no memory.

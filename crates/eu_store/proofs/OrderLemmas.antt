@@ -402,3 +402,15 @@ pub listing_at : (app : Option (List ℕ)) (es : Entries) (ps : List ℕ) → Is
     → at_places (values_of es) ps ≡ map Some (listing_of app (held es))
 listing_at app es ps apart h =
     values_at es ps (rows_of app (held es)) apart (row_held (is_of app) es) (h ∙ ap (map (λ (k : Key). Some k)) (sym (keys_where (is_of app) (entries (held es)))))
+
+-- and there are as many places as leases in it
+pub number_at : (app : Option (List ℕ)) (es : Entries) (ps : List ℕ) → at_places (keys_of es) ps ≡ map Some (filter (is_of app) (keys_held es))
+    → length ps ≡ length (listing_of app (held es))
+number_at app es ps h =
+    let rows = rows_of app (held es) in
+    sym (length-map ps (λ place. slice_get (keys_of es) place))
+    ∙ ap length h
+    ∙ length-map (filter (is_of app) (keys_held es)) (λ (k : Key). Some k)
+    ∙ ap length (sym (keys_where (is_of app) (entries (held es))))
+    ∙ length-map rows (λ e. e.0)
+    ∙ sym (length-map rows (λ e. e.1))

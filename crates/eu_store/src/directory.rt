@@ -134,6 +134,14 @@ impl Directory {
         &places[low..high]
     }
 
+    /// How many leases are held of an application, or in all where none is given.
+    pub(crate) fn number_of(&self, table: &Table, app: Option<&App>) -> usize
+        requires { IsDirectory table.now.entries self.now }
+        ensures { result ≡ length (listing_of (option_copied app.entry) (map.from_entries table.now.entries)) }
+    {
+        self.part(table, app).len()
+    }
+
     /// What is held of an application, or everything where none is given, in key order. `AllocError` where no memory is left.
     pub(crate) fn listed(
         &self,

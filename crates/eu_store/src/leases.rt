@@ -295,6 +295,15 @@ impl Leases {
         }
     }
 
+    /// How many leases are held of an application, or in all where none is given, without a look at them. None where no order is kept, as before the first
+    /// snapshot. Takes no memory.
+    pub fn number_of(&self, app: Option<&App>) -> Option<usize>
+        ensures { IfSome result (λ number. number ≡ length (listing_of (option_copied app.entry) self.now.held)) }
+    {
+        let directory = self.directory.as_ref()?;
+        Some(directory.number_of(&self.table, app))
+    }
+
     /// The same leases once more; they share their instances, and hash by the same key. `AllocError` where no memory is left.
     pub fn copy(&self, alloc: Global) -> Result<Leases, AllocError>
         ensures { IfOk result (λ copy. copy.held ≡ self.now.held) }

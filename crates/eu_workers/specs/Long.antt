@@ -1,5 +1,6 @@
 -- Which requests take long
-use Rattle.std.specs.Prelude.{ℕ, ◌==◌, ◌||◌, ◌&&◌, Bool, not, List, length, drop, nat_eq, nat_le, codes}
+use Rattle.std.specs.Prelude.{ℕ, ◌==◌, ◌||◌, ◌&&◌, Bool, not, List, length, drop, nat_eq, nat_le, nat_lt, codes, if◌then◌else◌, Option, Some, None}
+use Rattle.std.specs.Option.{option_map, option_or}
 use Rattle.std.specs.List.{before_first, position_or_len, starts_with}
 
 -- the paths under which the registry is listed, whole or by application, and that of a peer's batch
@@ -33,6 +34,20 @@ behind_slashes path = from_first is_other (from_first is_slash path)
 -- the rest of a path has one part at most: behind the slashes that follow that part, there is nothing
 abbrev pub names_no_instance : List ℕ → Bool
 names_no_instance rest = length (behind_slashes (behind_slashes (before_first ends_path rest))) == 0
+
+-- the first part of the rest of a path
+abbrev pub first_part : List ℕ → List ℕ
+first_part rest = before_first is_slash (behind_slashes (before_first ends_path rest))
+
+-- what stands behind a path, where the bytes begin by it and the path that they name has an end
+abbrev pub behind : List ℕ → List ℕ → Option (List ℕ)
+behind bytes path =
+    let rest = drop (length path) bytes in
+    if starts_with nat_eq bytes path && nat_lt (position_or_len ends_path rest) (length rest) then Some rest else None
+
+-- what names the application that is listed, as it stands in the path; nothing where all are
+abbrev pub listed : List ℕ → Option (List ℕ)
+listed bytes = option_map first_part (option_or (behind bytes listing) (behind bytes listing_2))
 
 -- begins by a path of listings, and names no instance
 abbrev pub lists : List ℕ → List ℕ → Bool

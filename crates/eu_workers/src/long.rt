@@ -1,5 +1,5 @@
 //! Requests that take long.
-ghost use Rattle.std.specs.Prelude.{◌≡◌};
+ghost use Rattle.std.specs.Prelude.{◌≡◌, MatchOption, None, Some};
 ghost use Rattle.std.specs.List.{position_or_len};
 ghost use Rattle.eu_workers.specs.Long.{ends_path, is_other, is_slash};
 ghost use Rattle.eu_workers.specs.Long as spec;
@@ -76,11 +76,43 @@ fn names_no_instance(rest: &[u8]) -> bool
     behind_slashes(behind_slashes(path)).is_empty()
 }
 
+/// The first part of the rest of a path: that of an application, where it has one.
+#[tactic(auto, using(crate::proofs::PlaceLemmas::place_within))]
+fn first_part(rest: &[u8]) -> &[u8]
+    ensures { result.now ≡ spec.first_part rest.now }
+{
+    let part = behind_slashes(&rest[..place_of_end(rest)]);
+    &part[..place_of_slash(part)]
+}
+
+/// What stands behind that path, where these bytes begin by it, and where all of the path that they name is there.
+fn behind<'a>(bytes: &'a [u8], path: &[u8]) -> Option<&'a [u8]>
+    ensures { MatchOption result (spec.behind bytes.now path.now ≡ None) (λ rest. spec.behind bytes.now path.now ≡ Some rest.now) }
+{
+    if !bytes.starts_with(path) {
+        return None;
+    }
+    let rest = &bytes[path.len()..];
+    (place_of_end(rest) < rest.len()).then_some(rest)
+}
+
 /// Whether these bytes begin by that path, and go on without naming an instance.
 fn lists(bytes: &[u8], path: &[u8]) -> bool
     ensures { result ≡ spec.lists bytes.now path.now }
 {
     bytes.starts_with(path) && names_no_instance(&bytes[path.len()..])
+}
+
+/// The part of a path that names the application which a request lists that begins so, as it stands there. It is empty where all are listed. None where it
+/// lists nothing, or where the path isn't all there.
+pub(crate) fn listed(bytes: &[u8]) -> Option<&[u8]>
+    ensures { MatchOption result (spec.listed bytes.now ≡ None) (λ part. spec.listed bytes.now ≡ Some part.now) }
+{
+    let rest = match behind(bytes, LISTING) {
+        Some(rest) => rest,
+        None => behind(bytes, LISTING_2)?,
+    };
+    Some(first_part(rest))
 }
 
 /// Whether these bytes begin like a request with a body that isn't short: they are at least as many as a read gives.

@@ -3,22 +3,27 @@ ghost use Rattle.std.specs.Prelude.{◌≡◌, ◌<◌, ◌≤◌, ◌+◌, ◌�
 ghost use Rattle.eu_workers.specs.Returned.{HasTurn, IsAsked, TakesTurns};
 ghost use Rattle.eu_workers.specs.Visits.{has_ended, judged};
 ghost use Rattle.eu_workers.specs.Visits as spec;
+ghost use Rattle.eu_workers.specs.Long.{is_long as is_long_request};
 
 use crate::ended::Ended;
 use crate::gated::{GatedSink, GatedSource, Halt};
 use crate::incoming::Incoming;
-use crate::long::is_long;
+use crate::long::{is_long, listed};
 use crate::site::Site;
-use eu_base::Fault;
+use eu_base::{App, Fault};
 use eu_clock::Clock;
 use eu_framing::{EMPTY_ROOM, Inbox, Room};
 use eu_gate::{Gate, Go, Point};
 use eu_hall::{Guest, Happened, Left, Phase, Sent, Visit};
 use eu_session::{SessionFault, Talk, Turned, take_turn};
 use eu_shared::{Label, Pass, Seat};
+use std::alloc::Global;
 use std::io::{Read, Write};
 use std::mem;
 use std::sync::Wait;
+
+/// How many instances a listing has at most that a loop writes itself: to call another thread would take longer. Each may have 1 MiB, so it isn't more.
+const FEW: usize = 8;
 
 /// What a worker keeps from visit to visit, so that a connection that waits holds no memory for what is read of it.
 #[derive(Drop)]
@@ -165,12 +170,39 @@ fn send<S: Write>(visit: &mut Visit<S, Talk>) -> Option<Left>
     }
 }
 
+/// How many instances are listed now by a request that begins so. None where it lists nothing, or where that isn't known without more work, as of a name that
+/// is percent-encoded.
+fn number_listed<K: Label, R: Wait>(
+    alloc: Global,
+    seat: &Seat<'_, K, R>,
+    bytes: &[u8],
+) -> Option<usize> {
+    let name = str::from_utf8(listed(bytes)?).ok()?;
+    if name.is_empty() {
+        return seat.shared.number_of(seat.rt, None);
+    }
+    if name.contains('%') {
+        return None;
+    }
+    let app = App::read(alloc, name).ok()?;
+    seat.shared.number_of(seat.rt, Some(&app))
+}
+
+/// Whether a request that begins so is to be left to others: it takes long, and isn't a listing of few instances. It only tells who takes the turn: a wrong
+/// answer costs time alone.
+fn is_left<K: Label, R: Wait>(alloc: Global, seat: &Seat<'_, K, R>, bytes: &[u8]) -> bool
+    ensures { result ≡ true → is_long_request bytes.now ≡ true }
+{
+    is_long(bytes) && number_listed(alloc, seat, bytes).is_none_or(|number| number > FEW)
+}
+
 /// Looks at the first bytes of the next request, where one that takes long is left to others: reads them, where none are there. Tells how that leaves the
 /// connection, where the turn is not to be taken.
 fn look_ahead<K: Label, R: Wait, G: Gate, S: Read>(
     site: &Site<'_, K, R, G>,
     who: u32,
     room: &mut Room,
+    seat: &Seat<'_, K, R>,
     visit: &mut Visit<S, Talk>,
 ) -> Option<Left>
     ensures kept { visit.new.guest.value ≡ record visit.old.guest.value { socket = visit.new.guest.value.socket; talk = visit.new.guest.value.talk } }
@@ -192,7 +224,7 @@ fn look_ahead<K: Label, R: Wait, G: Gate, S: Read>(
     let halt = source.halt();
     visit.is_drained = source.is_drained();
     match read {
-        Ok(()) if is_long(guest.talk.inbox.as_slice()) => Some(Left::Long),
+        Ok(()) if is_left(site.alloc, seat, guest.talk.inbox.as_slice()) => Some(Left::Long),
         Err(Fault::Read) => Some(left_by(halt, &guest.talk)),
         _ => None,
     }
@@ -215,7 +247,7 @@ fn step<K: Label, R: Wait, G: Gate, C: Clock, S: Read + Write>(
     if visit.guest.has_ended {
         return Progress::Over(Left::Waits(Phase::Lingering, Happened::Nothing));
     }
-    if let Some(left) = look_ahead(site, who, room, visit) {
+    if let Some(left) = look_ahead(site, who, room, seat, visit) {
         return Progress::Over(left);
     }
     match turn(site, who, room, seat, clock, visit) {

@@ -226,7 +226,7 @@ fn plays<R: Wait>(
 
 const RIGHT: Result<[Option<usize>; 3], Fault> = Ok([None, None, None]);
 
-/// Pass 0 registers i1 and i2 and renews i1 three times, pass 1 renews i2 twice.
+/// Pass 0 registers i1 and i2, renews i1 three times and sees all, and then pass 1 renews i2 twice.
 const ASKED: &str = r#"pass = 0
 pass = 1
 0 register 0 A i1 90 UP UNKNOWN 5 c = 0 Registered { fresh: true }
@@ -234,6 +234,7 @@ pass = 1
 0 renew 2 A i1 - - c = 2 Done
 0 renew 3 A i1 - - c = 3 Done
 0 renew 4 A i1 - - c = 4 Done
+0 all 4 = A/i1 UP UNKNOWN 5 90 30 Rest { members: OfHost("i1") } 0 90004 0;A/i2 UP UNKNOWN 5 90 30 Rest { members: OfHost("i2") } 1 1 1;
 1 renew 5 A i2 - - c = 5 Done
 1 renew 6 A i2 - - c = 6 Done"#;
 

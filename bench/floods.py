@@ -5,7 +5,8 @@
 
 PROGRAM is run as `PROGRAM serve` with four workers. Four good clients renew a lease of theirs each 10 ms, alone first, and then beside one hostile client of each
 kind, or of those that are named. Prints the median, the 99th and the 99.9th percentile and the longest of a good client's heartbeats in milliseconds, how many were made, how many
-of them failed, and what processor time the server took. SECONDS_EACH (10) says how long each is looked at. It wants 11,000 descriptors.
+of them failed, and what processor time the server took. SECONDS_EACH (10) says how long each is looked at. It wants 11,000 descriptors. The server has `--connections 12000`: at the default of 10,000
+silent ones would have all places.
 """
 import json
 import multiprocessing
@@ -133,15 +134,41 @@ def reads_late(port):
             read_answer(stream)
 
 
+LARGE = {"metadata": {"x": "y" * 1_000_000}}
+
+
+def asks_for(port, count, wanted):
+    """Registers so many instances of 1 MiB, and asks for something again and again."""
+    asks(port, [registration("LARGE", f"l{number}", LARGE | {"lastDirtyTimestamp": "9"}) for number in range(count)] + [wanted] * 80)
+
+
+def cancel_all(port, count):
+    """Takes these away again."""
+    stream = connect(port)
+    for number in range(count):
+        stream.sendall(request("DELETE", f"apps/LARGE/l{number}"))
+        read_answer(stream)
+
+
+def conflicts():
+    """A peer's batch whose 250 heartbeats have an older stamp than the instance of 1 MiB that is held: each is answered by that."""
+    item = {"action": "Heartbeat", "appName": "LARGE", "id": "l0", "lastDirtyTimestamp": 5, "status": "UP"}
+    return request("POST", "peerreplication/batch/", json.dumps({"replicationList": [item] * 250}))
+
+
 KINDS = {
     "heads": lambda port: drips(port, b"PUT /eureka/apps/A/i1 HTTP/1.1\r\nHost: x\r\nX-Long: " + b"y" * 6000),
     "bodies": lambda port: drips(port, b"POST /eureka/apps/A HTTP/1.1\r\nHost: x\r\nContent-Length: 100000\r\n\r\n" + b"{" * 90_000),
     "nested": lambda port: asks(port, [request("POST", "apps/A", '{"instance":{"metadata":' + nested() + "}}")] * 90),
     "keys": lambda port: asks(port, [registration("LONG", "long", {"metadata": long_keys()})] * 90),
+    "one": lambda port: asks_for(port, 1, request("GET", "apps/LARGE/l0")),
+    "eight": lambda port: asks_for(port, 8, request("GET", "apps/LARGE")),
+    "conflicts": lambda port: asks_for(port, 1, conflicts()),
     "batches": lambda port: asks(port, [batch(250 * number) for number in range(40)]),
     "silent": is_silent,
     "listings": lambda port: asks(port, [request("GET", "apps")] * 90),
     "late": reads_late,
+    "hidden": lambda port: asks(port, [b"\r\n" + request("GET", "apps")] * 90),
     "new": new_keys,
 }
 
@@ -211,7 +238,7 @@ def main():
         look("nobody", PORT, server)
         is_full = False
         for kind in wanted:
-            if kind in ("listings", "late", "new") and not is_full:
+            if kind in ("listings", "hidden", "late", "new") and not is_full:
                 fill(PORT)
                 is_full = True
                 look("nobody, a full registry", PORT, server)
@@ -221,6 +248,7 @@ def main():
             look(kind, PORT, server)
             hostile.terminate()
             hostile.join()
+            cancel_all(PORT, 8)
             time.sleep(1)
     finally:
         server.kill()

@@ -5,7 +5,8 @@
 
 PROGRAM is run as `PROGRAM serve` with four workers and a journal, until its input ends. CLIENTS (2000) clients renew a lease each 15 s and fetch the listing of all each 75 s, by
 two connections each. Beside them run all the while: heads and bodies byte by byte over 400 connections each; bodies of 1 MiB that nest deep, or have long names; batches of 250
-registrations; listings; new keys; 500 connections that say nothing; and requests that are cut off anywhere, some with a reset. Each of these does one thing, and waits a tenth of a second; after a body of 1 MiB a second.
+registrations; listings; new keys; 500 connections that say nothing; and requests that are cut off anywhere, some with a reset. Each of these does one thing, and waits a tenth of a second; after a new key half a second, and after a body of 1 MiB a second. So some 300 new keys are held at once, and the fleet's heartbeats are
+enough for evictions.
 
 MINUTES (60) says how long. Each minute prints the fleet's heartbeats with their percentiles in milliseconds, how many requests of the fleet failed, the server's memory in MiB, its descriptors, and the processors
 that it took. At the end the server has to have as many descriptors as at the start, and no more than a quarter more memory than after ten minutes. The input is closed: it has to end by itself with exit status 0, tell how many sessions it served (which number nothing else knows, as
@@ -84,7 +85,7 @@ HOSTILE = {
     "keys": lambda port: asks_slowly(port, [floods.registration("LONG", "long", {"metadata": floods.long_keys()})] * 90, 1),
     "batches": lambda port: asks_slowly(port, [floods.batch(250 * (number % 4)) for number in range(40)]),
     "listings": lambda port: asks_slowly(port, [floods.request("GET", "apps")] * 90),
-    "new": lambda port: asks_slowly(port, (floods.registration("NEW", f"n{number}") for number in itertools.count())),
+    "new": lambda port: asks_slowly(port, (floods.registration("NEW", f"n{number}") for number in itertools.count()), 0.5),
     "silent": is_silent,
     "cuts": cuts,
 }

@@ -163,7 +163,7 @@ def threads():
     """A server's threads, and the locks that they take."""
     parts = [text(120, 24, "threads", "bold plain"), text(440, 24, "locks", "bold plain"), text(740, 24, "what lies behind them", "bold plain")]
     workers = [
-        (40, "the door", ["accepts, and deals in turn"]),
+        (40, "the door", ["accepts, and deals to the fewest"]),
         (150, "loops", ["1 to 16, each polls its own"]),
         (260, "the pool", ["2, for long requests"]),
         (370, "timers", ["evictor, bucket, threshold"]),

@@ -38,7 +38,7 @@ const LISTENER: Token = Token(0);
 /// The token of what ends the server.
 const INPUT: Token = Token(1);
 
-/// Accepts the connections of a server, and deals them to its loops in turn.
+/// Accepts the connections of a server, and deals each to the loop with the fewest sessions.
 #[derive(Drop)]
 pub struct Door<'a, R: Wait + Clock> {
     hub: &'a Hub<'a, R>,

@@ -312,12 +312,21 @@ impl<'a, R: Wait + Clock> Loop<'a, R> {
         }
     }
 
-    /// Takes a connection back that was at the pool. It is visited at once, since events were passed over meanwhile; where the rest of a request is awaited,
-    /// once an event tells that some has come.
+    /// Whether the connection at that key is late, as a sweep would judge it now. One that is idle isn't: it may have asked meanwhile.
+    fn is_late(&self, key: usize) -> bool {
+        let patience = self.hub.limits.patience;
+        let judged_by = moment_of_sweep(patience, self.stopped, self.now);
+        self.hall.is_late(key, judged_by)
+    }
+
+    /// Takes a connection back that was at the pool. It is given up where it is late, since no sweep sees who is away. Else it is visited at once, since events
+    /// were passed over meanwhile; where the rest of a request is awaited, once an event tells that some has come.
     fn come_back(&mut self, visit: Visit<TcpStream, Talk>, left: Left) {
         let key = visit.key;
         self.take_back(visit, left);
-        if asks_still(left) {
+        if self.is_late(key) {
+            self.give_up(key);
+        } else if asks_still(left) {
             self.poll_anew(key);
         } else if self.ready.push_back(call_anew(key)).is_err() {
             self.leave(key, Phase::Asking);

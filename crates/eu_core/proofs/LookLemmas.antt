@@ -1,5 +1,5 @@
 -- What a look at a lease gives, and what is listed, is what the machine shows
-use Rattle.std.proofs.Common.{◌≡◌, ℕ, Bool, true, false, List, Result, Ok, Err, IfOk, IfSome, length, sym, ap, ◌∙◌}
+use Rattle.std.proofs.Common.{◌≡◌, ℕ, Bool, true, false, List, Result, Ok, Err, IfOk, sym, ap, ◌∙◌}
 use Rattle.std.specs.Prelude.{cond, ◌&&◌, Option, Some, None}
 use Rattle.eu_model.specs.declared.status_counts.StatusCounts.{StatusCounts}
 use Rattle.eu_base.specs.declared.names.Key.{Key}
@@ -10,6 +10,7 @@ use Rattle.eu_model.specs.Answers.{Shows}
 use Rattle.eu_model.specs.PlainSteps.{plain_expired, plain_listing, plain_one, plain_seen}
 use Rattle.eu_model.proofs.SeenLemmas.{one-kept}
 use Rattle.eu_model.proofs.ListingLemmas.{listing_shown}
+use Rattle.eu_store.specs.Brief.{IsBrief, ListsBriefly}
 use Rattle.eu_store.specs.Stored.{listing_of}
 use Rattle.eu_core.specs.declared.registry.Registry.TheInside.{Inside}
 use Rattle.eu_core.specs.Registry.{plain_of}
@@ -33,8 +34,7 @@ lists app a p is items (Err f) listed = tt
 pub counts_by_status : (a : Inside) (p : Plain) → plain_of a ≡ p → (value : StatusCounts) → value ≡ status_counts (listing_of None a.leases.held) → Shows p (λ s. status_counts (listing None s)) value
 counts_by_status a p is value counted = λ s e. counted ∙ ap (λ (q : Plain). status_counts (plain_listing None q)) is ∙ ap status_counts (listing_shown None p s e)
 
--- and so is their number
-pub numbers : (app : Option (List ℕ)) (a : Inside) (p : Plain) → plain_of a ≡ p → (r : Option ℕ)
-    → IfSome r (λ n. n ≡ length (listing_of app a.leases.held)) → IfSome r (λ n. Shows p (λ s. length (listing app s)) n)
-numbers app a p is (Some n) counted = λ s e. counted ∙ ap (λ (q : Plain). length (plain_listing app q)) is ∙ ap length (listing_shown app p s e)
-numbers app a p is None counted = tt
+-- and where it is brief, so is that
+pub lists_briefly : (few short : ℕ) (app : Option (List ℕ)) (a : Inside) (p : Plain) → plain_of a ≡ p
+    → IsBrief few short (listing_of app a.leases.held) → ListsBriefly few short app p
+lists_briefly few short app a p is brief s e = rw (ap (plain_listing app) is ∙ listing_shown app p s e) at brief

@@ -1,5 +1,5 @@
 //! The registry.
-ghost use Rattle.std.specs.Prelude.{◌≡◌, ◌≢◌, ◌+◌, ◌<◌, ◌≤◌, ◌⊎◌, ℕ, Bool, false, if◌then◌else◌, not, replicate, IsOk, OnOk, OnErr, Option, None, Some, Ok, Err, List, IfOk, IfErr, IfSome, is_some, length};
+ghost use Rattle.std.specs.Prelude.{◌≡◌, ◌≢◌, ◌+◌, ◌<◌, ◌≤◌, ◌⊎◌, ℕ, Bool, false, if◌then◌else◌, not, replicate, IsOk, OnOk, OnErr, Option, None, Some, Ok, Err, List, IfOk, IfErr, is_some, length, true};
 ghost use Rattle.std.specs.Option.{option_copied};
 ghost use Rattle.std.specs.FinMap as map;
 ghost use Rattle.eu_base.specs.declared.names.Key.{Key};
@@ -12,6 +12,7 @@ ghost use Rattle.eu_model.specs.Answers.{Answers, Shows};
 ghost use Rattle.eu_model.specs.View.{counts, gauges, one, listing, status_counts};
 ghost use Rattle.eu_model.specs.PlainSteps.{plain_join_fault, plain_seen};
 ghost use Rattle.eu_model.specs.Step.{extra_time};
+ghost use Rattle.eu_store.specs.Brief.{ListsBriefly};
 ghost use Rattle.eu_core.specs.Decided.{count_fault, counted, left, Decides, IsFrugal, IsReady};
 ghost use Rattle.eu_core.specs.Stepped.{Draws};
 ghost use Rattle.eu_core.specs.Shown.{shown};
@@ -383,12 +384,12 @@ impl Registry {
         self.leases.listed(alloc, app)
     }
 
-    /// How many leases are held of an application, or in all where none is given, as `list` would tell them, without a look at them. None where no order is kept, as
-    /// before the first snapshot. Takes no memory.
-    pub fn number_of(&self, app: Option<&App>) -> Option<usize>
-        ensures { IfSome result (λ number. Shows self.now (λ s. length (listing (option_copied app.entry) s)) number) }
+    /// Whether it is known that `list` would tell few leases, and that each is short (`Leases::is_brief`): `few` at most, and of each at most `short` bytes
+    /// of what its client gave, as text. Takes no memory.
+    pub fn is_brief(&self, app: Option<&App>, few: usize, short: usize) -> bool
+        ensures { result ≡ true → ListsBriefly few short (option_copied app.entry) self.now }
     {
-        self.leases.number_of(app)
+        self.leases.is_brief(app, few, short)
     }
 
     /// Everything that is held, for who holds a lock: it copies no instance, but where a lease came or went, or an instance changed, since

@@ -162,6 +162,16 @@ impl<G: Drop> Hall<G> {
         true
     }
 
+    /// Whether the guest that stands at that key is late at `now` (`Awaited::is_late`). False where none stands there.
+    pub fn is_late(&self, key: usize, now: u64) -> bool
+        ensures { result ≡ is_due now false (place_at self.now key) }
+    {
+        match self.places.get(key) {
+            Some(place) => place.is_due(now, false),
+            None => false,
+        }
+    }
+
     /// The first key from `from` on whose guest stands here and is late at `now` (`Awaited::is_late`), or idle where the server stops. None where there is none.
     ///
     /// A sweep asks from 0 on, gives the guest up, and asks again from the next key on, until there is none: each place is looked at once.

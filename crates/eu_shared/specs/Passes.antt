@@ -1,5 +1,5 @@
 -- Passes and the shared book, as contracts see them
-use Rattle.std.specs.Prelude.{◌≡◌, ℕ, List, [], ◌∷◌, ◌++◌, ◌≤◌, length, max, None, Option}
+use Rattle.std.specs.Prelude.{◌≡◌, ℕ, List, [], ◌∷◌, ◌++◌, ◌≤◌, max, None, Option}
 use Rattle.eu_base.specs.declared.faults.Fault.{Fault}
 use Rattle.eu_base.specs.declared.faults.Fault.TheVariants.{OutOfMemory}
 use Rattle.eu_book.specs.declared.journal.Logged.{Logged}
@@ -15,6 +15,7 @@ use Rattle.eu_model.specs.declared.views.View.{View}
 use Rattle.eu_model.specs.Answers.{Shows}
 use Rattle.eu_model.specs.Delta.{delta, nothing, plus}
 use Rattle.eu_model.specs.View as model_view
+use Rattle.eu_store.specs.Brief.{ListsBriefly}
 use Rattle.eu_settle.specs.Settled.{from_first}
 
 -- a pass: its number, what it was answered, what that did, and the greatest `first` that it has seen
@@ -73,9 +74,9 @@ IsShownBySome p q t v p' = (a : Account) × IsLawful a × (p.tally.steps ≤ a.t
 abbrev pub IsSeenOfSome : ℕ → Gauges → Type 0
 IsSeenOfSome t g = (a : Account) × IsLawful a × Shows a.state.registry (λ s. model_view.gauges s t) g
 
--- some lawful book holds so many leases of an application, or in all where none is given
-abbrev pub IsNumberInSome : Option (List ℕ) → ℕ → Type 0
-IsNumberInSome app number = (a : Account) × IsLawful a × Shows a.state.registry (λ s. length (model_view.listing app s)) number
+-- some lawful book lists few leases of an application, or in all where none is given, and each is short
+abbrev pub IsBriefInSome : ℕ → ℕ → Option (List ℕ) → Type 0
+IsBriefInSome few short app = (a : Account) × IsLawful a × ListsBriefly few short app a.state.registry
 
 -- some lawful book's journal begins anew for the pass, which has then seen where: after all steps
 abbrev pub IsBegunBySome : PassAccount → PassAccount → Type 0

@@ -4,7 +4,7 @@
 //! its command before, and under the lock lets go of an entry in the end, which is dropped after. A read of all makes its listing after, and a
 //! checkpoint the room for the next journal before. What is behind a lock is known
 //! by its type alone: so a clause says of an answer that some lawful book gives it, and not which.
-ghost use Rattle.std.specs.Prelude.{◌≡◌, ◌∷◌, ◌++◌, ◌≤◌, [], map, vec_len, IfOk, IfErr, IfSome, OnErr, OnOk, IsPermutation};
+ghost use Rattle.std.specs.Prelude.{◌≡◌, ◌∷◌, ◌++◌, ◌≤◌, [], map, vec_len, IfOk, IfErr, OnErr, OnOk, IsPermutation, true};
 ghost use Rattle.std.specs.Option.{option_copied};
 ghost use Rattle.std.specs.List.Sorted.{IsNonDecreasingBy};
 ghost use Rattle.std.specs.Sync.Mutex.{mutex_guard_value};
@@ -13,7 +13,7 @@ ghost use Rattle.eu_book.specs.Peers.{state_of};
 ghost use Rattle.eu_model.specs.Delta.{delta, plus};
 ghost use Rattle.eu_settle.specs.declared.closed.PassLog.{PassLog};
 ghost use Rattle.eu_shared.specs.Closing.{account_of, log_of, logged_by, IsReason};
-ghost use Rattle.eu_shared.specs.Passes.{done_for, new_pass, IsAnsweredBySome, IsBegunBySome, IsNumberInSome, IsRefusedBySome, IsSeenOfSome, IsShownBySome};
+ghost use Rattle.eu_shared.specs.Passes.{done_for, new_pass, IsAnsweredBySome, IsBegunBySome, IsBriefInSome, IsRefusedBySome, IsSeenOfSome, IsShownBySome};
 ghost use Rattle.eu_shared.specs.Shares.{HasNames, HasParts};
 
 use crate::closing::Unclosed;
@@ -101,12 +101,12 @@ impl<K: Label> Shared<K> {
         self.lock(rt).book().registry().gauges(alloc, moment)
     }
 
-    /// How many leases the shared book holds of an application, or in all where none is given (`Registry::number_of`). None where no order of them is kept.
-    /// Takes no memory.
-    pub fn number_of<R: Wait>(&self, rt: &R, app: Option<&App>) -> Option<usize>
-        ensures { IfSome result (λ number. IsNumberInSome (option_copied app.entry) number) }
+    /// Whether it is known that the shared book holds few leases of an application, or in all where none is given, and that each is short
+    /// (`Registry::is_brief`). Takes no memory.
+    pub fn is_brief<R: Wait>(&self, rt: &R, app: Option<&App>, few: usize, short: usize) -> bool
+        ensures { result ≡ true → IsBriefInSome few short (option_copied app.entry) }
     {
-        self.lock(rt).book().registry().number_of(app)
+        self.lock(rt).book().registry().is_brief(app, few, short)
     }
 
     /// A new pass (`Held::pass`). Its number is how many were made before it. Takes no memory.

@@ -22,6 +22,7 @@ use Rattle.eu_base.proofs.KeyLemmas.{equal_of_test, names_total, names_exact, na
 use Rattle.eu_model.specs.View.{is_of}
 use Rattle.eu_model.specs.declared.views.Listed.{Listed}
 use Rattle.eu_store.specs.Order.{at_places, at_place, is_below, is_before, is_through, keys_held, IsInOrder}
+use Rattle.eu_store.specs.Brief.{IsBrief, IsShort}
 use Rattle.eu_store.specs.Stored.{rows_of, listing_of}
 use Rattle.eu_store.proofs.TableLemmas.{by_key, map_of, get_at, insert_same}
 use Rattle.eu_model.proofs.ListingLemmas.{filter_true}
@@ -403,14 +404,25 @@ pub listing_at : (app : Option (List ℕ)) (es : Entries) (ps : List ℕ) → Is
 listing_at app es ps apart h =
     values_at es ps (rows_of app (held es)) apart (row_held (is_of app) es) (h ∙ ap (map (λ (k : Key). Some k)) (sym (keys_where (is_of app) (entries (held es)))))
 
--- and there are as many places as leases in it
-pub number_at : (app : Option (List ℕ)) (es : Entries) (ps : List ℕ) → at_places (keys_of es) ps ≡ map Some (filter (is_of app) (keys_held es))
-    → length ps ≡ length (listing_of app (held es))
-number_at app es ps h =
-    let rows = rows_of app (held es) in
-    sym (length-map ps (λ place. slice_get (keys_of es) place))
-    ∙ ap length h
-    ∙ length-map (filter (is_of app) (keys_held es)) (λ (k : Key). Some k)
-    ∙ ap length (sym (keys_where (is_of app) (entries (held es))))
-    ∙ length-map rows (λ e. e.0)
-    ∙ sym (length-map rows (λ e. e.1))
+-- what holds of what stands at the first places holds at one more
+pub one_more_holds : {X : Type 0} (P : X → Type 0) (xs : List X) (ps : List ℕ) (n : ℕ) (x : X)
+    → ((j : ℕ) (y : X) → j < n → slice_get xs (get_or ps j 0) ≡ Some y → P y) → slice_get xs (get_or ps n 0) ≡ Some x → P x
+    → (j : ℕ) (y : X) → j < n + 1 → slice_get xs (get_or ps j 0) ≡ Some y → P y
+one_more_holds P xs ps n x holds there is_so j y low at = by (cases_lt j n)
+  where
+    by : (j < n) ⊎ (n ≤ j) → P y
+    by (inl under) = holds j y under at
+    by (inr over) = let is : j ≡ n = omega (arith, low, over) in subst P (same_some x y (sym there ∙ ap (λ i. slice_get xs (get_or ps i 0)) (sym is) ∙ at)) is_so
+
+-- where few places are an application's, and what stands there is short, its listing is brief
+pub brief_at : (few short : ℕ) (app : Option (List ℕ)) (es : Entries) (ps : List ℕ) → IsDistinct key_eq (keys_of es) → at_places (keys_of es) ps ≡ map Some (filter (is_of app) (keys_held es))
+    → length ps ≤ few → ((j : ℕ) (l : Listed) → j < length ps → slice_get (values_of es) (get_or ps j 0) ≡ Some l → IsShort short l.instance) → IsBrief few short (listing_of app (held es))
+brief_at few short app es ps apart h low each =
+    let gs = listing_of app (held es) in
+    let listed = listing_at app es ps apart h in
+    let long = at_length (values_of es) ps gs listed in (
+      omega (arith, low, long),
+      λ i l at.
+          let within = slice_get_within gs i l at in
+          each i l (omega (arith, within, long)) (at_get (values_of es) ps gs i 0 l listed within ∙ ap (λ (v : Listed). Some v) (get_or_from_slice_get gs i l l at)),
+    )

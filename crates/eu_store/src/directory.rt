@@ -1,5 +1,5 @@
 //! What is held in key order, for who reads. It is kept once somebody took a snapshot: nobody pays for it before.
-ghost use Rattle.std.specs.Prelude.{◌≡◌, ◌≢◌, ◌+◌, ◌-◌, ◌*◌, ◌/◌, ◌<◌, ◌≤◌, ◌⊎◌, filter, length, map, min, slice_index_or, slice_set as set, slice_get, IfOk, IfSome, None, OnOk, Some};
+ghost use Rattle.std.specs.Prelude.{◌≡◌, ◌≢◌, ◌+◌, ◌-◌, ◌*◌, ◌/◌, ◌<◌, ◌≤◌, ◌⊎◌, filter, length, map, min, slice_index_or, slice_set as set, slice_get, IfOk, IfSome, None, OnOk, Some, true};
 ghost use Rattle.std.specs.Arc.{arc_value};
 ghost use Rattle.std.specs.List as lists;
 ghost use Rattle.std.specs.List.{prefix_len};
@@ -10,6 +10,7 @@ ghost use Rattle.indexmap.specs.IndexMap.{IsUnique};
 ghost use Rattle.eu_base.specs.Limits.{most_leases};
 ghost use Rattle.eu_base.specs.Values.{key_eq};
 ghost use Rattle.eu_model.specs.View.{is_of};
+ghost use Rattle.eu_store.specs.Brief.{IsBrief};
 ghost use Rattle.eu_store.specs.Limit.{within};
 ghost use Rattle.eu_store.specs.Order.{at_place, at_places, instances_of, is_below, keys_held, room_in, times_of, window, AreParts, AreWhole, IsDirectory, IsForgotten};
 ghost use Rattle.eu_store.specs.Stored.{listing_of};
@@ -134,12 +135,29 @@ impl Directory {
         &places[low..high]
     }
 
-    /// How many leases are held of an application, or in all where none is given.
-    pub(crate) fn number_of(&self, table: &Table, app: Option<&App>) -> usize
+    /// Whether few leases are held of an application, or in all where none is given, and each is short.
+    pub(crate) fn is_brief(
+        &self,
+        table: &Table,
+        app: Option<&App>,
+        few: usize,
+        short: usize,
+    ) -> bool
         requires { IsDirectory table.now.entries self.now }
-        ensures { result ≡ length (listing_of (option_copied app.entry) (map.from_entries table.now.entries)) }
+        ensures { result ≡ true → IsBrief few short (listing_of (option_copied app.entry) (map.from_entries table.now.entries)) }
     {
-        self.part(table, app).len()
+        let entries = table.as_slice();
+        let places = self.part(table, app);
+        if places.len() > few {
+            return false;
+        }
+        for place in places {
+            let (_key, held) = entries.get_index(usize::from(*place)).unwrap();
+            if !held.is_short(short) {
+                return false;
+            }
+        }
+        true
     }
 
     /// What is held of an application, or everything where none is given, in key order. `AllocError` where no memory is left.

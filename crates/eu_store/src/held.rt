@@ -1,8 +1,9 @@
 //! What is held under a key.
-ghost use Rattle.std.specs.Prelude.{◌≡◌, IfOk, IsTrue};
+ghost use Rattle.std.specs.Prelude.{◌≡◌, IfOk, IsTrue, true};
 ghost use Rattle.eu_lease.specs.Term.{listed_with};
 ghost use Rattle.eu_model.specs.Change.{stamped};
 ghost use Rattle.eu_model.specs.PlainSteps.{plain_expired};
+ghost use Rattle.eu_store.specs.Brief.{IsShort};
 ghost use Rattle.eu_store.specs.Stored.{amended, deadline_of, term_of};
 
 use eu_base::{Moment, SharedInstance, Stamp, Status};
@@ -62,6 +63,16 @@ impl HeldLease {
         ensures { result ≡ self.now.times }
     {
         self.lease.times()
+    }
+
+    /// Whether what its client gave is kept as a text, which has at most so many bytes. Takes no memory.
+    pub(crate) fn is_short(&self, most: usize) -> bool
+        ensures { result ≡ true → IsShort most self.now.instance }
+    {
+        match self.instance.rest().kept_text() {
+            Some(text) => text.pieces().bytes.len() <= most,
+            None => false,
+        }
     }
 
     /// Both once more, as they are listed. `AllocError` where 2^63 share the instance.

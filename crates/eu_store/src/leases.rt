@@ -1,9 +1,10 @@
 //! The leases that are held, by their keys.
-ghost use Rattle.std.specs.Prelude.{◌≡◌, ◌↔◌, ◌<◌, ◌≤◌, ◌+◌, ◌-◌, ◌*◌, ◌^◌, ◌⊎◌, length, map, None, slice_get, is_some, IfSome, IfOk, IfErr, OnOk};
+ghost use Rattle.std.specs.Prelude.{◌≡◌, ◌↔◌, ◌<◌, ◌≤◌, ◌+◌, ◌-◌, ◌*◌, ◌^◌, ◌⊎◌, length, map, None, slice_get, is_some, IfSome, IfOk, IfErr, OnOk, true};
 ghost use Rattle.std.specs.Option.{option_copied};
 ghost use Rattle.std.specs.FinMap as map;
 ghost use Rattle.indexmap.specs.IndexMap.{values, index_map_len, get_by, index_of_by, IsUnique};
 ghost use Rattle.eu_base.specs.Values.{key_eq};
+ghost use Rattle.eu_store.specs.Brief.{IsBrief};
 ghost use Rattle.eu_store.specs.Removed.{with_values};
 ghost use Rattle.eu_store.specs.Stored.{amended, changed, expired_keys, listing_of};
 ghost use Rattle.eu_store.specs.Sweep.{Suffices};
@@ -295,13 +296,16 @@ impl Leases {
         }
     }
 
-    /// How many leases are held of an application, or in all where none is given, without a look at them. None where no order is kept, as before the first
-    /// snapshot. Takes no memory.
-    pub fn number_of(&self, app: Option<&App>) -> Option<usize>
-        ensures { IfSome result (λ number. number ≡ length (listing_of (option_copied app.entry) self.now.held)) }
+    /// Whether it is known that few leases are held of an application, or in all where none is given, and that each is short: `few` at most, and of each at
+    /// most `short` bytes of what its client gave, as text. It looks at so many leases at most. It isn't known where no order is kept, as before the first
+    /// snapshot, nor of an instance of which no text is kept, as one that a script gave no more than a host. Takes no memory.
+    pub fn is_brief(&self, app: Option<&App>, few: usize, short: usize) -> bool
+        ensures { result ≡ true → IsBrief few short (listing_of (option_copied app.entry) self.now.held) }
     {
-        let directory = self.directory.as_ref()?;
-        Some(directory.number_of(&self.table, app))
+        match &self.directory {
+            Some(directory) => directory.is_brief(&self.table, app, few, short),
+            None => false,
+        }
     }
 
     /// The same leases once more; they share their instances, and hash by the same key. `AllocError` where no memory is left.

@@ -1,6 +1,6 @@
 -- Which requests take long
-use Rattle.std.specs.Prelude.{ℕ, ◌==◌, ◌||◌, ◌&&◌, Bool, not, List, length, drop, nat_eq, nat_le, nat_lt, codes, if◌then◌else◌, Option, Some, None}
-use Rattle.std.specs.Option.{option_map, option_or}
+use Rattle.std.specs.Prelude.{ℕ, ◌==◌, ◌||◌, ◌&&◌, Bool, not, List, length, drop, nat_eq, nat_le, nat_lt, codes, if◌then◌else◌, Option, Some, None, false, slice_get}
+use Rattle.std.specs.Option.{option_map, option_map_or, option_or}
 use Rattle.std.specs.List.{before_first, position_or_len, starts_with}
 
 -- the paths under which the registry is listed, whole or by application, and that of a peer's batch
@@ -12,6 +12,9 @@ listing_2 = codes "GET /eureka/v2/apps"
 
 abbrev pub batch : List ℕ
 batch = codes "POST /eureka/peerreplication"
+
+abbrev pub batch_2 : List ℕ
+batch_2 = codes "POST /eureka/v2/peerreplication"
 
 abbrev pub is_slash : ℕ → Bool
 is_slash byte = byte == 47
@@ -57,6 +60,20 @@ lists bytes path = starts_with nat_eq bytes path && names_no_instance (drop (len
 abbrev pub has_long_body : List ℕ → Bool
 has_long_body bytes = starts_with nat_eq bytes (codes "POST ") && nat_le 4096 (length bytes)
 
--- a listing, unless it names an instance, or a batch, or one that has a long body
+-- a front of such a path, and no more
+abbrev pub is_front : List ℕ → Bool
+is_front bytes =
+    not (length bytes == 0) && (starts_with nat_eq listing bytes || starts_with nat_eq listing_2 bytes || starts_with nat_eq batch bytes || starts_with nat_eq batch_2 bytes)
+
+abbrev pub ends_line : ℕ → Bool
+ends_line byte = (byte == 13) || (byte == 10)
+
+-- begins by an empty line, or has something else than a path behind the first blank
+abbrev pub is_unusual : List ℕ → Bool
+is_unusual bytes = option_map_or ends_line (slice_get bytes 0) false || option_map_or is_other (slice_get (from_first ends_path bytes) 1) false
+
+-- a listing, unless it names an instance, or a batch, or one that has a long body; or one of which that isn't known yet
 abbrev pub is_long : List ℕ → Bool
-is_long bytes = lists bytes listing || lists bytes listing_2 || starts_with nat_eq bytes batch || has_long_body bytes
+is_long bytes =
+    lists bytes listing || lists bytes listing_2 || starts_with nat_eq bytes batch || starts_with nat_eq bytes batch_2
+    || has_long_body bytes || is_front bytes || is_unusual bytes

@@ -13,6 +13,9 @@ const LISTING_2: &[u8] = b"GET /eureka/v2/apps";
 /// The path of a peer's batch.
 const BATCH: &[u8] = b"POST /eureka/peerreplication";
 
+/// The other such path.
+const BATCH_2: &[u8] = b"POST /eureka/v2/peerreplication";
+
 /// What a request with a body begins by.
 const POST: &[u8] = b"POST ";
 
@@ -122,13 +125,41 @@ fn has_long_body(bytes: &[u8]) -> bool
     bytes.starts_with(POST) && bytes.len() >= READ
 }
 
-/// Whether these bytes begin like a request that takes long: a listing, of all or of an application, a peer's batch, or a body that isn't short. It only
-/// tells who takes the turn: a wrong answer costs time alone.
+/// Whether these bytes are no more than a front of such a path, so that it isn't known yet what is asked for.
+fn is_front(bytes: &[u8]) -> bool
+    ensures { result ≡ spec.is_front bytes.now }
+{
+    !bytes.is_empty()
+        && (LISTING.starts_with(bytes)
+            || LISTING_2.starts_with(bytes)
+            || BATCH.starts_with(bytes)
+            || BATCH_2.starts_with(bytes))
+}
+
+/// Whether they begin as few requests do, so that a path is told by a parse alone: by an empty line, or with something else than a path, as a whole address,
+/// behind the method.
+#[tactic(auto, using(crate::proofs::PlaceLemmas::place_within))]
+fn is_unusual(bytes: &[u8]) -> bool
+    ensures { result ≡ spec.is_unusual bytes.now }
+{
+    let behind_method = &bytes[place_of_end(bytes)..];
+    match (bytes.first(), behind_method.get(1)) {
+        (Some(b'\r' | b'\n'), _) => true,
+        (_, Some(byte)) => *byte != b'/',
+        _ => false,
+    }
+}
+
+/// Whether these bytes begin like a request that takes long: a listing, of all or of an application, a peer's batch, or a body that isn't short; or like one
+/// of which that isn't known. It only tells who takes the turn: a wrong answer costs time alone.
 pub(crate) fn is_long(bytes: &[u8]) -> bool
     ensures { result ≡ spec.is_long bytes.now }
 {
     lists(bytes, LISTING)
         || lists(bytes, LISTING_2)
         || bytes.starts_with(BATCH)
+        || bytes.starts_with(BATCH_2)
         || has_long_body(bytes)
+        || is_front(bytes)
+        || is_unusual(bytes)
 }

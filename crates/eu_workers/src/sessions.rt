@@ -22,8 +22,11 @@ use std::io::{Read, Write};
 use std::mem;
 use std::sync::Wait;
 
-/// How many instances a listing has at most that a loop writes itself: to call another thread would take longer. Each may have 1 MiB, so it isn't more.
+/// How many instances a listing has at most that a loop writes itself: to call another thread would take longer.
 const FEW: usize = 8;
+
+/// How many bytes each of them has at most: so a loop writes no more than it sends at once, some 64 KiB.
+const SHORT: usize = 8_192;
 
 /// What a worker keeps from visit to visit, so that a connection that waits holds no memory for what is read of it.
 #[derive(Drop)]
@@ -170,30 +173,26 @@ fn send<S: Write>(visit: &mut Visit<S, Talk>) -> Option<Left>
     }
 }
 
-/// How many instances are listed now by a request that begins so. None where it lists nothing, or where that isn't known without more work, as of a name that
-/// is percent-encoded.
-fn number_listed<K: Label, R: Wait>(
-    alloc: Global,
-    seat: &Seat<'_, K, R>,
-    bytes: &[u8],
-) -> Option<usize> {
+/// Whether a request that begins so lists few instances now, each of them short. None where it lists nothing, or where that isn't known without more work,
+/// as of a name that is percent-encoded.
+fn is_brief<K: Label, R: Wait>(alloc: Global, seat: &Seat<'_, K, R>, bytes: &[u8]) -> Option<bool> {
     let name = str::from_utf8(listed(bytes)?).ok()?;
     if name.is_empty() {
-        return seat.shared.number_of(seat.rt, None);
+        return Some(seat.shared.is_brief(seat.rt, None, FEW, SHORT));
     }
     if name.contains('%') {
         return None;
     }
     let app = App::read(alloc, name).ok()?;
-    seat.shared.number_of(seat.rt, Some(&app))
+    Some(seat.shared.is_brief(seat.rt, Some(&app), FEW, SHORT))
 }
 
-/// Whether a request that begins so is to be left to others: it takes long, and isn't a listing of few instances. It only tells who takes the turn: a wrong
-/// answer costs time alone.
+/// Whether a request that begins so is to be left to others: it takes long, and isn't a listing of few and short instances. It only tells who takes the turn:
+/// a wrong answer costs time alone.
 fn is_left<K: Label, R: Wait>(alloc: Global, seat: &Seat<'_, K, R>, bytes: &[u8]) -> bool
     ensures { result ≡ true → is_long_request bytes.now ≡ true }
 {
-    is_long(bytes) && number_listed(alloc, seat, bytes).is_none_or(|number| number > FEW)
+    is_long(bytes) && is_brief(alloc, seat, bytes) != Some(true)
 }
 
 /// Looks at the first bytes of the next request, where one that takes long is left to others: reads them, where none are there. Tells how that leaves the

@@ -1,8 +1,8 @@
 //! Bodies that come after their heads, and listings: a worker of a loop leaves the long ones to others.
-ghost use Rattle.std.specs.Prelude.{◌≡◌};
+ghost use Rattle.std.specs.Prelude.{◌≡◌, ◌≤◌, length};
 ghost use Rattle.eu_shared.specs.Shares.{HasNames, HasParts};
 
-use crate::tests::servers::{clock, registers};
+use crate::tests::servers::clock;
 use crate::tests::visits::{Sides, visit};
 use eu_base::Fault;
 use eu_fixtures::settings;
@@ -10,7 +10,7 @@ use eu_hash::HashKey;
 use eu_http::Policy;
 use eu_routes::Routes;
 use eu_session::Talk;
-use eu_shared::{Blanks, Label, PARTS, Pass, Shared};
+use eu_shared::{Blanks, Label, PARTS, Shared};
 use eu_workers::{Gate, Go, Incoming, Left, Point, Site, Visit, run_sessions};
 use std::alloc::Global;
 use std::io::{self, ErrorKind, Read};
@@ -28,48 +28,60 @@ impl Gate for Open {
     }
 }
 
-/// What is read of a peer: a head, and then as many bytes of a body as there is room for. Then it waits.
-#[derive(Drop)]
-struct Parts {
-    head: &'static [u8],
+/// What a peer sends: a head, the letter `a` so many times, and a tail.
+#[derive(Drop, Clone, Copy)]
+struct Parts<'t> {
+    head: &'t [u8],
     body: usize,
+    tail: &'t [u8],
 }
 
-impl Read for Parts {
+/// Takes as many bytes of the front as there is room for.
+fn take(from: &mut &[u8], buffer: &mut [u8]) -> usize
+    ensures { result ≤ length buffer.new }
+{
+    let count = from.len().min(buffer.len());
+    buffer[..count].copy_from_slice(&from[..count]);
+    *from = &from[count..];
+    count
+}
+
+/// What is read of it, each part for itself. Then it waits.
+impl<'t> Read for Parts<'t> {
     fn read(&mut self, buffer: &mut [u8]) -> io::Result<usize> {
         if !self.head.is_empty() {
-            let count = self.head.len().min(buffer.len());
-            buffer[..count].copy_from_slice(&self.head[..count]);
-            self.head = &self.head[count..];
-            return Ok(count);
+            return Ok(take(&mut self.head, buffer));
         }
         let count = self.body.min(buffer.len());
-        if count == 0 {
+        if count > 0 {
+            buffer[..count].fill(b'a');
+            self.body = self.body.saturating_sub(count);
+            return Ok(count);
+        }
+        if self.tail.is_empty() {
             return Err(io::Error::from(ErrorKind::WouldBlock));
         }
-        buffer[..count].fill(b'a');
-        self.body = self.body.saturating_sub(count);
-        Ok(count)
+        Ok(take(&mut self.tail, buffer))
     }
 }
 
 /// A connection that is visited again as long as it is left to others, or goes on: by those then.
 #[derive(Drop)]
-struct Line {
-    connection: Option<Visit<Sides<Parts, Vec<u8>>, Talk>>,
+struct Line<'t> {
+    connection: Option<Visit<Sides<Parts<'t>, Vec<u8>>, Talk>>,
     left_to_others: u32,
     answer: &'static [u8],
     is_answered: bool,
 }
 
-impl Incoming for Line {
-    type Socket = Sides<Parts, Vec<u8>>;
+impl<'t> Incoming for Line<'t> {
+    type Socket = Sides<Parts<'t>, Vec<u8>>;
 
-    fn next(&mut self) -> Option<Visit<Sides<Parts, Vec<u8>>, Talk>> {
+    fn next(&mut self) -> Option<Visit<Sides<Parts<'t>, Vec<u8>>, Talk>> {
         self.connection.take()
     }
 
-    fn take_back(&mut self, visit: Visit<Sides<Parts, Vec<u8>>, Talk>, left: Left) {
+    fn take_back(&mut self, visit: Visit<Sides<Parts<'t>, Vec<u8>>, Talk>, left: Left) {
         let mut visit = visit;
         match left {
             Left::Long => {
@@ -90,15 +102,14 @@ impl Incoming for Line {
 /// What is answered where a body is no JSON.
 const REFUSED: &[u8] = b"HTTP/1.1 400 Bad Request\r\n";
 
-/// How often a connection is left to others, where its request has this head and a body of so many bytes, which is no JSON. None where its answer doesn't begin so.
+/// How often a connection is left to others that sends this. None where its answer doesn't begin so.
 fn times_left<K: Label, R: Wait>(
     site: &Site<'_, K, R, Open>,
-    head: &'static [u8],
-    body: usize,
+    sent: Parts<'_>,
     answer: &'static [u8],
 ) -> Result<Option<u32>, Fault> {
     let sides = Sides {
-        reader: Parts { head, body },
+        reader: sent,
         writer: Vec::new(site.alloc),
     };
     let mut visit = visit(site.alloc, sides, 8)?;
@@ -121,78 +132,179 @@ fn times_left<K: Label, R: Wait>(
 
 /// A body that fills a read is read to its end where that is all of it. One that has a byte more is left to others, once.
 fn leaves<K: Label, R: Wait>(site: &Site<'_, K, R, Open>) -> Result<[Option<u32>; 3], Fault> {
+    let full = Parts {
+        head: b"POST /eureka/apps/A HTTP/1.1\r\nHost: x\r\nContent-Length: 4096\r\n\r\n",
+        body: 4_096,
+        tail: b"",
+    };
+    let longer = Parts {
+        head: b"POST /eureka/apps/A HTTP/1.1\r\nHost: x\r\nContent-Length: 4097\r\n\r\n",
+        body: 4_097,
+        tail: b"",
+    };
+    let long = Parts {
+        head: b"POST /eureka/apps/A HTTP/1.1\r\nHost: x\r\nContent-Length: 40960\r\n\r\n",
+        body: 40_960,
+        tail: b"",
+    };
     Ok([
-        times_left(
-            site,
-            b"POST /eureka/apps/A HTTP/1.1\r\nHost: x\r\nContent-Length: 4096\r\n\r\n",
-            4_096,
-            REFUSED,
-        )?,
-        times_left(
-            site,
-            b"POST /eureka/apps/A HTTP/1.1\r\nHost: x\r\nContent-Length: 4097\r\n\r\n",
-            4_097,
-            REFUSED,
-        )?,
-        times_left(
-            site,
-            b"POST /eureka/apps/A HTTP/1.1\r\nHost: x\r\nContent-Length: 40960\r\n\r\n",
-            40_960,
-            REFUSED,
-        )?,
+        times_left(site, full, REFUSED)?,
+        times_left(site, longer, REFUSED)?,
+        times_left(site, long, REFUSED)?,
     ])
 }
 
-/// What a listing is answered.
+/// What a registration is answered, and a listing.
+const REGISTERED: &[u8] = b"HTTP/1.1 204 No Content\r\n";
+
 const LISTED: &[u8] = b"HTTP/1.1 200 OK\r\nContent-Type: application/json\r\n";
 
-/// Registers that many more instances of application A, which have an id of one letter.
-fn register<K: Label, R: Wait>(site: &Site<'_, K, R, Open>, pass: &mut Pass<K>, ids: &str) -> bool {
+const MISSING: &[u8] = b"HTTP/1.1 404 Not Found\r\n";
+
+/// What stands around the id of a registration at application A.
+const BEFORE_ID: &str =
+    "POST /eureka/apps/A HTTP/1.1\r\nHost: x\r\nContent-Length: 149\r\n\r\n{\"instance\":{\"instanceId\":\"";
+
+const BEHIND_ID: &str =
+    "\",\"hostName\":\"h\",\"app\":\"A\",\"ipAddr\":\"10.0.0.1\",\"status\":\"UP\",\"lastDirtyTimestamp\":\"5\",\"dataCenterInfo\":{\"name\":\"MyOwn\"}}}";
+
+/// A registration at application C of which more than 8,192 bytes are kept.
+const LONG_ONE: Parts<'static> = Parts {
+    head: b"POST /eureka/apps/C HTTP/1.1\r\nHost: x\r\nContent-Length: 9156\r\n\r\n{\"instance\":{\"instanceId\":\"z\",\"hostName\":\"h\",\"app\":\"C\",\"ipAddr\":\"10.0.0.1\",\"status\":\"UP\",\"lastDirtyTimestamp\":\"5\",\"dataCenterInfo\":{\"name\":\"MyOwn\"},\"x\":\"",
+    body: 9_000,
+    tail: b"\"}}",
+};
+
+/// Whether a client registers that many more instances of application A, which have an id of one letter.
+fn register<K: Label, R: Wait>(site: &Site<'_, K, R, Open>, ids: &str) -> Result<bool, Fault> {
     let mut rest = ids;
     for _id in 0..ids.len() {
         let Some((id, others)) = rest.split_at_checked(1) else {
-            return false;
+            return Ok(false);
         };
-        if !registers(site.rt, site.shared, site.alloc, pass, id) {
-            return false;
+        let mut text = String::from_str(site.alloc, BEFORE_ID)?;
+        text.push_str(id)?;
+        text.push_str(BEHIND_ID)?;
+        let answer = times_left(site, whole(text.as_bytes()), REGISTERED);
+        drop(text);
+        if answer? != Some(0) {
+            return Ok(false);
         }
         rest = others;
     }
-    true
+    Ok(true)
 }
 
-/// The same of listings: of an application of eight instances, of all of these, and of none whose name is encoded; and then of those two once there are nine.
+/// A request for a listing of application A, and of all.
+const OF_A: &[u8] = b"GET /eureka/apps/a?x HTTP/1.1\r\nHost: x\r\n\r\n";
+
+const OF_ALL: &[u8] = b"GET /eureka/v2/apps HTTP/1.1\r\nHost: x\r\n\r\n";
+
+/// A request that has no more than this.
+fn whole(request: &[u8]) -> Parts<'_> {
+    Parts {
+        head: request,
+        body: 0,
+        tail: b"",
+    }
+}
+
+/// A request, in the two pieces that are read, what its answer begins by, and how often it is left to others.
+type Case = (&'static str, &'static str, &'static [u8], u32);
+
+/// Where nine instances of A are held, and one of C that is long.
+const CASES: [Case; 8] = [
+    (
+        "PUT /eureka/apps/A/a HTTP/1.1\r\n",
+        "Host: x\r\n\r\n",
+        b"HTTP/1.1 200 OK\r\n",
+        0,
+    ),
+    // An application whose name is encoded, one whose name isn't, and one whose only instance is long.
+    (
+        "GET /eureka/apps/%62/ HTTP/1.1\r\n",
+        "Host: x\r\n\r\n",
+        MISSING,
+        1,
+    ),
+    (
+        "GET /eureka/apps/b/ HTTP/1.1\r\n",
+        "Host: x\r\n\r\n",
+        MISSING,
+        0,
+    ),
+    (
+        "GET /eureka/apps/c HTTP/1.1\r\n",
+        "Host: x\r\n\r\n",
+        LISTED,
+        1,
+    ),
+    // All, behind an empty line, by a whole address, and where no more than a front of the path is read at first.
+    (
+        "\r\nGET /eureka/apps HTTP/1.1\r\n",
+        "Host: x\r\n\r\n",
+        LISTED,
+        1,
+    ),
+    (
+        "GET http://x/eureka/apps HTTP/1.1\r\n",
+        "Host: x\r\n\r\n",
+        LISTED,
+        1,
+    ),
+    (
+        "GET /eureka/a",
+        "pps HTTP/1.1\r\nHost: x\r\n\r\n",
+        LISTED,
+        1,
+    ),
+    // A batch that is no JSON.
+    (
+        "POST /eureka/v2/peerreplication/batch HTTP/1.1\r\n",
+        "Host: x\r\nContent-Length: 1\r\n\r\na",
+        REFUSED,
+        1,
+    ),
+];
+
+/// The number of the first case that goes otherwise, once an instance of C is registered that is long.
+fn first_otherwise<K: Label, R: Wait>(site: &Site<'_, K, R, Open>) -> Result<Option<usize>, Fault> {
+    if times_left(site, LONG_ONE, REGISTERED)? != Some(1) {
+        return Err(Fault::BadValue);
+    }
+    for (number, (head, tail, answer, times)) in CASES.iter().enumerate() {
+        let sent = Parts {
+            head: head.as_bytes(),
+            body: 0,
+            tail: tail.as_bytes(),
+        };
+        if times_left(site, sent, answer)? != Some(*times) {
+            return Ok(Some(number));
+        }
+    }
+    Ok(None)
+}
+
+/// The same of listings of the application and of all: where eight short instances are held, and where there are nine.
 fn leaves_listings<K: Label, R: Wait>(
     site: &Site<'_, K, R, Open>,
-    pass: &mut Pass<K>,
-) -> Result<[Option<u32>; 6], Fault> {
-    let of_a = b"GET /eureka/apps/a?x HTTP/1.1\r\nHost: x\r\n\r\n";
-    let of_all = b"GET /eureka/v2/apps HTTP/1.1\r\nHost: x\r\n\r\n";
-    let of_b = b"GET /eureka/apps/%62/ HTTP/1.1\r\nHost: x\r\n\r\n";
-    if !register(site, pass, "abcdefgh") {
-        return Err(Fault::OutOfMemory);
+) -> Result<[Option<u32>; 4], Fault> {
+    if !register(site, "abcdefgh")? {
+        return Err(Fault::BadValue);
     }
     let few = [
-        times_left(site, of_a, 0, LISTED)?,
-        times_left(site, of_all, 0, LISTED)?,
-        times_left(site, of_b, 0, b"HTTP/1.1 404 Not Found\r\n")?,
+        times_left(site, whole(OF_A), LISTED)?,
+        times_left(site, whole(OF_ALL), LISTED)?,
     ];
-    if !register(site, pass, "i") {
-        return Err(Fault::OutOfMemory);
+    if !register(site, "i")? {
+        return Err(Fault::BadValue);
     }
-    let [a, all, none] = few;
+    let [of_a, of_all] = few;
     Ok([
-        a,
-        all,
-        none,
-        times_left(site, of_a, 0, LISTED)?,
-        times_left(site, of_all, 0, LISTED)?,
-        times_left(
-            site,
-            b"GET /eureka/apps/b/ HTTP/1.1\r\nHost: x\r\n\r\n",
-            0,
-            b"HTTP/1.1 404 Not Found\r\n",
-        )?,
+        of_a,
+        of_all,
+        times_left(site, whole(OF_A), LISTED)?,
+        times_left(site, whole(OF_ALL), LISTED)?,
     ])
 }
 
@@ -200,17 +312,15 @@ fn leaves_listings<K: Label, R: Wait>(
 #[derive(Clone, Copy, Debug, PartialEq, Eq)]
 struct LeftToOthers {
     bodies: [Option<u32>; 3],
-    listings: [Option<u32>; 6],
+    listings: [Option<u32>; 4],
+    first_otherwise: Option<usize>,
 }
 
 fn all_left<K: Label, R: Wait>(site: &Site<'_, K, R, Open>) -> Result<LeftToOthers, Fault> {
-    let bodies = leaves(site)?;
-    let mut pass = site.shared.pass(site.rt, site.alloc)?;
-    let listings = leaves_listings(site, &mut pass);
-    drop(pass);
     Ok(LeftToOthers {
-        bodies,
-        listings: listings?,
+        bodies: leaves(site)?,
+        listings: leaves_listings(site)?,
+        first_otherwise: first_otherwise(site)?,
     })
 }
 
@@ -253,6 +363,7 @@ fn left_to_others<R: Wait>(rt: &R, alloc: Global) -> Result<LeftToOthers, Fault>
 fn long_bodies_and_listings_are_left_to_others(rt: HostRuntime) -> Result<(), Fail> {
     let left = left_to_others(&rt, rt.alloc())?;
     assert!(rt; left.bodies == [Some(0), Some(1), Some(1)]);
-    assert!(rt; left.listings == [Some(0), Some(0), Some(1), Some(1), Some(1), Some(0)]);
+    assert!(rt; left.listings == [Some(0), Some(0), Some(1), Some(1)]);
+    assert_eq!(rt; left.first_otherwise, None);
     Ok(())
 }

@@ -159,7 +159,11 @@ fn a_sweep_finds_those_that_are_late(rt: HostRuntime) -> Result<(), Fail> {
     assert_eq!(rt; hall.late(2, 9, true), None);
     assert_eq!(rt; hall.late(0, 50, false), Some(0));
     assert_eq!(rt; hall.late(1, 50, false), Some(2));
+    assert!(rt; !hall.is_late(0, 49));
+    assert!(rt; hall.is_late(0, 50));
+    assert!(rt; !hall.is_late(3, 1_000));
     assert!(rt; hall.call(0).is_some());
+    assert!(rt; !hall.is_late(0, 50));
     assert_eq!(rt; hall.late(0, 50, false), Some(2));
     Ok(())
 }

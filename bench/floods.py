@@ -12,6 +12,7 @@ import json
 import multiprocessing
 import os
 import resource
+import selectors
 import socket
 import subprocess
 import sys
@@ -142,6 +143,45 @@ def asks_for(port, count, wanted):
     asks(port, [registration("LARGE", f"l{number}", LARGE | {"lastDirtyTimestamp": "9"}) for number in range(count)] + [wanted] * 80)
 
 
+def crowds(port, count=400):
+    """Registers an instance of 1 MiB, and asks for it again and again by so many connections at once."""
+    stream = connect(port)
+    stream.sendall(registration("LARGE", "l0", LARGE))
+    read_answer(stream)
+    wanted = request("GET", "apps/LARGE/l0")
+    poll, left = selectors.DefaultSelector(), {}
+
+    def begin():
+        stream = connect(port)
+        stream.sendall(wanted)
+        stream.setblocking(False)
+        poll.register(stream, selectors.EVENT_READ)
+        left[stream] = 0
+
+    def take(stream):
+        piece = stream.recv(1 << 20)
+        if not piece:
+            raise ConnectionError
+        if left[stream] == 0:
+            head, _, piece = piece.partition(b"\r\n\r\n")
+            left[stream] = int(head.lower().split(b"content-length:")[1].split(b"\r\n")[0])
+        left[stream] -= len(piece)
+        if left[stream] == 0:
+            stream.sendall(wanted)
+
+    for _ in range(count):
+        begin()
+    while True:
+        for key, _ in poll.select():
+            try:
+                take(key.fileobj)
+            except OSError:
+                poll.unregister(key.fileobj)
+                del left[key.fileobj]
+                key.fileobj.close()
+                begin()
+
+
 def cancel_all(port, count):
     """Takes these away again."""
     stream = connect(port)
@@ -162,6 +202,7 @@ KINDS = {
     "nested": lambda port: asks(port, [request("POST", "apps/A", '{"instance":{"metadata":' + nested() + "}}")] * 90),
     "keys": lambda port: asks(port, [registration("LONG", "long", {"metadata": long_keys()})] * 90),
     "one": lambda port: asks_for(port, 1, request("GET", "apps/LARGE/l0")),
+    "crowds": crowds,
     "eight": lambda port: asks_for(port, 8, request("GET", "apps/LARGE")),
     "conflicts": lambda port: asks_for(port, 1, conflicts()),
     "batches": lambda port: asks(port, [batch(250 * number) for number in range(40)]),

@@ -164,7 +164,7 @@ def threads():
     parts = [text(120, 24, "threads", "bold plain"), text(440, 24, "locks", "bold plain"), text(740, 24, "what lies behind them", "bold plain")]
     workers = [
         (40, "the door", ["accepts, and deals to the fewest"]),
-        (150, "loops", ["1 to 16, each polls its own"]),
+        (150, "loops", ["1 to 16, and one of operators"]),
         (260, "the pool", ["2, for long requests"]),
         (370, "timers", ["evictor, bucket, threshold"]),
     ]

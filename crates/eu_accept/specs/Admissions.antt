@@ -1,5 +1,5 @@
 -- How the connections of a server are counted
-use Rattle.std.specs.Prelude.{ℕ, ◌+◌, ◌-◌, ◌^◌, nat_lt, if◌then◌else◌, min}
+use Rattle.std.specs.Prelude.{ℕ, ◌+◌, ◌-◌, ◌^◌, ◌&&◌, Bool, not, nat_lt, if◌then◌else◌, min}
 use Rattle.eu_accept.specs.declared.admission.Admission.{Admission}
 use Rattle.eu_accept.specs.declared.admission.Entry.{Entry}
 use Rattle.eu_accept.specs.declared.admission.Entry.TheVariants.{Admitted, Refused, Dropped}
@@ -18,6 +18,13 @@ abbrev pub let_in : Entry → Admission → Admission
 let_in Admitted a = record a { left = a.left - 1; came = one_more a.came; here = one_more a.here }
 let_in Refused a = record a { refused = one_more a.refused; here = one_more a.here }
 let_in Dropped a = record a { refused = one_more a.refused }
+
+-- one of an operator is let in where fewer than 64 of them are open, unless no more are accepted; it counts as nothing else
+abbrev pub takes_operator : Admission → Bool
+takes_operator a = not a.is_closed && nat_lt a.operators 64
+
+abbrev pub let_in_operator : Admission → Admission
+let_in_operator a = if takes_operator a then record a { operators = one_more a.operators } else a
 
 -- one that was let in has left
 abbrev pub let_out : Admission → Admission

@@ -1,6 +1,6 @@
 //! How many connections came, and how many are open.
-ghost use Rattle.std.specs.Prelude.{◌≡◌, ◌<◌, ◌↔◌, ◌||◌, false, true};
-ghost use Rattle.eu_accept.specs.Admissions.{entry_of, let_in, let_out, loop_ended};
+ghost use Rattle.std.specs.Prelude.{◌≡◌, ◌<◌, ◌-◌, ◌↔◌, ◌||◌, false, true};
+ghost use Rattle.eu_accept.specs.Admissions.{entry_of, let_in, let_in_operator, let_out, loop_ended, takes_operator};
 
 /// How many are let in beyond the most, only to be told that there is no room for them.
 pub const SPARE: u64 = 64;
@@ -25,8 +25,10 @@ pub struct Admission {
     pub came: u64,
     /// How many were refused or dropped, because as many were open as may be.
     pub refused: u64,
-    /// How many are open, those that are refused included.
+    /// How many are open, those that are refused included, and without those of operators.
     pub here: u64,
+    /// How many of operators are open.
+    pub operators: u64,
     /// How many loops have not ended.
     pub loops: u32,
     /// No more are accepted.
@@ -40,13 +42,14 @@ pub struct Admission {
 impl Admission {
     /// That of a server which takes so many connections and has so many loops.
     pub fn new(sessions: u64, loops: u32) -> Admission
-        ensures { result ≡ record { left = sessions; came = 0; refused = 0; here = 0; loops = loops; is_closed = false; is_stopping = false; has_failed = false } }
+        ensures { result ≡ record { left = sessions; came = 0; refused = 0; here = 0; operators = 0; loops = loops; is_closed = false; is_stopping = false; has_failed = false } }
     {
         Admission {
             left: sessions,
             came: 0,
             refused: 0,
             here: 0,
+            operators: 0,
             loops,
             is_closed: false,
             is_stopping: false,
@@ -96,6 +99,26 @@ impl Admission {
             Entry::Dropped => self.refused = self.refused.saturating_add(1),
         }
         entry
+    }
+
+    /// Counts one of an operator that has come, and tells whether it is let in: where fewer than `SPARE` of them are open, unless no more are accepted. However many
+    /// clients there are doesn't matter, and it counts as none of theirs.
+    pub fn admit_operator(&mut self) -> bool
+        ensures entry { result ≡ takes_operator self.old }
+        ensures counted { self.new ≡ let_in_operator self.old }
+    {
+        let is_let_in = !self.is_closed && self.operators < SPARE;
+        if is_let_in {
+            self.operators = self.operators.saturating_add(1);
+        }
+        is_let_in
+    }
+
+    /// Counts one of an operator out that was let in.
+    pub fn let_out_operator(&mut self)
+        ensures { self.new ≡ record self.old { operators = self.old.operators - 1 } }
+    {
+        self.operators = self.operators.saturating_sub(1);
     }
 
     /// Counts one out that was let in, admitted or refused.

@@ -5,7 +5,7 @@ ghost use Rattle.eu_accept.specs.Turns.{IsFewest};
 
 use crate::admission::Entry;
 use crate::hub::Hub;
-use crate::mail::{Mail, Mailbox};
+use crate::mail::Mail;
 use mio::net::{TcpListener, TcpStream};
 use mio::unix::SourceFd;
 use mio::{Events, Interest, Poll, Token};
@@ -38,11 +38,15 @@ const LISTENER: Token = Token(0);
 /// The token of what ends the server.
 const INPUT: Token = Token(1);
 
-/// Accepts the connections of a server, and deals each to the loop with the fewest sessions.
+/// The token of the listener of operators.
+const OPERATORS: Token = Token(2);
+
+/// Accepts the connections of a server, and deals each to the loop with the fewest sessions; those of operators to their own.
 #[derive(Drop)]
 pub struct Door<'a, R: Wait + Clock> {
     hub: &'a Hub<'a, R>,
     listener: TcpListener,
+    operators: Option<TcpListener>,
     poll: Poll,
     events: Events,
     sessions: Vec<u32>,
@@ -79,6 +83,24 @@ fn may_pass(number: Option<i32>) -> bool
     }
 }
 
+/// Accepts one connection.
+fn accept(listener: &TcpListener) -> Accepted {
+    match listener.accept() {
+        Ok((stream, _)) => Accepted::One(stream),
+        Err(error) => failed(&error),
+    }
+}
+
+/// A listener that waits no more from now on, and is polled under that token.
+fn polled(poll: &Poll, listener: &net::TcpListener, token: Token) -> io::Result<TcpListener> {
+    let listener = listener.try_clone()?;
+    listener.set_nonblocking(true)?;
+    let mut listener = TcpListener::from_std(listener);
+    poll.registry()
+        .register(&mut listener, token, Interest::READABLE)?;
+    Ok(listener)
+}
+
 /// What an accept came to that failed so.
 fn failed(error: &io::Error) -> Accepted
     ensures { result ≡ spec.accepted_by error.now }
@@ -104,20 +126,22 @@ fn fewest(sessions: &[u32]) -> usize
 }
 
 impl<'a, R: Wait + Clock> Door<'a, R> {
-    /// The door at a listener, which waits no more from now on. Where an input is named, the server stops at its end: a pipe or a socket, by its
-    /// descriptor, that is open as long as the door is. An error is the system's or the clock's; one comes also where the input can't be polled, as a file.
+    /// The door at a listener, and at that of operators, where there is one: they wait no more from now on. Where an input is named, the server stops at its end: a
+    /// pipe or a socket, by its descriptor, that is open as long as the door is. An error is the system's or the clock's; one comes also where the input can't be
+    /// polled, as a file.
     pub fn new(
         hub: &'a Hub<'a, R>,
         net: &impl Net,
         listener: &net::TcpListener,
+        operators: Option<&net::TcpListener>,
         input: Option<RawFd>,
     ) -> io::Result<Door<'a, R>> {
-        let listener = listener.try_clone()?;
-        listener.set_nonblocking(true)?;
-        let mut listener = TcpListener::from_std(listener);
         let poll = Poll::new(net)?;
-        poll.registry()
-            .register(&mut listener, LISTENER, Interest::READABLE)?;
+        let listener = polled(&poll, listener, LISTENER)?;
+        let operators = match operators {
+            Some(operators) => Some(polled(&poll, operators, OPERATORS)?),
+            None => None,
+        };
         if let Some(input) = input {
             poll.registry()
                 .register(&mut SourceFd(&input), INPUT, Interest::READABLE)?;
@@ -125,9 +149,10 @@ impl<'a, R: Wait + Clock> Door<'a, R> {
         Ok(Door {
             hub,
             listener,
+            operators,
             poll,
             events: Events::with_capacity(hub.alloc, 16)?,
-            sessions: Vec::with_capacity(hub.alloc, hub.boxes.len())?,
+            sessions: Vec::with_capacity(hub.alloc, hub.client_loops)?,
             has_input: input.is_some(),
             is_behind: false,
             began: Instant::now(hub.rt)?,
@@ -136,21 +161,13 @@ impl<'a, R: Wait + Clock> Door<'a, R> {
 }
 
 impl<'a, R: Wait + Clock + Eprint> Door<'a, R> {
-    /// Accepts one connection.
-    fn accept(&self) -> Accepted {
-        match self.listener.accept() {
-            Ok((stream, _)) => Accepted::One(stream),
-            Err(error) => failed(&error),
-        }
-    }
-
-    /// The mailbox of the loop that has the fewest sessions.
-    fn least_busy(&mut self) -> Option<&'a Mailbox> {
+    /// The number of the loop of clients that has the fewest sessions.
+    fn least_busy(&mut self) -> usize {
         self.sessions.clear();
-        for mailbox in &self.hub.boxes {
+        for mailbox in self.hub.boxes.iter().take(self.hub.client_loops) {
             let _ = self.sessions.push(mailbox.sessions(self.hub.rt));
         }
-        self.hub.boxes.get(fewest(self.sessions.as_slice()))
+        fewest(self.sessions.as_slice())
     }
 
     /// Deals a connection to the loop that has the fewest, which serves it or tells it that there is no room; or drops it.
@@ -161,13 +178,27 @@ impl<'a, R: Wait + Clock + Eprint> Door<'a, R> {
             Entry::Refused => Mail::Refused(stream),
             Entry::Dropped => return,
         };
-        let Some(mailbox) = self.least_busy() else {
+        let number = self.least_busy();
+        self.hand_in(number, mail);
+    }
+
+    /// Hands a connection that was let in to the loop of that number. One for which that has no room is closed.
+    fn hand_in(&self, number: usize, mail: Mail) {
+        let Some(mailbox) = self.hub.boxes.get(number) else {
             return;
         };
         mailbox.begin_session(self.hub.rt);
         if mailbox.put(self.hub.rt, mail).is_err() {
             mailbox.end_session(self.hub.rt);
-            self.hub.let_out();
+            self.hub.let_out(number);
+        }
+    }
+
+    /// Hands a connection of an operator to their loop, unless too many are open, or no more are accepted: then it is closed.
+    fn deal_operator(&self, stream: TcpStream) {
+        let _ = stream.set_nodelay(true);
+        if self.hub.admit_operator() {
+            self.hand_in(self.hub.client_loops, Mail::New(stream));
         }
     }
 
@@ -200,13 +231,28 @@ impl<'a, R: Wait + Clock + Eprint> Door<'a, R> {
             if !self.is_open() {
                 return Ok(false);
             }
-            match self.accept() {
+            match accept(&self.listener) {
                 Accepted::One(stream) => self.deal(stream),
                 Accepted::Later => return Ok(false),
                 Accepted::Failed => return Err(()),
             }
         }
         Ok(true)
+    }
+
+    /// Accepts the connections of operators that wait, at most `MOST_ACCEPTS`. An error where accepting them has failed for good: clients are served on.
+    fn accept_operators(&self) -> Result<(), ()> {
+        let Some(operators) = &self.operators else {
+            return Ok(());
+        };
+        for _accept in 0..MOST_ACCEPTS {
+            match accept(operators) {
+                Accepted::One(stream) => self.deal_operator(stream),
+                Accepted::Later => return Ok(()),
+                Accepted::Failed => return Err(()),
+            }
+        }
+        Ok(())
     }
 
     /// Waits for connections, and accepts them.
@@ -221,6 +267,9 @@ impl<'a, R: Wait + Clock + Eprint> Door<'a, R> {
         let accepted = self.accept_all();
         self.hub.tell_refusals(self.now());
         self.is_behind = accepted?;
+        if self.accept_operators().is_err() {
+            self.operators = None;
+        }
         Ok(())
     }
 

@@ -1,7 +1,7 @@
 //! What the threads of a server share beside the book.
-ghost use Rattle.std.specs.Prelude.{◌≡◌, IfOk, vec_len};
+ghost use Rattle.std.specs.Prelude.{◌≡◌, IfOk, nat_le, vec_len};
 ghost use Rattle.eu_accept.specs.Limits.{server_limits};
-ghost use Rattle.eu_accept.specs.Shares.{hall_of, places_of, queue_of, share_of};
+ghost use Rattle.eu_accept.specs.Shares.{hall_of, limits_of, places_of, queue_of, share_of};
 
 use crate::admission::{Admission, Entry, SPARE};
 use crate::loops::WAKER;
@@ -10,7 +10,7 @@ use crate::messages::{Message, Told};
 use crate::pace::Pace;
 use crate::pool::Pool;
 use crate::queue::Queue;
-use eu_gate::{Gate, Go, News, Periods, Point};
+use eu_gate::{Gate, Go, MOST_WORKERS, News, OTHER_WORKERS, Periods, Point, Responded, Tally};
 use eu_hall::{Hall, PATIENCE, Patience};
 use mio::{Poll, Waker};
 use std::alloc::{AllocError, Global};
@@ -30,6 +30,8 @@ pub struct Limits {
     pub patience: Patience,
     /// The most bytes that are read and dropped behind a session.
     pub linger_bytes: usize,
+    /// For how long nothing is listed at first, in milliseconds.
+    pub warm_up_ms: u32,
 }
 
 impl Limits {
@@ -63,6 +65,7 @@ impl Limits {
             bytes: 268_435_456,
             patience: PATIENCE,
             linger_bytes: 65_536,
+            warm_up_ms: 0,
         }
     }
 }
@@ -76,8 +79,10 @@ pub struct Hub<'a, R: Wait + Clock> {
     pub alloc: Global,
     /// How many connections there are, and for how long.
     pub limits: Limits,
-    /// The mailbox of each loop.
+    /// The mailbox of each loop: those of clients, and behind them that of operators, where there is one.
     pub boxes: Vec<Mailbox>,
+    /// How many loops serve clients.
+    pub client_loops: usize,
     /// Connections whose next request takes long.
     pub pool: Pool,
     /// What is counted.
@@ -86,20 +91,36 @@ pub struct Hub<'a, R: Wait + Clock> {
     pub pace: Pace<'a, R>,
     /// What was told of messages, where they are told.
     pub told: Option<Mutex<Told>>,
+    /// How many leases were evicted.
+    pub evicted: Mutex<u64>,
+    /// How many responses clients were given, by each worker of sessions, at its number; at 0 those that loops gave without a turn.
+    pub responses: Vec<Mutex<Tally>>,
+}
+
+/// A count of responses for each worker of sessions, and one besides. `AllocError` where there is no memory for them.
+fn tallies(alloc: Global) -> Result<Vec<Mutex<Tally>>, AllocError> {
+    let workers = MOST_WORKERS + OTHER_WORKERS;
+    let mut tallies = Vec::new(alloc);
+    for _ in 0..=workers {
+        tallies.push(Mutex::new(Tally::none()))?;
+    }
+    Ok(tallies)
 }
 
 impl<'a, R: Wait + Clock + Net> Hub<'a, R> {
-    /// What the threads of a server share that begins now, with as many loops as the admission says; and what each loop polls with. Where it is known
-    /// what was told of messages, they are told from now on. An error is the system's or the clock's; `OutOfMemory` comes where no memory is left.
+    /// What the threads of a server share that begins now, with as many loops as the admission says, so many of which serve clients; and what each loop polls with.
+    /// Where it is known what was told of messages, they are told from now on. An error is the system's or the clock's; `OutOfMemory` comes where no memory is left.
     pub fn open(
         rt: &'a R,
         alloc: Global,
         limits: Limits,
         periods: Periods,
         admission: Admission,
+        client_loops: usize,
         told: Option<Told>,
     ) -> io::Result<(Hub<'a, R>, Vec<Poll>)>
-        ensures { IfOk result (λ opened. vec_len opened.1 ≡ admission.loops) }
+        ensures polls { IfOk result (λ opened. vec_len opened.1 ≡ admission.loops) }
+        ensures client_loops { IfOk result (λ opened. opened.0.client_loops ≡ client_loops) }
     {
         let loops = admission.loops;
         let mut polls = Vec::with_capacity(alloc, loops as usize)?;
@@ -115,22 +136,78 @@ impl<'a, R: Wait + Clock + Net> Hub<'a, R> {
             alloc,
             limits,
             boxes,
+            client_loops,
             pool: Pool::new(limits.queue(alloc, loops as usize)?),
             admission: Mutex::new(admission),
             pace: Pace::new(rt, periods)?,
             told: told.map(Mutex::new),
+            evicted: Mutex::new(0),
+            responses: tallies(alloc)?,
         };
         Ok((hub, polls))
     }
 }
 
 impl<'a, R: Wait + Clock> Hub<'a, R> {
-    /// The hall of one of its loops. `AllocError` where there is no memory for it.
-    pub(crate) fn hall<G: Drop>(&self) -> Result<Hall<G>, AllocError>
-        ensures { IfOk result (λ hall. hall ≡ hall_of self.now.limits (vec_len self.now.boxes)) }
+    /// The hall of one of its loops, by these limits. `AllocError` where there is no memory for it.
+    pub(crate) fn hall<G: Drop>(&self, limits: &Limits) -> Result<Hall<G>, AllocError>
+        ensures { IfOk result (λ hall. hall ≡ hall_of limits.now (vec_len self.now.boxes)) }
     {
-        let most_bytes = self.limits.share(self.boxes.len());
-        Hall::new(self.alloc, self.limits.places(), most_bytes)
+        let most_bytes = limits.share(self.boxes.len());
+        Hall::new(self.alloc, limits.places(), most_bytes)
+    }
+
+    /// Whether the loop of that number is that of operators.
+    pub(crate) fn is_of_operators(&self, number: usize) -> bool
+        ensures { result ≡ nat_le self.now.client_loops number }
+    {
+        number >= self.client_loops
+    }
+
+    /// The limits of the loop of that number: that of operators has no more connections than would be told at another that there is no room, and since each of them
+    /// has one request, it waits no longer for its first byte than for the others.
+    pub(crate) fn limits_of(&self, number: usize) -> Limits
+        ensures { result ≡ limits_of self.now.client_loops number self.now.limits }
+    {
+        if self.is_of_operators(number) {
+            let patience = Patience {
+                idle: self.limits.patience.request,
+                ..self.limits.patience
+            };
+            return Limits {
+                connections: 0,
+                patience,
+                ..self.limits
+            };
+        }
+        self.limits
+    }
+
+    /// How many leases were evicted.
+    pub(crate) fn evicted(&self) -> u64 {
+        *self.evicted.lock(self.rt)
+    }
+
+    /// Counts leases that were evicted.
+    fn count_evicted(&self, evicted: u64) {
+        let mut count = self.evicted.lock(self.rt);
+        *count = count.saturating_add(evicted);
+    }
+
+    /// Counts a response that a client was given, by the worker of that number.
+    pub(crate) fn count_response(&self, who: usize, told: Responded) {
+        if let Some(tally) = self.responses.get(who) {
+            tally.lock(self.rt).count(told);
+        }
+    }
+
+    /// How many responses clients were given.
+    fn all_responses(&self) -> Tally {
+        let mut all = Tally::none();
+        for tally in &self.responses {
+            all.add(&tally.lock(self.rt));
+        }
+        all
     }
 
     /// What was counted so far.
@@ -169,9 +246,19 @@ impl<'a, R: Wait + Clock> Hub<'a, R> {
         self.admission.lock(self.rt).admit(most)
     }
 
-    /// Counts a connection out.
-    pub(crate) fn let_out(&self) {
-        self.admission.lock(self.rt).let_out();
+    /// Counts a connection of an operator, and tells whether it is let in.
+    pub(crate) fn admit_operator(&self) -> bool {
+        self.admission.lock(self.rt).admit_operator()
+    }
+
+    /// Counts a connection out of the loop of that number.
+    pub(crate) fn let_out(&self, number: usize) {
+        let mut admission = self.admission.lock(self.rt);
+        if self.is_of_operators(number) {
+            admission.let_out_operator();
+        } else {
+            admission.let_out();
+        }
     }
 
     /// Counts a loop out; the last one ends the pool and the timers.
@@ -210,11 +297,20 @@ impl<R: Wait + Clock + Eprint> Gate for Hub<'_, R> {
     }
 
     fn hear(&self, news: News) {
+        self.count_evicted(news.evicted);
         let Some(told) = &self.told else {
             return;
         };
         let change = told.lock(self.rt).change(&news);
         self.tell(change);
         self.tell(Message::of_pass(&news));
+    }
+
+    fn responded(&self, who: u32, told: Responded) {
+        self.count_response(who as usize, told);
+    }
+
+    fn responses(&self) -> Tally {
+        self.all_responses()
     }
 }

@@ -3,12 +3,14 @@ ghost use Rattle.std.specs.Prelude.{◌≡◌, ◌≤◌, ◌+◌, ◌-◌, ◌^
 
 use crate::behind::drop_what_came;
 use crate::calls::{
-    Call, NextStep, asks_still, call_anew, call_of, moment_of_sweep, next_step, visit_of,
+    Call, NextStep, asks_still, call_anew, call_of, has_work, is_warming, moment_of_sweep,
+    next_step, visit_of,
 };
-use crate::hub::Hub;
+use crate::hub::{Hub, Limits};
 use crate::mail::Mail;
 use crate::queue::Job;
-use eu_hall::{Awaited, Guest, Hall, Happened, Left, Phase, Unsent, Visit};
+use eu_gate::Responded;
+use eu_hall::{Awaited, Guest, Hall, Happened, Left, Phase, ServerFacts, Unsent, Visit};
 use eu_session::Talk;
 use eu_stream::write_whole;
 use mio::net::TcpStream;
@@ -44,6 +46,7 @@ type Connection = Box<Guest<TcpStream, Talk>>;
 pub struct Loop<'a, R: Wait + Clock> {
     hub: &'a Hub<'a, R>,
     number: usize,
+    limits: Limits,
     poll: Poll,
     events: Events,
     hall: Hall<Connection>,
@@ -105,13 +108,15 @@ fn interest() -> Interest {
 impl<'a, R: Wait + Clock> Loop<'a, R> {
     /// The loop of that number, which polls so.
     pub fn new(hub: &'a Hub<'a, R>, number: usize, poll: Poll) -> io::Result<Loop<'a, R>> {
-        let most = hub.limits.places();
+        let limits = hub.limits_of(number);
+        let most = limits.places();
         Ok(Loop {
             hub,
             number,
+            limits,
             poll,
             events: Events::with_capacity(hub.alloc, MOST_EVENTS)?,
-            hall: hub.hall()?,
+            hall: hub.hall(&limits)?,
             ready: VecDeque::with_capacity(hub.alloc, most.saturating_add(MOST_EVENTS))?,
             again: Vec::with_capacity(hub.alloc, most)?,
             mail: Vec::with_capacity(hub.alloc, most)?,
@@ -139,7 +144,7 @@ impl<'a, R: Wait + Clock> Loop<'a, R> {
 
     /// Counts a connection out that got no place.
     fn turn_away(&self) {
-        self.hub.let_out();
+        self.hub.let_out(self.number);
         self.end_session();
     }
 
@@ -148,7 +153,7 @@ impl<'a, R: Wait + Clock> Loop<'a, R> {
         if !self.hall.leave(key) {
             return;
         }
-        self.hub.let_out();
+        self.hub.let_out(self.number);
         if phase != Phase::Lingering {
             self.end_session();
         }
@@ -167,7 +172,7 @@ impl<'a, R: Wait + Clock> Loop<'a, R> {
     /// Lets what comes behind a session pass, until the peer closes, the time is up, or enough has come.
     fn linger(&mut self, key: usize, guest: Connection, awaited: Awaited) {
         let mut guest = guest;
-        if drop_what_came(guest.as_mut(), self.hub.limits.linger_bytes) {
+        if drop_what_came(guest.as_mut(), self.limits.linger_bytes) {
             self.park(key, guest, awaited);
         } else {
             drop(guest);
@@ -189,7 +194,7 @@ impl<'a, R: Wait + Clock> Loop<'a, R> {
             return;
         }
         self.end_session();
-        let patience = self.hub.limits.patience;
+        let patience = self.limits.patience;
         let awaited = awaited.next(patience, Phase::Lingering, Happened::Nothing, self.now);
         self.linger(key, guest, awaited);
     }
@@ -202,7 +207,7 @@ impl<'a, R: Wait + Clock> Loop<'a, R> {
             awaited,
             ..
         } = visit;
-        let awaited = awaited.next(self.hub.limits.patience, phase, happened, self.now);
+        let awaited = awaited.next(self.limits.patience, phase, happened, self.now);
         self.park(key, guest, awaited);
     }
 
@@ -242,6 +247,27 @@ impl<'a, R: Wait + Clock> Loop<'a, R> {
         }
     }
 
+    /// Whether the server warms up.
+    fn is_warming(&self) -> bool {
+        is_warming(self.limits.warm_up_ms, self.now)
+    }
+
+    /// How the server fares, where the loop is that of operators.
+    fn facts(&self) -> Option<ServerFacts> {
+        if !self.hub.is_of_operators(self.number) {
+            return None;
+        }
+        let counts = self.hub.counts();
+        Some(ServerFacts {
+            open: counts.here,
+            accepted: counts.came,
+            refused: counts.refused,
+            evicted: self.hub.evicted(),
+            uptime_ms: self.now,
+            is_warming: self.is_warming(),
+        })
+    }
+
     /// The next connection for which there is something to do.
     fn next_ready(&mut self) -> Option<Visit<TcpStream, Talk>> {
         for _call in 0..self.ready.len() {
@@ -253,7 +279,12 @@ impl<'a, R: Wait + Clock> Loop<'a, R> {
                 self.linger(call.key, guest, awaited);
                 continue;
             }
-            return Some(visit_of(call, guest, awaited));
+            if !has_work(call, guest.as_ref()) {
+                self.park(call.key, guest, awaited);
+                continue;
+            }
+            let is_warming = self.is_warming();
+            return Some(visit_of(call, guest, awaited, is_warming, self.facts()));
         }
         None
     }
@@ -266,7 +297,7 @@ impl<'a, R: Wait + Clock> Loop<'a, R> {
 
     /// Gives a connection a place, and has it polled, which tells at once what has come of it. It is closed where that fails.
     fn enter(&mut self, guest: Connection) {
-        let awaited = Awaited::begin(self.hub.limits.patience, Phase::Idle, self.now);
+        let awaited = Awaited::begin(self.limits.patience, Phase::Idle, self.now);
         let Ok(key) = self.hall.enter(guest, awaited) else {
             self.turn_away();
             return;
@@ -282,6 +313,14 @@ impl<'a, R: Wait + Clock> Loop<'a, R> {
         }
     }
 
+    /// Counts what the loop tells a client by itself, by its status.
+    fn count_told(&self, status: u16) {
+        if !self.hub.is_of_operators(self.number) {
+            let fault = None;
+            self.hub.count_response(0, Responded { status, fault });
+        }
+    }
+
     /// Takes in a connection for which there is no room, to tell it so. It is closed where there is no memory for that.
     fn refuse(&mut self, socket: TcpStream) {
         let Ok(mut guest) = connection(self.hub.alloc, socket) else {
@@ -289,6 +328,7 @@ impl<'a, R: Wait + Clock> Loop<'a, R> {
             return;
         };
         if end_by(guest.as_mut(), FULL) {
+            self.count_told(503);
             self.enter(guest);
         } else {
             self.turn_away();
@@ -312,9 +352,10 @@ impl<'a, R: Wait + Clock> Loop<'a, R> {
         }
     }
 
-    /// Whether the connection at that key is late, as a sweep would judge it now. One that is idle isn't: it may have asked meanwhile.
+    /// Whether the connection at that key is late, as a sweep would judge it now. Where the server stops, one that is idle isn't late for that: it may have asked
+    /// meanwhile.
     fn is_late(&self, key: usize) -> bool {
-        let patience = self.hub.limits.patience;
+        let patience = self.limits.patience;
         let judged_by = moment_of_sweep(patience, self.stopped, self.now);
         self.hall.is_late(key, judged_by)
     }
@@ -360,17 +401,19 @@ impl<'a, R: Wait + Clock> Loop<'a, R> {
         self.mail = mail;
     }
 
-    /// Gives up a connection that is late. One whose request isn't whole is told so.
+    /// Gives up a connection that is late. One whose request isn't whole is told so, unless its session has ended.
     fn give_up(&mut self, key: usize) {
         let Some((mut guest, awaited)) = self.hall.call(key) else {
             return;
         };
-        if awaited.phase != Phase::Asking || !end_by(guest.as_mut(), SLOW) {
+        let is_asked = awaited.phase == Phase::Asking && !guest.has_ended;
+        if !is_asked || !end_by(guest.as_mut(), SLOW) {
             drop(guest);
             self.leave(key, awaited.phase);
             return;
         }
-        let awaited = Awaited::begin(self.hub.limits.patience, Phase::Answering, self.now);
+        self.count_told(408);
+        let awaited = Awaited::begin(self.limits.patience, Phase::Answering, self.now);
         self.park(key, guest, awaited);
         let _ = self.ready.push_back(call_anew(key));
     }
@@ -381,9 +424,9 @@ impl<'a, R: Wait + Clock> Loop<'a, R> {
         if stops && self.stopped.is_none() {
             self.stopped = Some(now);
         }
-        let judged_by = moment_of_sweep(self.hub.limits.patience, self.stopped, now);
+        let judged_by = moment_of_sweep(self.limits.patience, self.stopped, now);
         let mut from = 0;
-        for _place in 0..self.hub.limits.places() {
+        for _place in 0..self.limits.places() {
             let Some(key) = self.hall.late(from, judged_by, stops) else {
                 break;
             };

@@ -1,1 +1,2 @@
 pub mod Timers
+pub mod Tallies

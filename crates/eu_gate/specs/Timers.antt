@@ -11,14 +11,14 @@ use Rattle.eu_gate.specs.declared.timers.Timer.TheVariants.{Evictor, Bucket, Thr
 
 -- which worker each timer is at a gate
 abbrev pub number_of : Timer → ℕ
-number_of Evictor = 20
-number_of Bucket = 21
-number_of Threshold = 22
+number_of Evictor = 21
+number_of Bucket = 22
+number_of Threshold = 23
 
 -- the timer whose worker has that number at a gate
 abbrev pub timer_of : ℕ → Option Timer
 timer_of who =
-    if who == 20 then Some Evictor else if who == 21 then Some Bucket else if who == 22 then Some Threshold else None
+    if who == 21 then Some Evictor else if who == 22 then Some Bucket else if who == 23 then Some Threshold else None
 
 -- the milliseconds between two turns: 0 counts as 1
 abbrev pub paced : ℕ → ℕ

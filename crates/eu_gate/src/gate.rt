@@ -1,24 +1,26 @@
 //! Gates: what workers pass before they go on.
 ghost use Rattle.std.specs.Prelude.{◌≡◌};
 
+use crate::tally::{Responded, Tally};
+
 /// The most loops of a server, each of which serves connections of its own.
 pub const MOST_WORKERS: u32 = 16;
 
-/// The workers of sessions that a server has beside those: one that accepts connections, and two for requests that take long. All workers of sessions
-/// have the numbers 1 to 19.
-pub const OTHER_WORKERS: u32 = 3;
+/// The workers of sessions that a server has at most beside those: one that accepts connections, one that answers operators, and two for requests that take
+/// long. All workers of sessions have the numbers 1 to 20.
+pub const OTHER_WORKERS: u32 = 4;
 
 /// The number of the evictor.
-pub const EVICTOR: u32 = 20;
+pub const EVICTOR: u32 = 21;
 
 /// The number of the bucket's worker.
-pub const BUCKET: u32 = 21;
+pub const BUCKET: u32 = 22;
 
 /// The number of the threshold's worker.
-pub const THRESHOLD: u32 = 22;
+pub const THRESHOLD: u32 = 23;
 
 /// The number of the replicator of peer 0. That of peer `p` is greater by `p`.
-pub const FIRST_REPLICATOR: u32 = 23;
+pub const FIRST_REPLICATOR: u32 = 24;
 
 /// Where a worker stands.
 #[derive(Clone, Copy, Debug, PartialEq, Eq)]
@@ -68,4 +70,12 @@ pub trait Gate {
 
     /// Hears what a turn of the evictor saw and did. Nothing comes of it but where it is to be told.
     fn hear(&self, _news: News) {}
+
+    /// Hears what a response told that the worker of that number gave a client. Nothing comes of it but where responses are counted.
+    fn responded(&self, _who: u32, _told: Responded) {}
+
+    /// How many responses clients were given so far; none where they aren't counted.
+    fn responses(&self) -> Tally {
+        Tally::none()
+    }
 }

@@ -17,6 +17,23 @@ pub struct Guest<S, T> {
     pub dropped: usize,
 }
 
+/// How a server fares, as an operator is told.
+#[derive(Clone, Copy, Debug, PartialEq, Eq)]
+pub struct ServerFacts {
+    /// The connections that are open.
+    pub open: u64,
+    /// How many connections of clients have come, without those that were refused.
+    pub accepted: u64,
+    /// How many were refused since as many were open as may be.
+    pub refused: u64,
+    /// How many leases were evicted.
+    pub evicted: u64,
+    /// For how long the server has run, in milliseconds.
+    pub uptime_ms: u64,
+    /// Whether it warms up: nothing is listed yet.
+    pub is_warming: bool,
+}
+
 /// A visit of a connection at a worker.
 #[derive(Drop)]
 pub struct Visit<S, T> {
@@ -36,6 +53,10 @@ pub struct Visit<S, T> {
     pub is_drained: bool,
     /// Whether it is sent to until all is sent, or a write would wait. Else `MOST_AT_ONCE` bytes are sent, and the rest once others had their turn.
     pub sends_on: bool,
+    /// Whether the server warms up: nothing is listed yet.
+    pub is_warming: bool,
+    /// How the server fares, where an operator asks: then the request is one of an operator. None where a client asks.
+    pub operator: Option<ServerFacts>,
 }
 
 /// How a visit left a connection.

@@ -16,7 +16,7 @@ mod trouble;
 mod unsent;
 
 pub use arriving::Arriving;
-pub use guest::{Guest, Left, Visit};
+pub use guest::{Guest, Left, ServerFacts, Visit};
 pub use hall::Hall;
 pub use leaving::{Leaving, Sent};
 pub use phase::{Awaited, Happened, PATIENCE, Patience, Phase};

@@ -57,6 +57,13 @@ impl Unsent {
         self.bytes.len() - self.sent
     }
 
+    /// The bytes that are still to be sent, first to last.
+    pub fn as_slice(&self) -> &[u8]
+        ensures { result.now ≡ self.now.rest }
+    {
+        &self.bytes[self.sent..]
+    }
+
     /// Whether nothing is to be sent.
     pub fn is_empty(&self) -> bool
         ensures { result ≡ (length self.now.rest == 0) }

@@ -1,5 +1,5 @@
 //! Which requests a server takes.
-ghost use Rattle.std.specs.Prelude.{◌≡◌, None, IfOk, true, not, option_map, string_bytes};
+ghost use Rattle.std.specs.Prelude.{◌≡◌, None, IfOk, true, false, not, option_map, string_bytes};
 ghost use Rattle.eu_framing.specs.Fields.{max_body};
 ghost use Rattle.std.specs.List.{list_any};
 ghost use Rattle.eu_http.specs.Policy as spec;
@@ -21,6 +21,9 @@ pub struct Policy {
     pub most_body: usize,
     /// The origin whose pages may ask, as a browser writes it (`https://example.com`), if there is one.
     pub allowed_origin: Option<String>,
+    /// Whether listings are answered. They aren't while a server warms up (`PeerAwareInstanceRegistryImpl.shouldAllowAccess` in Eureka), so that clients keep what
+    /// they know.
+    pub lists: bool,
 }
 
 /// Whether an origin is the one that is allowed, byte by byte.
@@ -53,8 +56,16 @@ fn is_of_peer(routes: &Routes, request: &Request) -> bool
     request.replicated || routes.is_batch(&request.method, path)
 }
 
+/// Whether a request asks for a listing.
+fn is_listing(routes: &Routes, request: &Request) -> bool
+    ensures { result ≡ spec.is_listing request.now }
+{
+    let (path, _) = request.parts();
+    routes.is_listing(&request.method, path)
+}
+
 impl Policy {
-    /// One by which requests of peers are taken or not, bodies have at most so many bytes, and pages of this origin may ask, if there is one. `AllocError`
+    /// One by which requests of peers are taken or not, bodies have at most so many bytes, pages of this origin may ask, if there is one, and all is listed. `AllocError`
     /// where there is no memory for the origin.
     pub fn new(
         alloc: Global,
@@ -65,6 +76,7 @@ impl Policy {
         ensures peers { IfOk result (λ p. p.accepts_peers ≡ accepts_peers) }
         ensures body { IfOk result (λ p. p.most_body ≡ most_body) }
         ensures origin { IfOk result (λ p. option_map (λ o. string_bytes o) p.allowed_origin ≡ option_map (λ o. o.now) allowed_origin.entry) }
+        ensures lists { IfOk result (λ p. p.lists ≡ true) }
     {
         let allowed_origin = match allowed_origin {
             Some(origin) => Some(String::from_str(alloc, origin)?),
@@ -74,6 +86,7 @@ impl Policy {
             accepts_peers,
             most_body,
             allowed_origin,
+            lists: true,
         })
     }
 
@@ -82,16 +95,18 @@ impl Policy {
         ensures peers { result.accepts_peers ≡ true }
         ensures body { result.most_body ≡ max_body }
         ensures origin { result.allowed_origin ≡ None }
+        ensures lists { result.lists ≡ true }
     {
         Policy {
             accepts_peers: true,
             most_body: MAX_BODY,
             allowed_origin: None,
+            lists: true,
         }
     }
 
     /// Whether a request is forbidden: it has an `Origin` field that isn't the origin that is allowed, byte by byte; or requests of peers
-    /// aren't taken, and it calls itself replicated or is a batch. Takes no memory.
+    /// aren't taken, and it calls itself replicated or is a batch; or nothing is listed, and it asks for a listing. Takes no memory.
     #[tactic(auto, unfolding(crate::specs::Policy::forbids))]
     pub fn forbids(&self, routes: &Routes, request: &Request) -> bool
         ensures { result ≡ spec.forbids self.now request.now }
@@ -99,7 +114,26 @@ impl Policy {
         if has_other(&self.allowed_origin, &request.origins) {
             return true;
         }
-        !self.accepts_peers && is_of_peer(routes, request)
+        if !self.accepts_peers && is_of_peer(routes, request) {
+            return true;
+        }
+        !self.lists && is_listing(routes, request)
+    }
+
+    /// The same while a server warms up: nothing is listed. `AllocError` where no memory is left.
+    pub fn while_warming(&self, alloc: Global) -> Result<Policy, AllocError>
+        ensures peers { IfOk result (λ p. p.accepts_peers ≡ self.now.accepts_peers) }
+        ensures body { IfOk result (λ p. p.most_body ≡ self.now.most_body) }
+        ensures origin { IfOk result (λ p. option_map (λ o. string_bytes o) p.allowed_origin ≡ option_map (λ o. string_bytes o) self.now.allowed_origin) }
+        ensures lists { IfOk result (λ p. p.lists ≡ false) }
+    {
+        let origin = match &self.allowed_origin {
+            Some(origin) => Some(origin.as_str()),
+            None => None,
+        };
+        let mut policy = Policy::new(alloc, self.accepts_peers, self.most_body, origin)?;
+        policy.lists = false;
+        Ok(policy)
     }
 
     /// Whether a request's body is longer than the policy takes. That of a `HEAD` never is: it asks nothing, and is told nothing that has content (RFC 9110,

@@ -52,10 +52,14 @@ with_options app switch = with_rule (with_settings app switch) seed_rule
 abbrev pub drawing_rule : Rule
 drawing_rule = record (new_rule (codes "seed")) { long = Some (codes "seed"); value_names = 1 }
 
--- the option `--bind ADDRESS`, which is 127.0.0.1 where it isn't given; its value is judged once all words are known
-abbrev pub bind_rule : Rule
-bind_rule =
-    record (new_rule (codes "bind")) { long = Some (codes "bind"); value_names = 1; defaults = codes "127.0.0.1" ∷ [] }
+-- the option `--NAME ADDRESS`, which is 127.0.0.1 where it isn't given; its value is judged once all words are known
+abbrev pub address_rule : Text → Rule
+address_rule name = record (new_rule name) { long = Some name; value_names = 1; defaults = codes "127.0.0.1" ∷ [] }
+
+-- the option `--admin-port N`, which may be left out
+abbrev pub admin_port_rule : Rule
+admin_port_rule =
+    record (new_rule (codes "admin-port")) { long = Some (codes "admin-port"); value_names = 1; parser = Some (Signed (pos 0) (pos 65535)) }
 
 -- the option `--sessions N`, which has a rule on another option
 abbrev pub sessions_rule : Rule
@@ -79,12 +83,15 @@ until_rule = record (new_rule (codes "until-input-ends")) { long = Some (codes "
 abbrev pub quiet_rule : Rule
 quiet_rule = record (new_rule (codes "quiet")) { long = Some (codes "quiet"); action = Some SetTrue }
 
--- a command with the two options more that say where a server listens: a port of 16 bits, which has to be given, and an address
+-- a command with the four options more that say where a server listens: a port of 16 bits, which has to be given, and an address; and the same of operators, where
+-- the port may be left out
 abbrev pub with_address : App → App
 with_address app =
-    with_rule (with_rule app
+    with_rule (with_rule (with_rule (with_rule app
     (needed_rule (codes "port") (Signed (pos 0) (pos 65535))))
-    bind_rule
+    (address_rule (codes "bind")))
+    admin_port_rule)
+    (address_rule (codes "admin-bind"))
 
 -- a command with the five options more that say how much a server serves: a number of sessions, or no end by it, an end by its input, 1 to 16 workers, and a
 -- number expected
@@ -97,13 +104,14 @@ with_work app =
     (option_rule (codes "workers") (Signed (pos 1) (pos 16)) (codes "2")))
     (option_rule (codes "expected") (Signed (pos 0) (pos 4294967295)) (codes "1"))
 
--- a command with the three limits of a server more: 1 to 1,000,000 connections, and two times of 32 bits that aren't 0
+-- a command with the four limits of a server more: 1 to 1,000,000 connections, two times of 32 bits that aren't 0, and one that may be
 abbrev pub with_limits : App → App
 with_limits app =
-    with_rule (with_rule (with_rule app
+    with_rule (with_rule (with_rule (with_rule app
     (option_rule (codes "connections") (Signed (pos 1) (pos 1000000)) (codes "10000")))
     (option_rule (codes "idle-ms") (Signed (pos 1) (pos 4294967295)) (codes "90000")))
-    (option_rule (codes "request-ms") (Signed (pos 1) (pos 4294967295)) (codes "10000"))
+    (option_rule (codes "request-ms") (Signed (pos 1) (pos 4294967295)) (codes "10000")))
+    (option_rule (codes "warm-up-ms") (Signed (pos 0) (pos 4294967295)) (codes "0"))
 
 -- a command with that option more
 abbrev pub with_quiet : App → App
@@ -121,7 +129,7 @@ with_policy app switch =
     (option_rule (codes "max-body") (Signed (pos 1) (pos 1048576)) (codes "1048576")))
     origin_rule
 
--- a command with the nineteen options of a server more
+-- a command with the twenty-two options of a server more
 abbrev pub with_server_options : App → ValueParser → ValueParser → App
 with_server_options app switch peers =
     with_quiet (with_policy (with_limits (with_work (with_address (with_rule (with_settings app switch) drawing_rule)))) peers)
@@ -134,10 +142,11 @@ journal_rule = record (new_rule (codes "journal")) { long = Some (codes "journal
 abbrev pub with_journal : App → App
 with_journal app = with_rule app journal_rule
 
+-- the subcommand has to be there, or `--version`
 abbrev required : App → App
-required app = record app { top = record app.top { subcommand_required = true } }
+required app = record app { top = record app.top { subcommand_required = true; has_version = true } }
 
--- `eureka script`, `eureka audit` and `eureka serve` with their options: the subcommand has to be there
+-- `eureka script`, `eureka audit` and `eureka serve` with their options
 abbrev pub program_app : ValueParser → ValueParser → ValueParser → ValueParser → App
 program_app one other third peers =
     with_subcommand (with_subcommand (with_subcommand (required (new_app (codes "eureka")))
@@ -176,6 +185,11 @@ abbrev pub IsEnd : ArgMatches → Option ℕ → Type 0
 IsEnd m None = IsFlag m (codes "forever") true
 IsEnd m (Some n) = IsFlag m (codes "forever") false × IsNumber m (codes "sessions") n
 
+-- the port of operators, if `--admin-port` is given
+abbrev pub IsAdminPort : ArgMatches → Option ℕ → Type 0
+IsAdminPort m None = first_value (found_of m) (codes "admin-port") ≡ None
+IsAdminPort m (Some n) = IsNumber m (codes "admin-port") n
+
 -- how the victims of an eviction are drawn, as `--seed` of a server says
 abbrev pub IsDrawing : ArgMatches → Drawing → Type 0
 IsDrawing m FirstOnes = first_value (found_of m) (codes "seed") ≡ None
@@ -186,8 +200,10 @@ IsDrawing m (Seeded n) = IsNumber m (codes "seed") n
 abbrev pub IsServing : ArgMatches → Serving → Type 0
 IsServing m s =
     IsNumber m (codes "port") s.port × IsAddress m (codes "bind") s.bind
+    × IsAdminPort m s.admin_port × IsAddress m (codes "admin-bind") s.admin_bind
     × IsEnd m s.sessions × IsNumber m (codes "workers") s.workers
     × IsNumber m (codes "expected") s.expected × IsNumber m (codes "connections") s.connections
     × IsNumber m (codes "idle-ms") s.idle_ms × IsNumber m (codes "request-ms") s.request_ms
+    × IsNumber m (codes "warm-up-ms") s.warm_up_ms
     × IsFlag m (codes "until-input-ends") s.until_input_ends × IsFlag m (codes "quiet") s.is_quiet
     × IsSwitch m (codes "accept-peers") s.accepts_peers × IsNumber m (codes "max-body") s.most_body

@@ -5,7 +5,6 @@ mod options;
 mod serving;
 
 pub use options::{
-    bind_text, command, config_of, drawing_of, journal_of, origin_of, seed_of, seed_text,
-    serving_of,
+    address_of, command, config_of, drawing_of, journal_of, origin_of, seed_of, serving_of, text_of,
 };
 pub use serving::{Drawing, Serving, connections_within};

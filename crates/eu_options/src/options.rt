@@ -6,11 +6,12 @@ ghost use Rattle.std.specs.declared.net.ip_addr.IpAddr.{IpAddr};
 ghost use Rattle.eu_options.specs.declared.serving.Drawing.{Drawing};
 ghost use Rattle.eu_options.specs.declared.serving.Drawing.TheVariants.{FirstOnes, Seeded, FromSystem};
 ghost use Rattle.eu_options.specs.declared.serving.Serving.{Serving};
-ghost use Rattle.eu_options.specs.Options.{option_rule, needed_rule, bind_rule, drawing_rule, forever_rule, until_rule, quiet_rule, sessions_rule, origin_rule, with_journal, with_address, with_limits, with_options, with_policy, with_quiet, with_server_options, with_settings, with_work, seed_rule, program_app, IsSwitch, IsSwitchParser, IsAddress, IsConfig, IsDrawing, IsEnd, IsFlag, IsNumber, IsServing};
+ghost use Rattle.eu_options.specs.Options.{option_rule, needed_rule, address_rule, admin_port_rule, drawing_rule, forever_rule, until_rule, quiet_rule, sessions_rule, origin_rule, with_journal, with_address, with_limits, with_options, with_policy, with_quiet, with_server_options, with_settings, with_work, seed_rule, program_app, IsSwitch, IsSwitchParser, IsAddress, IsAdminPort, IsConfig, IsDrawing, IsEnd, IsFlag, IsNumber, IsServing};
 
 use crate::serving::{Drawing, Serving};
 use clap::builder::ValueParser;
 use clap::{Arg, ArgAction, ArgMatches, Command, value_parser};
+use eu_admin::VERSION;
 use eu_base::Config;
 use eu_gate::MOST_WORKERS;
 use std::alloc::{AllocError, Global};
@@ -129,16 +130,30 @@ fn drawing_option<'a>(alloc: Global) -> Arg<'a>
         )
 }
 
-/// The option `--bind ADDRESS`.
-fn bind_option<'a>(alloc: Global) -> Arg<'a>
-    ensures rule { rule_of result ≡ bind_rule }
+/// The option `--NAME ADDRESS`.
+fn address_option<'a>(alloc: Global, name: &'a str) -> Arg<'a>
+    ensures rule { rule_of result ≡ address_rule name.entry.now }
     ensures local { result.global ≡ false }
 {
-    Arg::new(alloc, "bind")
-        .long("bind")
+    Arg::new(alloc, name)
+        .long(name)
         .value_name("ADDRESS")
         .default_value("127.0.0.1")
         .help("The IP address to listen on, as ::1; 0.0.0.0 and :: are all of this machine's")
+}
+
+/// The option `--admin-port N`, which may be left out.
+fn admin_port_option<'a>(alloc: Global) -> Arg<'a>
+    ensures rule { rule_of result ≡ admin_port_rule }
+    ensures local { result.global ≡ false }
+{
+    Arg::new(alloc, "admin-port")
+        .long("admin-port")
+        .value_name("N")
+        .value_parser(value_parser!(u16))
+        .help(
+            "The port of operators: a page, /metrics and /health; 0 has the system choose one, which is told; without it, there is none",
+        )
 }
 
 /// The option `--sessions N`, which has to be given unless `--forever` is, and may not be given with it.
@@ -198,7 +213,11 @@ fn with_address<'a>(alloc: Global, command: Command<'a>) -> Result<Command<'a>, 
     let port = needed(alloc, "port", value_parser!(u16)).help(
         "The port to listen on; 0 has the system choose one, which is told",
     );
-    command.arg(port)?.arg(bind_option(alloc))
+    command
+        .arg(port)?
+        .arg(address_option(alloc, "bind"))?
+        .arg(admin_port_option(alloc))?
+        .arg(address_option(alloc, "admin-bind"))
 }
 
 /// The options that say how much a server serves.
@@ -223,7 +242,7 @@ fn with_work<'a>(alloc: Global, command: Command<'a>) -> Result<Command<'a>, All
         .arg(expected)
 }
 
-/// The options that limit the connections of a server.
+/// The options that limit the connections of a server, and what it shows at first.
 fn with_limits<'a>(alloc: Global, command: Command<'a>) -> Result<Command<'a>, AllocError>
     ensures app { IfOk result (λ c. app_of c ≡ with_limits (app_of command.entry)) }
     ensures local { (out-Command command.entry).has_globals ≡ false → IfOk result (λ c. (out-Command c).has_globals ≡ false) }
@@ -240,7 +259,14 @@ fn with_limits<'a>(alloc: Global, command: Command<'a>) -> Result<Command<'a>, A
     let request_ms = option(alloc, "request-ms", "MS", request, "10000").help(
         "How long a request may take, from its first byte to its last",
     );
-    command.arg(connections)?.arg(idle_ms)?.arg(request_ms)
+    let warm_up_ms = option(alloc, "warm-up-ms", "MS", value_parser!(u32), "0").help(
+        "For how long listings are refused at first, so that clients keep what they know",
+    );
+    command
+        .arg(connections)?
+        .arg(idle_ms)?
+        .arg(request_ms)?
+        .arg(warm_up_ms)
 }
 
 /// The option `--allow-origin ORIGIN`, which may be left out.
@@ -355,6 +381,7 @@ pub fn command<'a>(alloc: Global) -> Result<Command<'a>, AllocError>
     let serve = serve(alloc)?;
     Command::new(alloc, "eureka")
         .about("A proved lease registry")
+        .version(VERSION)
         .subcommand_required(true)
         .subcommand(script)?
         .subcommand(audit)?
@@ -416,12 +443,25 @@ fn number_within(matches: &ArgMatches<'_>, name: &str, least: u32, most: u32) ->
     Some(found)
 }
 
-/// The address that the options give. None where they give none, or it isn't one.
-fn bind_of(matches: &ArgMatches<'_>) -> Option<IpAddr>
-    ensures some { IfSome result (IsAddress matches.now (codes "bind")) }
-    ensures none { (address : IpAddr) → IsAddress matches.now (codes "bind") address → IsSome result }
+/// The IP address that an option gives. None where it gives none, or its text isn't one.
+pub fn address_of(matches: &ArgMatches<'_>, name: &str) -> Option<IpAddr>
+    ensures some { IfSome result (IsAddress matches.now name.now) }
+    ensures none { (address : IpAddr) → IsAddress matches.now name.now address → IsSome result }
 {
-    matches.get_one::<IpAddr>("bind")
+    matches.get_one::<IpAddr>(name)
+}
+
+/// The port of operators that the options give: `Some(None)` where there is none. None where the option's text is no port, which the command line rules out.
+fn admin_port_of(matches: &ArgMatches<'_>) -> Option<Option<u16>>
+    ensures some { IfSome result (IsAdminPort matches.now) }
+    ensures without { IsAdminPort matches.now None → IsSome result }
+    ensures given { (n : ℕ) → n < 2 ^ 16 → IsAdminPort matches.now (Some n) → IsSome result }
+{
+    if matches.get_str("admin-port").is_none() {
+        return Some(None);
+    }
+    let port = matches.get_one::<u16>("admin-port")?;
+    Some(Some(port))
 }
 
 /// After how many sessions a server ends as the options say: `Some(None)` where it ends by no number. None where they don't say it.
@@ -438,11 +478,11 @@ fn end_of(matches: &ArgMatches<'_>) -> Option<Option<u32>>
     Some(Some(sessions))
 }
 
-/// The text of `--bind`, if the options give one.
-pub fn bind_text<'a>(matches: &ArgMatches<'a>) -> Option<&'a str>
-    ensures { option_map (λ text. text.now) result ≡ first_value (found_of matches.now) (codes "bind") }
+/// The text of the option of that name, if the options give one.
+pub fn text_of<'a>(matches: &ArgMatches<'a>, name: &str) -> Option<&'a str>
+    ensures { option_map (λ text. text.now) result ≡ first_value (found_of matches.now) name.now }
 {
-    matches.get_str("bind")
+    matches.get_str(name)
 }
 
 /// The text of `--allow-origin`, if the options give one.
@@ -452,13 +492,6 @@ pub fn origin_of<'a>(matches: &ArgMatches<'a>) -> Option<&'a str>
     matches.get_str("allow-origin")
 }
 
-/// The text of `--seed`, if the options give one.
-pub fn seed_text<'a>(matches: &ArgMatches<'a>) -> Option<&'a str>
-    ensures { option_map (λ text. text.now) result ≡ first_value (found_of matches.now) (codes "seed") }
-{
-    matches.get_str("seed")
-}
-
 /// How the victims of a server's evictions are drawn as the options say. None where the text of `--seed` is neither `system` nor a `u64`.
 pub fn drawing_of(matches: &ArgMatches<'_>) -> Option<Drawing>
     ensures some { IfSome result (IsDrawing matches.now) }
@@ -466,7 +499,7 @@ pub fn drawing_of(matches: &ArgMatches<'_>) -> Option<Drawing>
     ensures system { IsDrawing matches.now FromSystem → IsSome result }
     ensures seeded { (n : ℕ) → n < 2 ^ 64 → IsDrawing matches.now (Seeded n) → IsSome result }
 {
-    let Some(text) = seed_text(matches) else {
+    let Some(text) = text_of(matches, "seed") else {
         return Some(Drawing::FirstOnes);
     };
     if text == "system" {
@@ -494,20 +527,23 @@ fn switch_of(matches: &ArgMatches<'_>, name: &str) -> Option<bool>
     Some(text == "on")
 }
 
-/// What the options of a server say. None where the text of `--bind` is no IP address; or where one is missing or out of its range, which the
-/// command line rules out.
+/// What the options of a server say. None where the text of `--bind` or of `--admin-bind` is no IP address; or where one is missing or out of its range, which
+/// the command line rules out.
 pub fn serving_of(matches: &ArgMatches<'_>) -> Option<Serving>
     ensures some { IfSome result (IsServing matches.now) }
-    ensures none { (s : Serving) → s.port < 2 ^ 16 → IfSome s.sessions (λ n. n < 2 ^ 32) → s.expected < 2 ^ 32 → s.idle_ms < 2 ^ 32 → s.request_ms < 2 ^ 32 → IsServing matches.now s → IsSome result }
+    ensures none { (s : Serving) → s.port < 2 ^ 16 → IfSome s.sessions (λ n. n < 2 ^ 32) → IfSome s.admin_port (λ n. n < 2 ^ 16) → s.expected < 2 ^ 32 → s.idle_ms < 2 ^ 32 → s.request_ms < 2 ^ 32 → s.warm_up_ms < 2 ^ 32 → IsServing matches.now s → IsSome result }
 {
     let port = port_of(matches)?;
-    let bind = bind_of(matches)?;
+    let bind = address_of(matches, "bind")?;
+    let admin_port = admin_port_of(matches)?;
+    let admin_bind = address_of(matches, "admin-bind")?;
     let sessions = end_of(matches)?;
     let workers = number_within(matches, "workers", 1, MOST_WORKERS)?;
     let expected = number(matches, "expected")?;
     let connections = number_within(matches, "connections", 1, MOST_CONNECTIONS)?;
     let idle_ms = number_within(matches, "idle-ms", 1, u32::MAX)?;
     let request_ms = number_within(matches, "request-ms", 1, u32::MAX)?;
+    let warm_up_ms = number(matches, "warm-up-ms")?;
     let until_input_ends = flag_of(matches, "until-input-ends")?;
     let is_quiet = flag_of(matches, "quiet")?;
     let accepts_peers = switch_of(matches, "accept-peers")?;
@@ -515,12 +551,15 @@ pub fn serving_of(matches: &ArgMatches<'_>) -> Option<Serving>
     Some(Serving {
         port,
         bind,
+        admin_port,
+        admin_bind,
         sessions,
         workers,
         expected,
         connections,
         idle_ms,
         request_ms,
+        warm_up_ms,
         until_input_ends,
         is_quiet,
         accepts_peers,

@@ -10,6 +10,10 @@ pub struct Serving {
     pub port: u16,
     /// The address of this machine at which it listens.
     pub bind: IpAddr,
+    /// The port at which operators connect; 0 has the system choose one. None where they don't.
+    pub admin_port: Option<u16>,
+    /// The address of this machine at which it listens for operators.
+    pub admin_bind: IpAddr,
     /// How many connections are served before it ends. None where it doesn't end by their number.
     pub sessions: Option<u32>,
     /// How many loops serve them.
@@ -22,6 +26,8 @@ pub struct Serving {
     pub idle_ms: u32,
     /// The milliseconds that a request may take, from its first byte to its last.
     pub request_ms: u32,
+    /// For how many milliseconds nothing is listed at first.
+    pub warm_up_ms: u32,
     /// Whether it ends at the end of its input, too.
     pub until_input_ends: bool,
     /// Whether it tells nothing of evictions and of connections that are refused.

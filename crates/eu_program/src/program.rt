@@ -13,8 +13,8 @@ use eu_clock::{Chooser, FirstChooser, RngChooser};
 use eu_http::Policy;
 use eu_journal_audit::run_journal_audit;
 use eu_options::{
-    Drawing, Serving, bind_text, command, config_of, drawing_of, journal_of, origin_of, seed_of,
-    seed_text, serving_of,
+    Drawing, Serving, address_of, command, config_of, drawing_of, journal_of, origin_of, seed_of,
+    serving_of, text_of,
 };
 use eu_script::{run_audit, run_script, run_script_with_journal};
 use std::net::{Net, TcpListener, TcpStream};
@@ -181,6 +181,18 @@ fn tell_value(rt: &impl Eprint, option: &str, value: Option<&str>, why: &str) ->
     BAD_INPUT
 }
 
+/// Tells which of a server's two addresses isn't one, and gives the exit status.
+fn tell_address(rt: &impl Eprint, matches: &ArgMatches<'_>) -> u8
+    ensures { result ≡ 2 }
+{
+    let (name, option) = if address_of(matches, "bind").is_some() {
+        ("admin-bind", "--admin-bind <ADDRESS>")
+    } else {
+        ("bind", "--bind <ADDRESS>")
+    };
+    tell_value(rt, option, text_of(matches, name), "not an IP address")
+}
+
 /// A seed that the system draws, which standard error is told. None where it draws none, and standard error is told why.
 fn draw_seed<R: RandomSource + Eprint>(rt: &R) -> Option<u64> {
     let mut bytes = [0; 8];
@@ -256,11 +268,10 @@ fn start_server<
         return BAD_INPUT;
     };
     let Some(serving) = serving_of(matches) else {
-        let bind = bind_text(matches);
-        return tell_value(rt, "--bind <ADDRESS>", bind, "not an IP address");
+        return tell_address(rt, matches);
     };
     let Some(drawing) = drawing_of(matches) else {
-        let seed = seed_text(matches);
+        let seed = text_of(matches, "seed");
         return tell_value(rt, "--seed <N|system>", seed, "neither a u64 nor `system`");
     };
     let origin = origin_of(matches);

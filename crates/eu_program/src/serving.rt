@@ -26,17 +26,18 @@ use std::time::Clock;
 /// The descriptor of standard input.
 const STANDARD_INPUT: RawFd = 0;
 
-/// Listens on that port of that address, and tells on standard error on which, or why that failed.
+/// Listens on that port of that address, and tells on standard error that it listens on it, by these words; or why that failed.
 pub fn listen<R: Net<Listener = TcpListener, Stream = TcpStream> + Eprint>(
     rt: &R,
     bind: IpAddr,
     port: u16,
+    words: &str,
 ) -> Option<TcpListener> {
     let wanted = SocketAddr::new(bind, port);
     match TcpListener::bind(rt, wanted) {
         Ok(listener) => {
             let address = listener.local_addr().unwrap_or(wanted);
-            let _ = eprintln!(rt; "listening on {address}");
+            let _ = eprintln!(rt; "{words} {address}");
             Some(listener)
         }
         Err(error) => {
@@ -44,6 +45,26 @@ pub fn listen<R: Net<Listener = TcpListener, Stream = TcpStream> + Eprint>(
             None
         }
     }
+}
+
+/// Where a server listens: for clients, and for operators, if it does.
+#[derive(Drop)]
+struct Listeners {
+    clients: TcpListener,
+    operators: Option<TcpListener>,
+}
+
+/// Listens as the options say, and tells so on standard error. None where that failed, and standard error is told why.
+fn listen_all<R: Net<Listener = TcpListener, Stream = TcpStream> + Eprint>(
+    rt: &R,
+    serving: &Serving,
+) -> Option<Listeners> {
+    let clients = listen(rt, serving.bind, serving.port, "listening on")?;
+    let operators = match serving.admin_port {
+        Some(port) => Some(listen(rt, serving.admin_bind, port, "admin on")?),
+        None => None,
+    };
+    Some(Listeners { clients, operators })
 }
 
 /// How many descriptors this process may have at once. None where the system doesn't tell.
@@ -114,7 +135,8 @@ fn plan_of(config: Config, serving: Serving, connections: u32, key: HashKey, pol
     ensures request { result.limits.patience.request ≡ serving.request_ms }
     ensures input { result.input ≡ (if serving.until_input_ends then Some (pos 0) else None) }
     ensures quiet { result.is_quiet ≡ serving.is_quiet }
-    ensures limits { result.limits ≡ record server_limits { connections = connections; patience = record server_limits.patience { idle = serving.idle_ms; request = serving.request_ms } } }
+    ensures operators { result.operators ≡ None }
+    ensures limits { result.limits ≡ record server_limits { connections = connections; warm_up_ms = serving.warm_up_ms; patience = record server_limits.patience { idle = serving.idle_ms; request = serving.request_ms } } }
 {
     let sessions = match serving.sessions {
         Some(sessions) => u64::from(sessions),
@@ -124,6 +146,7 @@ fn plan_of(config: Config, serving: Serving, connections: u32, key: HashKey, pol
     plan.limits.connections = connections as usize;
     plan.limits.patience.idle = serving.idle_ms;
     plan.limits.patience.request = serving.request_ms;
+    plan.limits.warm_up_ms = serving.warm_up_ms;
     plan.input = input_of(serving.until_input_ends);
     plan.is_quiet = serving.is_quiet;
     plan.policy = policy;
@@ -174,11 +197,16 @@ pub fn serve<
     let Some(key) = draw_key(rt) else {
         return End::Failed(Fault::Read).tell(rt);
     };
-    let Some(listener) = listen(rt, serving.bind, serving.port) else {
+    let Some(listeners) = listen_all(rt, &serving) else {
         return End::Failed(Fault::Read).tell(rt);
     };
+    let Listeners {
+        clients: listener,
+        operators,
+    } = listeners;
     let connections = most_connections(rt, serving.connections);
-    let plan = plan_of(config, serving, connections, key, policy);
+    let mut plan = plan_of(config, serving, connections, key, policy);
+    plan.operators = operators;
     if let Some(path) = journal {
         return serve_to(rt, &listener, &plan, path, chooser);
     }

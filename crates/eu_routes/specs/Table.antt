@@ -165,6 +165,21 @@ is_for_batches (Some resource.Config) = false
 unfoldable pub is_batch : List ℕ → List ℕ → Bool
 is_batch method target = bytes_eq method (codes "POST") && is_for_batches (resource_of (path_of target))
 
+-- a resource is one of listings: all applications, one, or the changes
+abbrev pub is_for_listings : Option Resource → Bool
+is_for_listings (Some resource.Applications) = true
+is_for_listings (Some resource.Application) = true
+is_for_listings (Some resource.Lease) = false
+is_for_listings (Some resource.LeaseStatus) = false
+is_for_listings (Some resource.Batch) = false
+is_for_listings (Some resource.StatusPage) = false
+is_for_listings (Some resource.Config) = false
+is_for_listings None = false
+
+-- a request of that method and target asks for a listing: GET apps, apps/{app} or apps/delta
+unfoldable pub is_listing : List ℕ → List ℕ → Bool
+is_listing method target = bytes_eq method (codes "GET") && is_for_listings (resource_of (path_of target))
+
 -- ---- what is known before any memory is taken
 
 -- the method is one of the resource's

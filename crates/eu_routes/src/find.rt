@@ -200,10 +200,20 @@ fn is_for_batches(resource: Option<Resource>) -> bool
     matches!(resource, Some(Resource::Batch))
 }
 
+/// Whether a resource is one of listings: of all applications, of one, or of changes.
+fn is_for_listings(resource: Option<Resource>) -> bool
+    ensures { result ≡ spec.is_for_listings resource }
+{
+    matches!(
+        resource,
+        Some(Resource::Applications | Resource::Application)
+    )
+}
+
 impl Routes {
     ghost use Rattle.eu_routes.specs.Path.{path_of};
     ghost use Rattle.eu_base.specs.Gives.{Gives};
-    ghost use Rattle.eu_routes.specs.Table.{IsKnown, is_batch, needs_memory, route_of, resource_of};
+    ghost use Rattle.eu_routes.specs.Table.{IsKnown, is_batch, is_listing, needs_memory, route_of, resource_of};
 
     /// Whether a request is a batch of a peer, by its method and by its target before the first `?`: a POST of `peerreplication/batch`, with
     /// paths as in `find`. Takes no memory.
@@ -212,6 +222,15 @@ impl Routes {
         ensures { result ≡ is_batch method.now path.now }
     {
         method == "POST" && is_for_batches(self.resource_at(path_of(path)))
+    }
+
+    /// Whether a request asks for a listing, by its method and by its target before the first `?`: a GET of `apps`, `apps/{app}` or `apps/delta`, with paths as in
+    /// `find`. Takes no memory.
+    #[tactic(auto, unfolding(crate::specs::Table::is_listing))]
+    pub fn is_listing(&self, method: &str, path: &str) -> bool
+        ensures { result ≡ is_listing method.now path.now }
+    {
+        method == "GET" && is_for_listings(self.resource_at(path_of(path)))
     }
 
     /// What a request asks for, by its method, by its target's parts before and behind the first `?`, and by whether a peer sends it

@@ -9,5 +9,6 @@ mod queries;
 mod table;
 
 pub use asks::Route;
+pub use paths::{app_at, cut};
 pub use queries::read_stamp;
 pub use table::Routes;

@@ -3,3 +3,4 @@ pub mod Served
 pub mod Staff
 pub mod Journal
 pub mod Messages
+pub mod Loops

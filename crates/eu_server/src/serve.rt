@@ -7,6 +7,7 @@ ghost use Rattle.eu_book.specs.Peers.{state_of};
 ghost use Rattle.eu_accept.specs.Limits.{server_limits};
 ghost use Rattle.eu_server.specs.Ends.{IsBegin, IsClose, IsEnd, IsStart};
 ghost use Rattle.eu_server.specs.Journal.{IsUntold, closed_text};
+ghost use Rattle.eu_server.specs.Loops as spec;
 ghost use Rattle.eu_server.specs.Messages.{told_first};
 ghost use Rattle.eu_server.specs.Served.{served_text};
 ghost use Rattle.eu_server.specs.Staff.{AreSessions, AreTimers, IsReadyFor, IsStaff};
@@ -68,12 +69,14 @@ pub struct Plan {
     pub hash_key: HashKey,
     /// Which requests it takes.
     pub policy: Policy,
+    /// Where operators connect, if they do.
+    pub operators: Option<TcpListener>,
 }
 
 impl Plan {
     /// That of an ordinary server with these settings, which expects so many clients, serves so many connections by so many workers, and has
     /// tables that hash by that key: its evictor takes a turn each `evict_ms` of the settings, the bucket ends a minute each `BUCKET_MS`, the threshold is updated each
-    /// `THRESHOLD_MS`, its limits are those of `Limits::of_server`, and its policy is that of `Policy::open`.
+    /// `THRESHOLD_MS`, its limits are those of `Limits::of_server`, its policy is that of `Policy::open`, and no operators connect.
     pub fn of_server(
         config: Config,
         expected: u32,
@@ -87,7 +90,8 @@ impl Plan {
         ensures input { result.input ≡ None }
         ensures quiet { result.is_quiet ≡ false }
         ensures hash_key { result.hash_key ≡ hash_key }
-        ensures policy { (result.policy.accepts_peers ≡ true) × (result.policy.allowed_origin ≡ None) × (result.policy.most_body ≡ 1048576) }
+        ensures policy { (result.policy.accepts_peers ≡ true) × (result.policy.allowed_origin ≡ None) × (result.policy.most_body ≡ 1048576) × (result.policy.lists ≡ true) }
+        ensures operators { result.operators ≡ None }
     {
         Plan {
             config,
@@ -100,6 +104,7 @@ impl Plan {
             is_quiet: false,
             hash_key,
             policy: Policy::open(),
+            operators: None,
         }
     }
 }
@@ -112,12 +117,18 @@ fn workers_of(wanted: u32) -> u32
     wanted.clamp(1, MOST_WORKERS)
 }
 
+/// How many loops a server by a plan has: its workers, and one for operators, where they connect.
+fn loops_of(plan: &Plan) -> u32
+    ensures { result ≡ spec.loops_of plan.now }
+{
+    workers_of(plan.workers) + u32::from(plan.operators.is_some())
+}
+
 /// What a server by a plan counts at first.
 fn admission_of(plan: &Plan) -> Admission
-    ensures { result ≡ record { left = plan.now.sessions; came = 0; refused = 0; here = 0; loops = max 1 (min plan.now.workers MOST_WORKERS); is_closed = false; is_stopping = false; has_failed = false } }
+    ensures { result ≡ record { left = plan.now.sessions; came = 0; refused = 0; here = 0; operators = 0; loops = spec.loops_of plan.now; is_closed = false; is_stopping = false; has_failed = false } }
 {
-    let loops = workers_of(plan.workers);
-    Admission::new(plan.sessions, loops)
+    Admission::new(plan.sessions, loops_of(plan))
 }
 
 /// What a server by a plan has told at first, if it tells anything: without self-preservation evictions are permitted from the start.
@@ -147,7 +158,7 @@ fn open_hub<'a, R: Wait + Clock + Net>(
     alloc: Global,
     plan: &Plan,
 ) -> Result<(Hub<'a, R>, Vec<Poll>), Fault>
-    ensures loops { IfOk result (λ opened. vec_len opened.1 ≡ max 1 (min plan.now.workers MOST_WORKERS)) }
+    ensures loops { IfOk result (λ opened. vec_len opened.1 ≡ spec.loops_of plan.now) }
     ensures fault { IfErr result IsBegin }
 {
     let admission = admission_of(plan);
@@ -157,6 +168,7 @@ fn open_hub<'a, R: Wait + Clock + Net>(
         plan.limits,
         plan.periods,
         admission,
+        workers_of(plan.workers) as usize,
         told_of(plan),
     ) {
         Ok(opened) => Ok(opened),
@@ -264,7 +276,7 @@ fn add_loops<'a, R: Wait + Clock>(
 fn make_stations<'a, R: Wait + Clock + Net>(
     hub: &'a Hub<'a, R>,
     listener: &TcpListener,
-    input: Option<RawFd>,
+    plan: &Plan,
     polls: Vec<Poll>,
 ) -> io::Result<Vec<Station<'a, R>>>
     ensures { IfOk result (λ stations. vec_len stations ≡ vec_len polls + 3) }
@@ -273,7 +285,9 @@ fn make_stations<'a, R: Wait + Clock + Net>(
         hub.alloc,
         polls.len().saturating_add(OTHER_WORKERS as usize),
     )?;
-    stations.push(Station::Door(Door::new(hub, hub.rt, listener, input)?))?;
+    let operators = plan.operators.as_ref();
+    let door = Door::new(hub, hub.rt, listener, operators, plan.input)?;
+    stations.push(Station::Door(door))?;
     add_loops(&mut stations, hub, polls)?;
     stations.push(Station::Pool(Hand::new(hub, HandName::First)))?;
     stations.push(Station::Pool(Hand::new(hub, HandName::Second)))?;
@@ -290,7 +304,7 @@ fn stations_of<'a, R: Wait + Clock + Net>(
     ensures made { IfOk result (λ stations. vec_len stations ≡ vec_len polls + 3) }
     ensures fault { IfErr result IsBegin }
 {
-    match make_stations(hub, listener, plan.input, polls) {
+    match make_stations(hub, listener, plan, polls) {
         Ok(stations) => Ok(stations),
         Err(error) => Err(fault_of(&error)),
     }
@@ -354,6 +368,7 @@ fn run_workers<
     ensures { IfErr result IsStart }
 {
     let routes = Routes::new(alloc)?;
+    let warm_policy = policy.while_warming(alloc)?;
     let mut workers = make_workers(rt, alloc, shared, stations, chooser)?;
     let mut passes = Vec::with_capacity(alloc, workers.len())?;
     if !has_threads(rt, alloc, workers.len()) {
@@ -365,6 +380,7 @@ fn run_workers<
         shared,
         routes: &routes,
         policy,
+        warm_policy: &warm_policy,
         gate: hub,
     };
     run_all(&site, workers.as_mut_slice());
@@ -526,9 +542,10 @@ fn serve_new<R: Threads + Wait + Clock + Net + Eprint + Sync, H: Chooser + Send 
 /// weren't before, or the other way round, and of connections that are refused, at most once a second (`eu_accept::Message`).
 ///
 /// A book is opened with the settings and the number expected, without peers. Each accepted connection is one session of
-/// HTTP/1.1 (`eu_session::take_turn`, turn by turn), at the machine's time; which requests are taken, the plan's policy says (`Policy::forbids`). Each
-/// belongs to one of the loops, which visits it whenever something has come,
-/// or more can be sent; a request that takes long is answered by one of two other threads meanwhile. Beside them the evictor takes its turns, by the
+/// HTTP/1.1 (`eu_session::take_turn`, turn by turn), at the machine's time; which requests are taken, the plan's policy says (`Policy::forbids`), and that no listing is
+/// taken for the first `warm_up_ms`. Each belongs to one of the loops, which visits it whenever something has come, or more can be sent; a request that takes
+/// long is answered by one of two other threads meanwhile. Where the plan has a listener for operators, their connections belong to a loop of their own: each has one
+/// request, which only looks, and counts as none of the sessions. Beside them the evictor takes its turns, by the
 /// chooser's words, the bucket ends minutes, and the threshold is updated, each a period apart. Once the sessions have ended, so have these. Then the
 /// book is closed, and settled with what each worker logged.
 ///
@@ -546,7 +563,7 @@ fn serve_new<R: Threads + Wait + Clock + Net + Eprint + Sync, H: Chooser + Send 
 /// - `OutOfMemory` where there is no memory to open the book or for the workers, or not a thread for each of them, before a connection is accepted; or
 ///   no memory to close the book.
 /// - `PassMissing` and `Mismatch` where the book can't be closed or settled.
-/// - `TooManyPasses` by the contract, but 22 passes are made at most.
+/// - `TooManyPasses` by the contract, but 23 passes are made at most.
 /// - `Write` where `served N` can't be written or flushed.
 ///
 /// In all cases but the last nothing is written.

@@ -4,5 +4,6 @@ mod admissions;
 mod client;
 mod cuts;
 mod journals;
+mod operators;
 mod polls;
 mod servers;

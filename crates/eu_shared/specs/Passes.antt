@@ -74,6 +74,10 @@ IsShownBySome p q t v p' = (a : Account) × IsLawful a × (p.tally.steps ≤ a.t
 abbrev pub IsSeenOfSome : ℕ → Gauges → Type 0
 IsSeenOfSome t g = (a : Account) × IsLawful a × Shows a.state.registry (λ s. model_view.gauges s t) g
 
+-- some lawful book's steps did so much
+abbrev pub IsDoneInSome : Tally → Type 0
+IsDoneInSome t = (a : Account) × IsLawful a × (a.totals ≡ t)
+
 -- some lawful book lists few leases of an application, or in all where none is given, and each is short
 abbrev pub IsBriefInSome : ℕ → ℕ → Option (List ℕ) → Type 0
 IsBriefInSome few short app = (a : Account) × IsLawful a × ListsBriefly few short app a.state.registry

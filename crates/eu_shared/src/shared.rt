@@ -13,7 +13,7 @@ ghost use Rattle.eu_book.specs.Peers.{state_of};
 ghost use Rattle.eu_model.specs.Delta.{delta, plus};
 ghost use Rattle.eu_settle.specs.declared.closed.PassLog.{PassLog};
 ghost use Rattle.eu_shared.specs.Closing.{account_of, log_of, logged_by, IsReason};
-ghost use Rattle.eu_shared.specs.Passes.{done_for, new_pass, IsAnsweredBySome, IsBegunBySome, IsBriefInSome, IsRefusedBySome, IsSeenOfSome, IsShownBySome};
+ghost use Rattle.eu_shared.specs.Passes.{done_for, new_pass, IsAnsweredBySome, IsBegunBySome, IsBriefInSome, IsDoneInSome, IsRefusedBySome, IsSeenOfSome, IsShownBySome};
 ghost use Rattle.eu_shared.specs.Shares.{HasNames, HasParts};
 
 use crate::closing::Unclosed;
@@ -24,7 +24,7 @@ use eu_base::{App, Config, Fault, MOST_PEERS, Moment};
 use eu_book::{Journal, Receipt};
 use eu_clock::Chooser;
 use eu_hash::HashKey;
-use eu_model::{Command, Gauges, Query, View};
+use eu_model::{Command, Gauges, Query, Tally, View};
 use eu_settle::Closed;
 use std::alloc::{AllocError, Global};
 use std::hint::spin_loop;
@@ -99,6 +99,13 @@ impl<K: Label> Shared<K> {
         ensures { IfOk result (λ g. IsSeenOfSome moment g) }
     {
         self.lock(rt).book().registry().gauges(alloc, moment)
+    }
+
+    /// What the steps of the shared book did so far, all together (`Book::totals`). Takes no memory.
+    pub fn totals<R: Wait>(&self, rt: &R) -> Tally
+        ensures { IsDoneInSome result }
+    {
+        self.lock(rt).book().totals()
     }
 
     /// Whether it is known that the shared book holds few leases of an application, or in all where none is given, and that each is short

@@ -1,4 +1,5 @@
 //! The tests, by the crates that they are of.
+mod admin;
 mod base;
 mod choice;
 mod clock;

@@ -26,7 +26,7 @@ use Rattle.eu_shared.specs.Passes.{PassAccount, trimmed}
 use Rattle.eu_shared.proofs.TrimLemmas.{from_nothing, from_first_on, from_later, trimmed_is}
 use Rattle.eu_workers.specs.declared.ended.Ended.{Ended}
 use Rattle.eu_workers.specs.Ended.{Counts, IsWithin}
-use Rattle.eu_workers.specs.Returned.{done_by, ComesBack, HasTurn, IsAsked, IsTrimmed, TakesTurns, Tidies}
+use Rattle.eu_workers.specs.Returned.{done_by, ComesBack, HasTurn, IsAsked, IsTrimmed, OnlyLooks, TakesTurns, Tidies}
 
 pub done_on : (ls ms : List Logged) → done_by (ls ++ ms) ≡ plus (done_by ls) (done_by ms)
 done_on [] ms = sym (nothing_plus (done_by ms))
@@ -51,6 +51,25 @@ asked_more p q r one two = record {
   tally =
       two.tally ∙ ap (λ t. plus t (done_by two.added)) one.tally ∙ plus_assoc p.tally (done_by one.added) (done_by two.added)
       ∙ ap (plus p.tally) (sym (done_on one.added two.added));
+  journal_first = omega (arith, one.journal_first, two.journal_first);
+}
+
+-- who only looks asks nothing
+pub asked_by_looking : (p q : PassAccount) → OnlyLooks p q → IsAsked p q
+asked_by_looking p q looks = record {
+  added = [];
+  number = looks.number;
+  log = looks.log ∙ sym (append-nil p.log);
+  tally = looks.tally ∙ sym (plus_nothing p.tally);
+  journal_first = looks.journal_first;
+}
+
+-- who looks twice only looks
+pub looks_more : (p q r : PassAccount) → OnlyLooks p q → OnlyLooks q r → OnlyLooks p r
+looks_more p q r one two = record {
+  number = two.number ∙ one.number;
+  log = two.log ∙ one.log;
+  tally = two.tally ∙ one.tally;
   journal_first = omega (arith, one.journal_first, two.journal_first);
 }
 

@@ -21,6 +21,13 @@ pub record IsAsked (p q : PassAccount) : Type 0 where
   pub tally : q.tally ≡ plus p.tally (done_by added)
   pub journal_first : p.journal_first ≤ q.journal_first
 
+-- a pass only looked: its number, its log and its tallies are as they were
+pub record OnlyLooks (p q : PassAccount) : Type 0 where
+  pub number : q.number ≡ p.number
+  pub log : q.log ≡ p.log
+  pub tally : q.tally ≡ p.tally
+  pub journal_first : p.journal_first ≤ q.journal_first
+
 -- what was done for a pass stays, and its log is trimmed by where it has seen the journal begin, which it may have seen once more
 pub record Tidies (p q : PassAccount) : Type 0 where
   pub number : q.number ≡ p.number

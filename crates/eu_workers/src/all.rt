@@ -206,7 +206,7 @@ fn run_each<
 ///
 /// Session workers that are ready are numbered from 1, in their order. Workers that are at work, or done, stay as they are.
 ///
-/// The caller hands in at most 19 jobs of sessions, one of each timer, no two replicators of one peer, and no session worker that has
+/// The caller hands in at most 20 jobs of sessions, one of each timer, no two replicators of one peer, and no session worker that has
 /// its number beside one that is ready: else two would share a number at the gate.
 pub fn run_all<
     K: Label + Send + Sync,

@@ -125,7 +125,7 @@ fn has_long_body(bytes: &[u8]) -> bool
     bytes.starts_with(POST) && bytes.len() >= READ
 }
 
-/// Whether these bytes are no more than a front of such a path, so that it isn't known yet what is asked for.
+/// Whether these bytes are no more than a front of the method and the path of a listing or a batch, so that it isn't known yet what is asked for.
 fn is_front(bytes: &[u8]) -> bool
     ensures { result ≡ spec.is_front bytes.now }
 {

@@ -13,7 +13,7 @@ use std::sync::Wait;
 
 /// The number at a gate of the replicator of that peer.
 fn number_at_gate(peer: u32) -> u32
-    ensures { result ≡ min (23 + peer) (2 ^ 32 - 1) }
+    ensures { result ≡ min (24 + peer) (2 ^ 32 - 1) }
 {
     FIRST_REPLICATOR.saturating_add(peer)
 }

@@ -1,5 +1,5 @@
 //! Workers that serve sessions, visit by visit.
-ghost use Rattle.std.specs.Prelude.{◌≡◌, ◌<◌, ◌≤◌, ◌+◌, ◌⊎◌, ◌↔◌, ◌||◌, [], None, Some, true, false, length};
+ghost use Rattle.std.specs.Prelude.{◌≡◌, ◌<◌, ◌≤◌, ◌+◌, ◌⊎◌, ◌↔◌, ◌||◌, [], if◌then◌else◌, None, Some, true, false, length};
 ghost use Rattle.eu_workers.specs.Returned.{HasTurn, IsAsked, TakesTurns};
 ghost use Rattle.eu_workers.specs.Visits.{has_ended, judged};
 ghost use Rattle.eu_workers.specs.Visits as spec;
@@ -9,14 +9,18 @@ use crate::ended::Ended;
 use crate::gated::{GatedSink, GatedSource, Halt};
 use crate::incoming::Incoming;
 use crate::long::{is_long, listed};
+use crate::operator::take_operator_turn;
+use crate::responded::responded;
 use crate::site::Site;
 use eu_base::{App, Fault};
 use eu_clock::Clock;
 use eu_framing::{EMPTY_ROOM, Inbox, Room};
 use eu_gate::{Gate, Go, Point};
-use eu_hall::{Guest, Happened, Left, Phase, Sent, Visit};
+use eu_hall::{Guest, Happened, Left, Phase, Sent, ServerFacts, Unsent, Visit};
+use eu_http::Policy;
 use eu_session::{SessionFault, Talk, Turned, take_turn};
 use eu_shared::{Label, Pass, Seat};
+use eu_stream::{Sink, Source};
 use std::alloc::Global;
 use std::io::{Read, Write};
 use std::mem;
@@ -25,8 +29,8 @@ use std::sync::Wait;
 /// How many instances a listing has at most that a loop writes itself: to call another thread would take longer.
 const FEW: usize = 8;
 
-/// How many bytes each of them has at most: so a loop writes no more than it sends at once, some 64 KiB.
-const SHORT: usize = 8_192;
+/// How many bytes of each of them are kept at most as its client gave them: with what the registry adds, a loop writes no more than it sends at once, 64 KiB.
+const SHORT: usize = 7_168;
 
 /// What a worker keeps from visit to visit, so that a connection that waits holds no memory for what is read of it.
 #[derive(Drop)]
@@ -95,6 +99,69 @@ fn judge<S>(
     }
 }
 
+/// Which requests are taken at a visit.
+fn policy_of<'a, K: Label, R: Wait, G: Gate>(
+    site: &Site<'a, K, R, G>,
+    is_warming: bool,
+) -> &'a Policy
+    ensures { result ≡ (if is_warming then site.now.warm_policy else site.now.policy) }
+{
+    if is_warming {
+        site.warm_policy
+    } else {
+        site.policy
+    }
+}
+
+/// Who asks at a visit, and when.
+#[derive(Clone, Copy)]
+struct Asks {
+    /// Whether the server warms up.
+    is_warming: bool,
+    /// What an operator is told of the server. None where a client asks.
+    operator: Option<ServerFacts>,
+}
+
+/// Takes one turn of a client's session, or the one of an operator's.
+#[tactic(auto, using(crate::proofs::TurnLemmas::asked_by_looking))]
+fn take_turn_of<K: Label, R: Wait, G: Gate, C: Clock, S: Source, W: Sink>(
+    site: &Site<'_, K, R, G>,
+    asks: Asks,
+    room: &mut Room,
+    talk: &mut Talk,
+    seat: &mut Seat<'_, K, R>,
+    clock: &mut C,
+    reader: &mut S,
+    writer: &mut W,
+) -> Result<Turned, SessionFault>
+    ensures asked { IsAsked seat.old.pass seat.new.pass }
+    ensures same_reader { S.stream reader.new ≡ S.stream reader.old }
+    ensures same_writer { W.stream writer.new ≡ W.stream writer.old }
+{
+    if let Some(server) = asks.operator {
+        return take_operator_turn(site, server, room, talk, seat, clock, reader, writer);
+    }
+    let policy = policy_of(site, asks.is_warming);
+    take_turn(
+        site.alloc,
+        site.routes,
+        policy,
+        room,
+        talk,
+        seat,
+        clock,
+        reader,
+        writer,
+    )
+}
+
+/// Tells the gate what a client is told by a response, where there is one, which is all that is unsent of its connection.
+fn tell_gate<G: Gate>(gate: &G, who: u32, unsent: &Unsent) {
+    if let Some(told) = responded(unsent.as_slice()) {
+        gate.responded(who, told);
+    }
+}
+
 /// Takes one turn of the session of a connection, of which all is sent: a response never comes into the middle of another.
 fn turn<K: Label, R: Wait, G: Gate, C: Clock, S: Read>(
     site: &Site<'_, K, R, G>,
@@ -117,19 +184,17 @@ fn turn<K: Label, R: Wait, G: Gate, C: Clock, S: Read>(
         visit.is_drained,
     );
     let mut sink = GatedSink::new(&mut guest.unsent, site.gate, who);
-    let turned = take_turn(
-        site.alloc,
-        site.routes,
-        site.policy,
-        room,
-        &mut guest.talk,
-        seat,
-        clock,
-        &mut source,
-        &mut sink,
-    );
+    let asks = Asks {
+        is_warming: visit.is_warming,
+        operator: visit.operator,
+    };
+    let talk = &mut guest.talk;
+    let turned = take_turn_of(site, asks, room, talk, seat, clock, &mut source, &mut sink);
     let halt = source.halt();
     visit.is_drained = source.is_drained();
+    if asks.operator.is_none() {
+        tell_gate(site.gate, who, &guest.unsent);
+    }
     judge(turned, halt, guest)
 }
 
@@ -173,18 +238,22 @@ fn send<S: Write>(visit: &mut Visit<S, Talk>) -> Option<Left>
     }
 }
 
-/// Whether a request that begins so lists few instances now, each of them short. None where it lists nothing, or where that isn't known without more work,
-/// as of a name that is percent-encoded.
-fn is_brief<K: Label, R: Wait>(alloc: Global, seat: &Seat<'_, K, R>, bytes: &[u8]) -> Option<bool> {
-    let name = str::from_utf8(listed(bytes)?).ok()?;
+/// Whether a request that begins so lists few instances now, each of them short. No where it lists nothing, or where that isn't known without more work, as of
+/// a name that is percent-encoded.
+fn is_brief<K: Label, R: Wait>(alloc: Global, seat: &Seat<'_, K, R>, bytes: &[u8]) -> bool {
+    let Some(Ok(name)) = listed(bytes).map(str::from_utf8) else {
+        return false;
+    };
     if name.is_empty() {
-        return Some(seat.shared.is_brief(seat.rt, None, FEW, SHORT));
+        return seat.shared.is_brief(seat.rt, None, FEW, SHORT);
     }
     if name.contains('%') {
-        return None;
+        return false;
     }
-    let app = App::read(alloc, name).ok()?;
-    Some(seat.shared.is_brief(seat.rt, Some(&app), FEW, SHORT))
+    match App::read(alloc, name) {
+        Ok(app) => seat.shared.is_brief(seat.rt, Some(&app), FEW, SHORT),
+        Err(_) => false,
+    }
 }
 
 /// Whether a request that begins so is to be left to others: it takes long, and isn't a listing of few and short instances. It only tells who takes the turn:
@@ -192,7 +261,7 @@ fn is_brief<K: Label, R: Wait>(alloc: Global, seat: &Seat<'_, K, R>, bytes: &[u8
 fn is_left<K: Label, R: Wait>(alloc: Global, seat: &Seat<'_, K, R>, bytes: &[u8]) -> bool
     ensures { result ≡ true → is_long_request bytes.now ≡ true }
 {
-    is_long(bytes) && is_brief(alloc, seat, bytes) != Some(true)
+    is_long(bytes) && !is_brief(alloc, seat, bytes)
 }
 
 /// Looks at the first bytes of the next request, where one that takes long is left to others: reads them, where none are there. Tells how that leaves the
@@ -307,12 +376,12 @@ fn visit<K: Label, R: Wait, G: Gate, S: Incoming, C: Clock>(
 }
 
 /// Visits one connection after the other, until there is none, the gate stops it or it had so many turns, and gives its pass back.
-/// `who` is the worker's number at the gate, 1 to 19.
+/// `who` is the worker's number at the gate, 1 to 20.
 ///
 /// A turn passes the gate, takes the next connection for which there is something to do, sends what is to be sent of it, takes turns of
 /// its session (`eu_session::take_turn`), gives it back, and trims the log of the pass (`Pass::trim`). Each read of the connection passes
-/// the gate first, and fails where that says `Stop`; and each response passes it before it is flushed. A connection that has failed is
-/// counted as refused, and the next one follows.
+/// the gate first, and fails where that says `Stop`; and each response passes it before it is flushed, and is told it once it is made. A connection that
+/// has failed is counted as refused, and the next one follows. Where an operator asks (`Visit::operator`), the connection has one turn, which only looks.
 pub fn run_sessions<K: Label, R: Wait, G: Gate, S: Incoming, C: Clock>(
     site: &Site<'_, K, R, G>,
     who: u32,

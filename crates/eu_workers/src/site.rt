@@ -20,6 +20,8 @@ pub struct Site<'a, K: Label, R: Wait, G: Gate> {
     pub routes: &'a Routes,
     /// Which requests they take.
     pub policy: &'a Policy,
+    /// Which they take while the server warms up.
+    pub warm_policy: &'a Policy,
     /// What they pass before they go on.
     pub gate: &'a G,
 }

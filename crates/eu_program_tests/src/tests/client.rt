@@ -17,7 +17,9 @@ pub enum Step {
     Read(usize, &'static str),
     /// It sends and reads that on a connection that it has for no longer.
     Ask(&'static str, &'static str),
-    /// So it does, and in what it reads each of these stands, and none of those.
+    /// So it does at the port of operators.
+    Watch(&'static str, &'static str),
+    /// So it does at its own, and in what it reads each of these stands, and none of those.
     List(&'static str, &'static [&'static str], &'static [&'static str]),
     /// It waits for so many milliseconds.
     Sleep(u64),
@@ -25,12 +27,13 @@ pub enum Step {
     Within(u64),
 }
 
-/// A client of the server of that address.
+/// A client of the server of that address, to which operators connect at another.
 #[derive(Drop)]
 pub struct Client<'a, R> {
     rt: &'a R,
     alloc: Global,
     address: SocketAddr,
+    operators: SocketAddr,
     began: Instant,
     streams: Vec<TcpStream>,
 }
@@ -45,19 +48,25 @@ fn answered(alloc: Global, stream: &mut TcpStream, request: &str) -> io::Result<
 
 impl<'a, R: Clock + Net<Stream = TcpStream>> Client<'a, R> {
     /// A client without a connection.
-    pub fn new(rt: &'a R, alloc: Global, address: SocketAddr) -> io::Result<Client<'a, R>> {
+    pub fn new(
+        rt: &'a R,
+        alloc: Global,
+        address: SocketAddr,
+        operators: SocketAddr,
+    ) -> io::Result<Client<'a, R>> {
         Ok(Client {
             rt,
             alloc,
             address,
+            operators,
             began: Instant::now(rt)?,
             streams: Vec::new(alloc),
         })
     }
 
-    /// A new connection, of which a read waits for 20 seconds at most.
-    fn connection(&self) -> io::Result<TcpStream> {
-        let stream = TcpStream::connect(self.rt, self.address)?;
+    /// A new connection to that address, of which a read waits for 20 seconds at most.
+    fn connection(&self, address: SocketAddr) -> io::Result<TcpStream> {
+        let stream = TcpStream::connect(self.rt, address)?;
         stream.set_read_timeout(Some(Duration::from_secs(20)))?;
         Ok(stream)
     }
@@ -71,7 +80,7 @@ impl<'a, R: Clock + Net<Stream = TcpStream>> Client<'a, R> {
     }
 
     fn connect(&mut self) -> io::Result<bool> {
-        let stream = self.connection()?;
+        let stream = self.connection(self.address)?;
         self.streams.push(stream)?;
         Ok(true)
     }
@@ -87,14 +96,14 @@ impl<'a, R: Clock + Net<Stream = TcpStream>> Client<'a, R> {
         Ok(fits(str::from_utf8(&answer).unwrap_or(""), pattern))
     }
 
-    fn asks(&self, request: &str, pattern: &str) -> io::Result<bool> {
-        let mut stream = self.connection()?;
+    fn asks(&self, address: SocketAddr, request: &str, pattern: &str) -> io::Result<bool> {
+        let mut stream = self.connection(address)?;
         let answer = answered(self.alloc, &mut stream, request)?;
         Ok(fits(str::from_utf8(&answer).unwrap_or(""), pattern))
     }
 
     fn lists(&self, request: &str, held: &[&str], gone: &[&str]) -> io::Result<bool> {
-        let mut stream = self.connection()?;
+        let mut stream = self.connection(self.address)?;
         let answer = answered(self.alloc, &mut stream, request)?;
         let text = str::from_utf8(&answer).unwrap_or("");
         Ok(has_each(text, held, true) && has_each(text, gone, false))
@@ -115,7 +124,8 @@ impl<'a, R: Clock + Net<Stream = TcpStream>> Client<'a, R> {
             Step::Connect => self.connect(),
             Step::Send(number, text) => self.send(number, text),
             Step::Read(number, pattern) => self.reads(number, pattern),
-            Step::Ask(request, pattern) => self.asks(request, pattern),
+            Step::Ask(request, pattern) => self.asks(self.address, request, pattern),
+            Step::Watch(request, pattern) => self.asks(self.operators, request, pattern),
             Step::List(request, held, gone) => self.lists(request, held, gone),
             Step::Sleep(ms) => self.sleep(ms),
             Step::Within(ms) => self.is_within(ms),

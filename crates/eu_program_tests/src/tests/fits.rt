@@ -1,12 +1,16 @@
 //! Texts, and what they are to be.
 
-/// Whether a text is that of the pattern. A `*` there stands for anything; there is one at most.
+/// Whether a text is that of the pattern. A `*` there stands for anything; there are two at most.
 pub fn fits(text: &str, pattern: &str) -> bool {
     let Some((front, back)) = pattern.split_once('*') else {
         return text == pattern;
     };
-    match text.strip_prefix(front) {
-        Some(rest) => rest.strip_suffix(back).is_some(),
+    let (middle, end) = back.split_once('*').unwrap_or(("", back));
+    let Some(rest) = text.strip_prefix(front) else {
+        return false;
+    };
+    match rest.strip_suffix(end) {
+        Some(rest) => rest.find(middle).is_some(),
         None => false,
     }
 }

@@ -65,10 +65,15 @@ impl Setting {
     }
 }
 
-/// The port of the line that a server writes once it listens.
-fn port_of(told: &[u8]) -> Option<u16> {
+/// Behind what a server tells the port of its clients, and that of operators.
+const CLIENTS: &str = "listening on 127.0.0.1:";
+
+const OPERATORS: &str = "admin on 127.0.0.1:";
+
+/// The port of the line that a server writes so once it listens.
+fn port_of(told: &[u8], front: &str) -> Option<u16> {
     for line in str::from_utf8(told).unwrap_or("").lines() {
-        if let Some(port) = line.strip_prefix("listening on 127.0.0.1:") {
+        if let Some(port) = line.strip_prefix(front) {
             return port.parse::<u16>().ok();
         }
     }
@@ -78,7 +83,10 @@ fn port_of(told: &[u8]) -> Option<u16> {
 /// Whether a server tells such a line at its start: where it listens, a seed, or by which limit it has fewer connections than were asked for.
 fn is_of_start(line: &str) -> bool {
     let is_limit = line.starts_with("at most ") && line.contains(": the limit of descriptors is ");
-    is_limit || line.starts_with("listening on ") || line.starts_with("seed ")
+    is_limit
+        || line.starts_with("listening on ")
+        || line.starts_with("admin on ")
+        || line.starts_with("seed ")
 }
 
 /// Whether a server tells such a line later, unless it is quiet.
@@ -95,13 +103,13 @@ fn tells_no_more(told: &[u8], is_quiet: bool) -> bool {
             return false;
         }
     }
-    port_of(told).is_some()
+    port_of(told, CLIENTS).is_some()
 }
 
-/// The address at which a machine's server tells to listen, once it does.
-fn address_told<R: Wait + Clock>(machine: &Machine<'_, R>) -> io::Result<SocketAddr> {
+/// The address at which a machine's server tells so to listen, once it does.
+fn address_told<R: Wait + Clock>(machine: &Machine<'_, R>, front: &str) -> io::Result<SocketAddr> {
     for _turn in 0..1_000 {
-        if let Some(port) = port_of(&machine.told.err.lock(machine.rt)) {
+        if let Some(port) = port_of(&machine.told.err.lock(machine.rt), front) {
             return Ok(SocketAddr::from((Ipv4Addr::LOCALHOST, port)));
         }
         thread::sleep(machine.rt, Duration::from_millis(10));
@@ -117,8 +125,13 @@ fn is_served<R: Wait + Clock + Net<Stream = TcpStream>>(
     if steps.is_empty() {
         return Ok(true);
     }
-    let address = address_told(machine)?;
-    let mut client = Client::new(machine.rt, machine.alloc, address)?;
+    let address = address_told(machine, CLIENTS)?;
+    let operators = if machine.words.contains(&"--admin-port") {
+        address_told(machine, OPERATORS)?
+    } else {
+        address
+    };
+    let mut client = Client::new(machine.rt, machine.alloc, address, operators)?;
     Ok(client.first_wrong(steps).is_none())
 }
 
@@ -262,12 +275,14 @@ fn an_audit_goes_by_its_options(rt: HostRuntime) {
 /// Help, words that are refused, bad lines, and words that are no text.
 const MISTAKES: &str =
     r#"eureka --help = 0 "A proved lease registry\n\nUsage: eureka <COMMAND>\n*" ""
+eureka --version = 0 "eureka 1.0.0\n" ""
 eureka script --interval 0 = 2 "" "error: invalid value '0' for '--interval <SECONDS>': *"
 eureka script --seed system = 2 "" "error: invalid value 'system' for '--seed <N>': *"
 eureka serve --sessions 0 = 2 "" "error: the following required arguments were not provided:\n  --port <N>\n*"
 eureka serve --port 0 = 2 "" "error: the following required arguments were not provided:\n  --sessions <N>\n*"
 eureka serve --port 0 --sessions 0 --forever = 2 "" "error: the argument '--sessions <N>' cannot be used with '--forever'\n*"
 eureka serve --port 0 --sessions 0 --bind localhost = 2 "" "error: invalid value 'localhost' for '--bind <ADDRESS>': not an IP address\n\nFor more information, try '--help'.\n"
+eureka serve --port 0 --sessions 0 --admin-bind localhost = 2 "" "error: invalid value 'localhost' for '--admin-bind <ADDRESS>': not an IP address\n\nFor more information, try '--help'.\n"
 eureka serve --port 0 --sessions 0 --seed x = 2 "" "error: invalid value 'x' for '--seed <N|system>': neither a u64 nor `system`\n\nFor more information, try '--help'.\n"
 eureka serve --port 0 --sessions 0 --accept-peers maybe = 2 "" "error: invalid value 'maybe' for '--accept-peers <on|off>'*"
 eureka serve --port 0 --sessions 0 --connections 0 = 2 "" "error: invalid value '0' for '--connections <N>': *"

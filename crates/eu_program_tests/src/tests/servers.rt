@@ -24,12 +24,15 @@ fn idle(port: u16) -> Serving {
     Serving {
         port,
         bind: LOCALHOST,
+        admin_port: None,
+        admin_bind: LOCALHOST,
         sessions: Some(0),
         workers: 2,
         expected: 1,
         connections: 100,
         idle_ms: 90_000,
         request_ms: 10_000,
+        warm_up_ms: 0,
         until_input_ends: false,
         is_quiet: false,
         accepts_peers: true,
@@ -51,6 +54,7 @@ fn a_server_of_no_session_ends_at_once(rt: HostRuntime) -> Result<(), Fail> {
 /// Servers at the address that they are given, and at that of the machine alone where they are given none.
 const BOUND: &str =
     r#"eureka serve --port 0 --sessions 0 = 0 "served 0\n" "listening on 127.0.0.1:*\n"
+eureka serve --port 0 --sessions 0 --admin-port 0 --admin-bind 127.0.0.3 = 0 "served 0\n" "listening on 127.0.0.1:*\nadmin on 127.0.0.3:*\n"
 eureka serve --port 0 --sessions 0 --bind 127.0.0.2 = 0 "served 0\n" "listening on 127.0.0.2:*\n"
 eureka serve --port 0 --sessions 0 --bind 0.0.0.0 --seed system = 0 "served 0\n" "seed 3\nlistening on 0.0.0.0:*\n""#;
 
@@ -154,8 +158,21 @@ const CROWDED: [Step; 7] = [
     Step::Ask(LOOK, "HTTP/1.1 200 *"),
 ];
 
+/// An operator sees that nothing is listed at first, and a client is told so.
+const WARMING_UP: [Step; 2] = [
+    Step::Watch(
+        "GET /health HTTP/1.1\r\nHost: x\r\n\r\n",
+        "HTTP/1.1 200 *warming up\n",
+    ),
+    Step::Ask(LIST, "HTTP/1.1 403 *"),
+];
+
 /// Servers that keep the limits of their connections that they are given.
-const LIMITED: [Served; 3] = [
+const LIMITED: [Served; 4] = [
+    (
+        r#"eureka serve --port 0 --sessions 1 --admin-port 0 --warm-up-ms 60000 = 0 "served 1\n" "listening on 127.0.0.1:*\nadmin on 127.0.0.1:*\n""#,
+        &WARMING_UP,
+    ),
     (
         r#"eureka serve --port 0 --sessions 1 --idle-ms 200 = 0 "served 1\n" "listening on 127.0.0.1:*\n""#,
         &SILENT,

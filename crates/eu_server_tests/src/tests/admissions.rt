@@ -40,6 +40,26 @@ fn connections_are_admitted_refused_and_dropped(rt: HostRuntime) {
     );
 }
 
+/// So many operators are let in beside clients as there is spare room, and counted as nothing else.
+#[test]
+fn operators_are_admitted_beside_clients(rt: HostRuntime) {
+    let mut admission = Admission::new(1, 1);
+    assert!(rt; admission.admit(1) == Entry::Admitted && !admission.is_open());
+    for _ in 0..SPARE {
+        assert!(rt; admission.admit_operator());
+    }
+    assert!(rt; !admission.admit_operator());
+    admission.let_out_operator();
+    assert!(rt; admission.admit_operator());
+    assert_eq!(rt;
+        (admission.came, admission.here, admission.operators),
+        (1, 1, 64)
+    );
+    admission.close(false);
+    admission.let_out_operator();
+    assert!(rt; !admission.admit_operator());
+}
+
 #[test]
 fn a_server_is_open_until_enough_have_come_or_it_is_closed(rt: HostRuntime) {
     let mut admission = Admission::new(1, 2);

@@ -23,6 +23,8 @@ pub enum Step<'a> {
     Read(usize, &'a str),
     /// It reads that on a connection, behind which more may come.
     Next(usize, Text<'a>),
+    /// It reads a connection to its end, and finds each of these in that.
+    Finds(usize, &'a [&'a str]),
     /// It reads so many bytes on a connection, and then the end.
     Length(usize, usize),
     /// It ends its side of a connection.
@@ -86,6 +88,21 @@ fn reads_next(alloc: Global, stream: &mut TcpStream, wanted: Text<'_>) -> io::Re
     let mut answer = Vec::from_elem(alloc, 0u8, wanted.len())?;
     stream.read_exact(&mut answer)?;
     Ok(answer.as_slice() == wanted.as_bytes())
+}
+
+/// Whether each of these is found in what is read of a connection, to its end.
+fn finds(alloc: Global, stream: &mut TcpStream, wanted: &[&str]) -> io::Result<bool> {
+    let mut answer = Vec::new(alloc);
+    stream.read_to_end(&mut answer)?;
+    let Ok(text) = str::from_utf8(answer.as_slice()) else {
+        return Ok(false);
+    };
+    for part in wanted {
+        if !text.contains(part) {
+            return Ok(false);
+        }
+    }
+    Ok(true)
 }
 
 /// Whether a write failed since the server had closed the connection, rather than that the client gave up.
@@ -165,6 +182,11 @@ impl<'a, R: Clock + Net<Stream = TcpStream>> Client<'a, R> {
         reads_next(alloc, self.stream(number)?, wanted)
     }
 
+    fn finds(&mut self, number: usize, wanted: &[&str]) -> io::Result<bool> {
+        let alloc = self.alloc;
+        finds(alloc, self.stream(number)?, wanted)
+    }
+
     fn reads_so_many(&mut self, number: usize, wanted: usize) -> io::Result<bool> {
         let alloc = self.alloc;
         reads_so_many(alloc, self.stream(number)?, wanted)
@@ -231,6 +253,7 @@ impl<'a, R: Clock + Net<Stream = TcpStream>> Client<'a, R> {
             }
             Step::Read(number, wanted) => self.reads(number, wanted),
             Step::Next(number, wanted) => self.reads_next(number, wanted),
+            Step::Finds(number, wanted) => self.finds(number, wanted),
             Step::Length(number, wanted) => self.reads_so_many(number, wanted),
             Step::End(number) => self.ends(number),
             Step::Silence(number) => self.reads_nothing(number),

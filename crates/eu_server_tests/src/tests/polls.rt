@@ -29,7 +29,8 @@ fn left_by_a_failed_poll<R: Wait + Clock + Net + Eprint>(
 ) -> io::Result<(bool, bool, bool)> {
     let limits = Limits::of_server();
     let periods = Periods::of_server(60_000);
-    let (hub, mut polls) = Hub::open(rt, alloc, limits, periods, Admission::new(9, 2), None)?;
+    let admission = Admission::new(9, 2);
+    let (hub, mut polls) = Hub::open(rt, alloc, limits, periods, admission, 2, None)?;
     let mut has_one = (true, true);
     if let Some(poll) = polls.pop() {
         close(poll.as_raw_fd());

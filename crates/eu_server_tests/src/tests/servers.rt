@@ -35,7 +35,7 @@ pub enum Way {
 }
 
 /// Whether a server by a plan writes how many connections it is to serve.
-fn serves<R: Threads + Wait + Clock + Net + Eprint + Sync>(
+pub fn serves<R: Threads + Wait + Clock + Net + Eprint + Sync>(
     rt: &R,
     alloc: Global,
     listener: &TcpListener,
@@ -186,11 +186,13 @@ pub fn plan(sessions: u32, workers: u32, waits: Waits) -> Result<Plan, Fault> {
                 linger,
             },
             linger_bytes,
+            warm_up_ms: 0,
         },
         input: None,
         is_quiet: true,
         hash_key: HashKey::new(0, 0),
         policy: Policy::open(),
+        operators: None,
     })
 }
 
@@ -412,7 +414,7 @@ fn a_client_that_sends_more_has_its_answer(rt: HostRuntime) -> Result<(), Fail> 
     Ok(())
 }
 
-const CUT_OFF: [Row; 4] = [
+const CUT_OFF: [Row; 3] = [
     // It sends requests, and reads no answer.
     (
         1,
@@ -452,17 +454,6 @@ const CUT_OFF: [Row; 4] = [
             Step::Connect(1),
             Step::Send(0, RENEWAL),
             Step::CutOff(0, &[("x", 1)], 150, 20),
-        ],
-    ),
-    // Its time is up for bytes that come fast as well, however many may come.
-    (
-        1,
-        2,
-        (10_000, 1_000, 100, usize::MAX),
-        &[
-            Step::Connect(1),
-            Step::Send(0, RENEWAL),
-            Step::CutOff(0, &[("x", 16_384)], 100_000, 0),
         ],
     ),
 ];

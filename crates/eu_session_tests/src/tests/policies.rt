@@ -113,3 +113,33 @@ fn bodies_are_as_short_as_the_policy_says(rt: HostRuntime) {
         Ok(None)
     );
 }
+
+/// A server that warms up lists nothing, and takes all else.
+const WARMING: &str = r#"register = HTTP/1.1 204 No Content¶¶
+GET /eureka/apps HTTP/1.1¶Host: x¶¶ = HTTP/1.1 403 Forbidden¶Content-Length: 0¶¶
+GET /eureka/v2/apps/?x HTTP/1.1¶Host: x¶¶ = HTTP/1.1 403 Forbidden¶Content-Length: 0¶¶
+GET /eureka/apps/A HTTP/1.1¶Host: x¶¶ = HTTP/1.1 403 Forbidden¶Content-Length: 0¶¶
+GET http://host/eureka/apps/%41/ HTTP/1.1¶Host: x¶¶ = HTTP/1.1 403 Forbidden¶Content-Length: 0¶¶
+GET /eureka/apps/delta HTTP/1.1¶Host: x¶¶ = HTTP/1.1 403 Forbidden¶Content-Length: 0¶¶
+PUT /eureka/apps HTTP/1.1¶Host: x¶¶ = HTTP/1.1 404 Not Found¶Content-Length: 0¶¶
+PUT /eureka/apps/A/i1 HTTP/1.1¶Host: x¶Origin: https://site.example¶¶ = HTTP/1.1 200 OK¶Content-Length: 0¶¶
+PUT /eureka/apps/A/i1 HTTP/1.1¶Host: x¶Origin: https://other.example¶¶ = HTTP/1.1 403 Forbidden¶Content-Length: 0¶¶
+POST /eureka/peerreplication/batch/ {"replicationList":[]} = HTTP/1.1 403 Forbidden¶Content-Length: 0¶¶
+PUT /eureka/apps/A/i1 HTTP/1.1¶Host: x¶¶ = HTTP/1.1 200 OK¶Content-Length: 0¶¶
+DELETE /eureka/apps/A/i1 HTTP/1.1¶Host: x¶¶ = HTTP/1.1 200 OK¶Content-Length: 0¶¶
+steps = 4"#;
+
+/// The place from 1 of the first wrong line of a text, while a server warms up that takes no requests of peers, and those of one site.
+fn first_wrong_while_warming(alloc: Global, text: &str) -> Result<Option<usize>, Fault> {
+    let policy = Policy::new(alloc, false, MAX_BODY, Some("https://site.example"))?;
+    let warm_policy = policy.while_warming(alloc)?;
+    drop(policy);
+    let wrong = first_wrong_by(alloc, &warm_policy, USUAL, text);
+    drop(warm_policy);
+    wrong
+}
+
+#[test]
+fn a_server_that_warms_up_lists_nothing(rt: HostRuntime) {
+    assert_eq!(rt; first_wrong_while_warming(rt.alloc(), WARMING), Ok(None));
+}

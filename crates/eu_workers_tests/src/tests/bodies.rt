@@ -168,12 +168,19 @@ const BEFORE_ID: &str =
 const BEHIND_ID: &str =
     "\",\"hostName\":\"h\",\"app\":\"A\",\"ipAddr\":\"10.0.0.1\",\"status\":\"UP\",\"lastDirtyTimestamp\":\"5\",\"dataCenterInfo\":{\"name\":\"MyOwn\"}}}";
 
-/// A registration at application C of which more than 8,192 bytes are kept.
-const LONG_ONE: Parts<'static> = Parts {
-    head: b"POST /eureka/apps/C HTTP/1.1\r\nHost: x\r\nContent-Length: 9156\r\n\r\n{\"instance\":{\"instanceId\":\"z\",\"hostName\":\"h\",\"app\":\"C\",\"ipAddr\":\"10.0.0.1\",\"status\":\"UP\",\"lastDirtyTimestamp\":\"5\",\"dataCenterInfo\":{\"name\":\"MyOwn\"},\"x\":\"",
-    body: 9_000,
-    tail: b"\"}}",
-};
+/// Registrations of which 7,169 bytes are kept, at application C, and 7,168, at application D: what else than the registry's own members was given, as compact JSON, a comma before each member and no bracket around them.
+const LONG_ONES: [Parts<'static>; 2] = [
+    Parts {
+        head: b"POST /eureka/apps/C HTTP/1.1\r\nHost: x\r\nContent-Length: 7249\r\n\r\n{\"instance\":{\"instanceId\":\"z\",\"hostName\":\"h\",\"app\":\"C\",\"ipAddr\":\"10.0.0.1\",\"status\":\"UP\",\"lastDirtyTimestamp\":\"5\",\"dataCenterInfo\":{\"name\":\"MyOwn\"},\"x\":\"",
+        body: 7_093,
+        tail: b"\"}}",
+    },
+    Parts {
+        head: b"POST /eureka/apps/D HTTP/1.1\r\nHost: x\r\nContent-Length: 7248\r\n\r\n{\"instance\":{\"instanceId\":\"z\",\"hostName\":\"h\",\"app\":\"D\",\"ipAddr\":\"10.0.0.1\",\"status\":\"UP\",\"lastDirtyTimestamp\":\"5\",\"dataCenterInfo\":{\"name\":\"MyOwn\"},\"x\":\"",
+        body: 7_092,
+        tail: b"\"}}",
+    },
+];
 
 /// Whether a client registers that many more instances of application A, which have an id of one letter.
 fn register<K: Label, R: Wait>(site: &Site<'_, K, R, Open>, ids: &str) -> Result<bool, Fault> {
@@ -212,15 +219,15 @@ fn whole(request: &[u8]) -> Parts<'_> {
 /// A request, in the two pieces that are read, what its answer begins by, and how often it is left to others.
 type Case = (&'static str, &'static str, &'static [u8], u32);
 
-/// Where nine instances of A are held, and one of C that is long.
-const CASES: [Case; 8] = [
+/// Where nine instances of A are held, one of C that is long, and one of D that is the longest of those that are short.
+const CASES: [Case; 9] = [
     (
         "PUT /eureka/apps/A/a HTTP/1.1\r\n",
         "Host: x\r\n\r\n",
         b"HTTP/1.1 200 OK\r\n",
         0,
     ),
-    // An application whose name is encoded, one whose name isn't, and one whose only instance is long.
+    // An application whose name is encoded, one whose name isn't, one whose only instance is long, and one whose only instance is short.
     (
         "GET /eureka/apps/%62/ HTTP/1.1\r\n",
         "Host: x\r\n\r\n",
@@ -238,6 +245,12 @@ const CASES: [Case; 8] = [
         "Host: x\r\n\r\n",
         LISTED,
         1,
+    ),
+    (
+        "GET /eureka/apps/d HTTP/1.1\r\n",
+        "Host: x\r\n\r\n",
+        LISTED,
+        0,
     ),
     // All, behind an empty line, by a whole address, and where no more than a front of the path is read at first.
     (
@@ -267,9 +280,12 @@ const CASES: [Case; 8] = [
     ),
 ];
 
-/// The number of the first case that goes otherwise, once an instance of C is registered that is long.
+/// The number of the first case that goes otherwise, once an instance of C and one of D are registered.
 fn first_otherwise<K: Label, R: Wait>(site: &Site<'_, K, R, Open>) -> Result<Option<usize>, Fault> {
-    if times_left(site, LONG_ONE, REGISTERED)? != Some(1) {
+    let [long, longest_short] = LONG_ONES;
+    if times_left(site, long, REGISTERED)? != Some(1)
+        || times_left(site, longest_short, REGISTERED)? != Some(1)
+    {
         return Err(Fault::BadValue);
     }
     for (number, (head, tail, answer, times)) in CASES.iter().enumerate() {
@@ -338,6 +354,7 @@ fn leaves_at<K: Label, R: Wait>(
         shared,
         routes: &routes,
         policy: &policy,
+        warm_policy: &policy,
         gate: &Open,
     };
     let left = all_left(&site);

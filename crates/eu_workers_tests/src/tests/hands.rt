@@ -81,6 +81,7 @@ pub fn work_through<
         shared,
         routes: &routes,
         policy: &policy,
+        warm_policy: &policy,
         gate,
     };
     run_all(&site, workers);

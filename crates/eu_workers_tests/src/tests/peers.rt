@@ -70,6 +70,7 @@ fn replicate_by<K: Label, L: Label, R: Wait>(
         shared: here,
         routes: &routes,
         policy: &policy,
+        warm_policy: &policy,
         gate: &Open,
     };
     let ended = work(&site, peer);

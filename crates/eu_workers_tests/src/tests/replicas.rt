@@ -107,6 +107,7 @@ fn send_from<K: Label, R: Wait>(
         shared,
         routes: &routes,
         policy: &policy,
+        warm_policy: &policy,
         gate: &Open,
     };
     let reached = reach(&site, number, *config);
@@ -233,6 +234,7 @@ fn turns_by<K: Label, R: Wait>(
         shared,
         routes: &routes,
         policy: &policy,
+        warm_policy: &policy,
         gate: &Open,
     };
     let done = turns_at(&site);

@@ -150,6 +150,7 @@ fn work_by<K: Label, R: Wait>(
         shared,
         routes: &routes,
         policy: &policy,
+        warm_policy: &policy,
         gate: &Always { go },
     };
     let timers = work_at(&site, clock, limits);
@@ -321,6 +322,7 @@ fn roll_on<K: Label, R: Wait>(
         shared,
         routes: &routes,
         policy: &policy,
+        warm_policy: &policy,
         gate: &Always { go: Go::On },
     };
     let after_minute = roll_at(&site, turns);

@@ -253,6 +253,7 @@ fn work_on<K: Label, R: Wait>(
         shared,
         routes: &routes,
         policy: &policy,
+        warm_policy: &policy,
         gate: &Twice {
             turns: AtomicU64::new(0),
         },

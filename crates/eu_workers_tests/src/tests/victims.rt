@@ -122,6 +122,7 @@ fn evicts_of<K: Label, R: Wait>(
         shared,
         routes: &routes,
         policy: &policy,
+        warm_policy: &policy,
         gate: &Open,
     };
     let evicted = evicts(&site);

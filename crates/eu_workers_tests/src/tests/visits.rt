@@ -51,5 +51,7 @@ pub fn visit<S: Drop>(
         reads_on: true,
         is_drained: false,
         sends_on: true,
+        is_warming: false,
+        operator: None,
     })
 }

@@ -16,7 +16,9 @@ returns-clause-app c =
     let request_ms : rule_of c.help-request_ms.result ≡ option_rule (codes "request-ms") (Signed (pos 1) (pos 4294967295)) (codes "10000") = rw (c.help-request_ms.ensures, ← request_ms_range) c.option-3.ensures.rule in
     let first = c.in_ok-arg.ensures.shape (rw c.help-connections.ensures c.option.ensures.local) ∙ ap₂ with_rule refl connections in
     let second = c.in_ok-arg-2.ensures.shape (rw c.help-idle_ms.ensures c.option-2.ensures.local) ∙ ap₂ with_rule first idle_ms in
-    IfOk-weaker c.arg-3.result _ _ (λ _ h. h.shape (rw c.help-request_ms.ensures c.option-3.ensures.local) ∙ ap₂ with_rule second request_ms) c.arg-3.ensures
+    let third = c.in_ok-arg-3.ensures.shape (rw c.help-request_ms.ensures c.option-3.ensures.local) ∙ ap₂ with_rule second request_ms in
+    let warm_up_ms : rule_of c.help-warm_up_ms.result ≡ option_rule (codes "warm-up-ms") (Signed (pos 0) (pos 4294967295)) (codes "0") = rw (c.help-warm_up_ms.ensures, ← c.value_parser-4.ensures) c.option-4.ensures.rule in
+    IfOk-weaker c.arg-4.result _ _ (λ _ h. h.shape (rw c.help-warm_up_ms.ensures c.option-4.ensures.local) ∙ ap₂ with_rule third warm_up_ms) c.arg-4.ensures
 
 pub returns-clause-local : goal.returns-clause-local
 returns-clause-local c = λ none.
@@ -25,4 +27,6 @@ returns-clause-local c = λ none.
     let request_ms : c.help-request_ms.result.global ≡ false = rw c.help-request_ms.ensures c.option-3.ensures.local in
     let first = c.in_ok-arg.ensures.globals ∙ ap₂ (λ a b. a || b) none connections in
     let second = c.in_ok-arg-2.ensures.globals ∙ ap₂ (λ a b. a || b) first idle_ms in
-    IfOk-weaker c.arg-3.result _ _ (λ _ h. h.globals ∙ ap₂ (λ a b. a || b) second request_ms) c.arg-3.ensures
+    let warm_up_ms : c.help-warm_up_ms.result.global ≡ false = rw c.help-warm_up_ms.ensures c.option-4.ensures.local in
+    let third = c.in_ok-arg-3.ensures.globals ∙ ap₂ (λ a b. a || b) second request_ms in
+    IfOk-weaker c.arg-4.result _ _ (λ _ h. h.globals ∙ ap₂ (λ a b. a || b) third warm_up_ms) c.arg-4.ensures

@@ -1,4 +1,4 @@
-use Rattle.std.proofs.Common.{List, filter, get_or, length, slice_get, sym, ap, ◌∙◌, Some, arith}
+use Rattle.std.proofs.Common.{List, filter, get_or, length, slice_get, sym, ap, ◌∙◌, arith}
 use Rattle.std.specs.Map.{keys_of, values_of}
 use Rattle.std.specs.Map.Iter.{deref_pair}
 use Rattle.std.specs.Option.{option_copied, option_map}

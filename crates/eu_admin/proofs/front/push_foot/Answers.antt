@@ -1,0 +1,7 @@
+use Rattle.std.proofs.Common.{append_assoc}
+use Rattle.eu_admin.specs.Front.{foot}
+use Rattle.eu_admin.proofs.front.push_foot.Goals as goal
+
+pub returns : goal.returns
+unfolding foot
+returns c = simp (c.in_ok-push_str-2.ensures.bytes, c.in_ok-push_escaped.ensures, c.in_ok-push_str.ensures.bytes, append_assoc)

@@ -1,0 +1,7 @@
+use Rattle.std.proofs.Common.{append_assoc}
+use Rattle.eu_admin.specs.Front.{statuses}
+use Rattle.eu_admin.proofs.front.push_statuses.Goals as goal
+
+pub returns : goal.returns
+unfolding statuses
+returns c = simp (c.in_ok-push_row-5.ensures, c.in_ok-push_row-4.ensures, c.in_ok-push_row-3.ensures, c.in_ok-push_row-2.ensures, c.in_ok-push_row.ensures, append_assoc)

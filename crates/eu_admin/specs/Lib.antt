@@ -1,0 +1,10 @@
+pub mod Apps
+pub mod Facts
+pub mod Front
+pub mod Law
+pub mod Lines
+pub mod Markup
+pub mod Metrics
+pub mod Parts
+pub mod Requests
+pub mod Responses

@@ -1,0 +1,10 @@
+use Rattle.std.proofs.Common.{◌≡◌, take, drop, map}
+use Rattle.eu_gate.specs.Tallies as spec
+use Rattle.eu_gate.proofs.tally.count_in.Given as goal
+
+-- those so far are counted, and the others as they were
+abbrev pub invariant-loop-count : goal.invariant-loop-count
+invariant-loop-count l = record {
+  so_far : take l.count-index l.counts ≡ map (spec.counted l.number) (take l.count-index l.fn.counts);
+  left : drop l.count-index l.counts ≡ drop l.count-index l.fn.counts;
+}

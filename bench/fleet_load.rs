@@ -12,8 +12,8 @@
 //!
 //! `fleet_load lists PORT CLIENTS SECONDS`: each client fetches the listing of all without pause. Prints how many were fetched, and how many bytes.
 //!
-//! `fleet_load fleet PORT CLIENTS SECONDS [PAUSE_S]`: each client has two connections. By one it renews its lease each 2 s, or each PAUSE_S, by the other it
-//! fetches the listing of all at each fifth of these times. Prints as `beats` does, and how many listings were fetched.
+//! `fleet_load fleet PORT CLIENTS SECONDS [PAUSE_S [EACH]]`: each client has two connections. By one it renews its lease each 2 s, or each PAUSE_S, by the other it
+//! fetches the listing of all at each fifth of these times, or at one of EACH. Prints as `beats` does, and how many listings were fetched, and their bytes.
 //!
 //! `fleet_load register PORT LEASES`: registers A/i1 and so on.
 //!
@@ -99,11 +99,12 @@ fn register(port: u16, leases: usize) -> io::Result<()> {
     Ok(())
 }
 
-/// What clients measured: the microseconds of each heartbeat, and how many failed.
+/// What clients measured: the microseconds of each request, how many failed, and the bytes of the bodies.
 #[derive(Default)]
 struct Times {
     micros: Vec<u32>,
     failed: u64,
+    bytes: u64,
 }
 
 impl Times {
@@ -257,8 +258,15 @@ fn lists(port: u16, clients: usize, seconds: u64) {
     println!("listings {} bytes {} failed {failed}", count.load(Ordering::Relaxed), bytes.load(Ordering::Relaxed));
 }
 
+/// How a fleet behaves: it renews at each pause, and lists at one of so many of these times.
+#[derive(Clone, Copy)]
+struct Habit {
+    pause: Duration,
+    each: usize,
+}
+
 /// Some clients of a fleet, one after the other, in the time that each of them has.
-fn members(port: u16, first: usize, count: usize, until: Instant, pause: Duration, listings: &AtomicU64) -> Times {
+fn members(port: u16, first: usize, count: usize, until: Instant, habit: Habit, listings: &Listings) -> Times {
     let mut times = Times::default();
     let mut buffer = Vec::new();
     let mut beats: Vec<Option<(TcpStream, usize)>> = (0..count).map(|_| None).collect();
@@ -269,14 +277,15 @@ fn members(port: u16, first: usize, count: usize, until: Instant, pause: Duratio
         for at in 0..count {
             let request = renewal(first + at);
             times.add(once(port, &mut beats[at], &mut buffer, &request));
-            if (round + at) % 5 == 0 {
+            if (round + at) % habit.each == 0 {
                 let listed = once(port, &mut reads[at], &mut buffer, LISTING);
                 times.failed += listed.failed;
-                listings.fetch_add(listed.micros.len() as u64, Ordering::Relaxed);
+                listings.count.fetch_add(listed.micros.len() as u64, Ordering::Relaxed);
+                listings.bytes.fetch_add(listed.bytes, Ordering::Relaxed);
             }
         }
         round += 1;
-        thread::sleep(pause.saturating_sub(began.elapsed()).min(until.saturating_duration_since(Instant::now())));
+        thread::sleep(habit.pause.saturating_sub(began.elapsed()).min(until.saturating_duration_since(Instant::now())));
     }
     times
 }
@@ -295,17 +304,25 @@ fn once(port: u16, place: &mut Option<(TcpStream, usize)>, buffer: &mut Vec<u8>,
         None => Err(io::ErrorKind::NotConnected.into()),
     };
     match answer {
-        Ok((200, _)) => Times { micros: vec![began.elapsed().as_micros() as u32], failed: 0 },
+        Ok((200, length)) => Times { micros: vec![began.elapsed().as_micros() as u32], failed: 0, bytes: length as u64 },
         _ => {
             *place = None;
-            Times { micros: Vec::new(), failed: 1 }
+            Times { micros: Vec::new(), failed: 1, bytes: 0 }
         }
     }
 }
 
-fn fleet(port: u16, clients: usize, seconds: u64, pause: u64) {
+/// How many listings a fleet fetched, and their bytes.
+#[derive(Default)]
+struct Listings {
+    count: AtomicU64,
+    bytes: AtomicU64,
+}
+
+fn fleet(port: u16, clients: usize, seconds: u64, pause: u64, every: usize) {
     let until = Instant::now() + Duration::from_secs(seconds);
-    let listings = Arc::new(AtomicU64::new(0));
+    let listings = Arc::new(Listings::default());
+    let habit = Habit { pause: Duration::from_secs(pause), each: every };
     let each = clients.div_ceil(40).max(1);
     let threads: Vec<_> = (0..clients)
         .step_by(each)
@@ -314,7 +331,7 @@ fn fleet(port: u16, clients: usize, seconds: u64, pause: u64) {
             let count = each.min(clients - first);
             thread::spawn(move || {
                 thread::sleep(Duration::from_millis(first as u64 * pause * 1_000 / clients as u64));
-                members(port, first + 1, count, until, Duration::from_secs(pause), &listings)
+                members(port, first + 1, count, until, habit, &listings)
             })
         })
         .collect();
@@ -323,7 +340,7 @@ fn fleet(port: u16, clients: usize, seconds: u64, pause: u64) {
         all.add(thread.join().expect("a part of the fleet"));
     }
     all.tell(seconds as f64);
-    println!("listings {}", listings.load(Ordering::Relaxed));
+    println!("listings {} bytes {}", listings.count.load(Ordering::Relaxed), listings.bytes.load(Ordering::Relaxed));
 }
 
 fn chunks(port: u16, bytes: usize, piece: usize) -> io::Result<()> {
@@ -359,7 +376,11 @@ fn main() -> io::Result<()> {
         Some("idle") => idle(port, number(2) as usize, number(3))?,
         Some("slow") => slow(port, number(2) as usize, number(3), number(4))?,
         Some("lists") => lists(port, number(2) as usize, number(3)),
-        Some("fleet") => fleet(port, number(2) as usize, number(3), if words.len() > 4 { number(4) } else { 2 }),
+        Some("fleet") => {
+            let pause = if words.len() > 4 { number(4) } else { 2 };
+            let each = if words.len() > 5 { number(5) as usize } else { 5 };
+            fleet(port, number(2) as usize, number(3), pause, each.max(1));
+        }
         Some("register") => register(port, number(2) as usize)?,
         Some("chunks") => chunks(port, number(2) as usize, number(3) as usize)?,
         _ => panic!("see the first lines of the source"),

@@ -1,5 +1,5 @@
 -- Which failures of an accept are passed over
-use Rattle.std.specs.Prelude.{Bool, true, false, ◌||◌, ◌==◌, ℤ, pos, negsuc, Option, Some, None, if◌then◌else◌}
+use Rattle.std.specs.Prelude.{ℕ, Bool, true, false, ◌||◌, ◌==◌, ℤ, pos, negsuc, Option, Some, None, if◌then◌else◌}
 use Rattle.std.specs.IoError.{error_kind, raw_os_error}
 use Rattle.std.specs.declared.io.Error.{Error}
 use Rattle.std.specs.declared.io.ErrorKind.{ErrorKind}
@@ -17,9 +17,21 @@ is_passing HostUnreachable = true
 is_passing Interrupted = true
 is_passing _ = false
 
--- there is no descriptor (24, 23) or no memory (12, 105) now, or the connection's network had failed before it was accepted (64, 71, 92, 95, 112)
+-- there is no descriptor (24, 23) or no memory (12, 105) now
+abbrev pub wants_more : ℕ → Bool
+wants_more n = n == 12 || n == 23 || n == 24 || n == 105
+
+-- the connection's network had failed before it was accepted
+abbrev pub network_failed : ℕ → Bool
+network_failed n = n == 64 || n == 71 || n == 92 || n == 95 || n == 112
+
+-- it is forbidden (1, 13), or it is one of those that some kernels tell
+abbrev pub is_of_one : ℕ → Bool
+is_of_one n = n == 1 || n == 13 || n == 63 || n == 93 || n == 94 || n == 110
+
+-- the next one may be accepted
 abbrev pub may_pass : Option ℤ → Bool
-may_pass (Some (pos n)) = n == 12 || n == 23 || n == 24 || n == 64 || n == 71 || n == 92 || n == 95 || n == 105 || n == 112
+may_pass (Some (pos n)) = wants_more n || network_failed n || is_of_one n
 may_pass (Some (negsuc n)) = false
 may_pass None = false
 

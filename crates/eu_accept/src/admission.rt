@@ -27,6 +27,8 @@ pub struct Admission {
     pub refused: u64,
     /// How many are open, those that are refused included, and without those of operators.
     pub here: u64,
+    /// How many of these are refused, and open only to be told so.
+    pub refused_here: u64,
     /// How many of operators are open.
     pub operators: u64,
     /// How many loops have not ended.
@@ -42,13 +44,14 @@ pub struct Admission {
 impl Admission {
     /// That of a server which takes so many connections and has so many loops.
     pub fn new(sessions: u64, loops: u32) -> Admission
-        ensures { result ≡ record { left = sessions; came = 0; refused = 0; here = 0; operators = 0; loops = loops; is_closed = false; is_stopping = false; has_failed = false } }
+        ensures { result ≡ record { left = sessions; came = 0; refused = 0; here = 0; refused_here = 0; operators = 0; loops = loops; is_closed = false; is_stopping = false; has_failed = false } }
     {
         Admission {
             left: sessions,
             came: 0,
             refused: 0,
             here: 0,
+            refused_here: 0,
             operators: 0,
             loops,
             is_closed: false,
@@ -64,16 +67,16 @@ impl Admission {
         self.left > 0 && !self.is_closed
     }
 
-    /// What becomes of one that has come: where fewer than `most` are open it is admitted; where fewer than `SPARE` more are, it is refused; else, or
-    /// where no more are accepted, it is dropped.
+    /// What becomes of one that has come: where fewer than `most` that were admitted are open it is admitted; else where fewer than `SPARE` that were refused are, it is
+    /// refused; else, or where no more are accepted, it is dropped.
     fn entry(&self, most: u64) -> Entry
         ensures { result ≡ entry_of most self.now }
     {
         if self.is_closed {
             Entry::Dropped
-        } else if self.here < most {
+        } else if self.here.saturating_sub(self.refused_here) < most {
             Entry::Admitted
-        } else if self.here < most.saturating_add(SPARE) {
+        } else if self.refused_here < SPARE {
             Entry::Refused
         } else {
             Entry::Dropped
@@ -95,6 +98,7 @@ impl Admission {
             Entry::Refused => {
                 self.refused = self.refused.saturating_add(1);
                 self.here = self.here.saturating_add(1);
+                self.refused_here = self.refused_here.saturating_add(1);
             }
             Entry::Dropped => self.refused = self.refused.saturating_add(1),
         }
@@ -122,10 +126,13 @@ impl Admission {
     }
 
     /// Counts one out that was let in, admitted or refused.
-    pub fn let_out(&mut self)
-        ensures { self.new ≡ let_out self.old }
+    pub fn let_out(&mut self, was_refused: bool)
+        ensures { self.new ≡ let_out was_refused self.old }
     {
         self.here = self.here.saturating_sub(1);
+        if was_refused {
+            self.refused_here = self.refused_here.saturating_sub(1);
+        }
     }
 
     /// Notes that no more are accepted, and whether that is because something has failed. What has failed before stays noted.

@@ -6,6 +6,7 @@ ghost use Rattle.eu_accept.specs.Turns.{IsFewest};
 use crate::admission::Entry;
 use crate::hub::Hub;
 use crate::mail::Mail;
+use crate::messages::Message;
 use mio::net::{TcpListener, TcpStream};
 use mio::unix::SourceFd;
 use mio::{Events, Interest, Poll, Token};
@@ -72,13 +73,14 @@ fn is_passing(kind: ErrorKind) -> bool
 }
 
 /// Whether an error of that number of Linux may pass (accept(2), "Error handling"): there is no descriptor (EMFILE 24, ENFILE 23) or no memory
-/// (ENOMEM 12, ENOBUFS 105), of which some may be free soon; or the connection's network had failed before (ENONET 64, EPROTO 71, ENOPROTOOPT 92,
-/// EOPNOTSUPP 95, EHOSTDOWN 112).
+/// (ENOMEM 12, ENOBUFS 105), of which some may be free soon; the connection's network had failed before (ENONET 64, EPROTO 71, ENOPROTOOPT 92,
+/// EOPNOTSUPP 95, EHOSTDOWN 112); the connection is forbidden (EPERM 1, EACCES 13); or it is one of those that some kernels tell (ENOSR 63, EPROTONOSUPPORT 93,
+/// ESOCKTNOSUPPORT 94, ETIMEDOUT 110).
 fn may_pass(number: Option<i32>) -> bool
     ensures { result ≡ spec.may_pass number }
 {
     match number {
-        Some(12 | 23 | 24 | 64 | 71 | 92 | 95 | 105 | 112) => true,
+        Some(1 | 12 | 13 | 23 | 24 | 63 | 64 | 71 | 92 | 93 | 94 | 95 | 105 | 110 | 112) => true,
         _ => false,
     }
 }
@@ -125,18 +127,17 @@ fn fewest(sessions: &[u32]) -> usize
     found
 }
 
-impl<'a, R: Wait + Clock> Door<'a, R> {
+impl<'a, R: Wait + Clock + Net> Door<'a, R> {
     /// The door at a listener, and at that of operators, where there is one: they wait no more from now on. Where an input is named, the server stops at its end: a
     /// pipe or a socket, by its descriptor, that is open as long as the door is. An error is the system's or the clock's; one comes also where the input can't be
     /// polled, as a file.
     pub fn new(
         hub: &'a Hub<'a, R>,
-        net: &impl Net,
         listener: &net::TcpListener,
         operators: Option<&net::TcpListener>,
         input: Option<RawFd>,
     ) -> io::Result<Door<'a, R>> {
-        let poll = Poll::new(net)?;
+        let poll = Poll::new(hub.rt)?;
         let listener = polled(&poll, listener, LISTENER)?;
         let operators = match operators {
             Some(operators) => Some(polled(&poll, operators, OPERATORS)?),
@@ -187,10 +188,11 @@ impl<'a, R: Wait + Clock + Eprint> Door<'a, R> {
         let Some(mailbox) = self.hub.boxes.get(number) else {
             return;
         };
+        let is_refused = matches!(mail, Mail::Refused(_));
         mailbox.begin_session(self.hub.rt);
         if mailbox.put(self.hub.rt, mail).is_err() {
             mailbox.end_session(self.hub.rt);
-            self.hub.let_out(number);
+            self.hub.let_out(number, is_refused);
         }
     }
 
@@ -240,19 +242,20 @@ impl<'a, R: Wait + Clock + Eprint> Door<'a, R> {
         Ok(true)
     }
 
-    /// Accepts the connections of operators that wait, at most `MOST_ACCEPTS`. An error where accepting them has failed for good: clients are served on.
-    fn accept_operators(&self) -> Result<(), ()> {
+    /// Accepts the connections of operators that wait, at most `MOST_ACCEPTS`, and tells whether more may wait. An error where accepting them has failed for good: clients
+    /// are served on.
+    fn accept_operators(&self) -> Result<bool, ()> {
         let Some(operators) = &self.operators else {
-            return Ok(());
+            return Ok(false);
         };
         for _accept in 0..MOST_ACCEPTS {
             match accept(operators) {
                 Accepted::One(stream) => self.deal_operator(stream),
-                Accepted::Later => return Ok(()),
+                Accepted::Later => return Ok(false),
                 Accepted::Failed => return Err(()),
             }
         }
-        Ok(())
+        Ok(true)
     }
 
     /// Waits for connections, and accepts them.
@@ -267,8 +270,12 @@ impl<'a, R: Wait + Clock + Eprint> Door<'a, R> {
         let accepted = self.accept_all();
         self.hub.tell_refusals(self.now());
         self.is_behind = accepted?;
-        if self.accept_operators().is_err() {
-            self.operators = None;
+        match self.accept_operators() {
+            Ok(more) => self.is_behind = self.is_behind || more,
+            Err(()) => {
+                self.operators = None;
+                Message::NoOperators.tell(self.hub.rt);
+            }
         }
         Ok(())
     }

@@ -19,6 +19,9 @@ use std::net::Net;
 use std::sync::{Mutex, Wait};
 use std::time::Clock;
 
+/// The number of the first loop at the gate, behind that of the door.
+const FIRST_LOOP: u32 = 2;
+
 /// How many connections a server has, and how long it waits for them.
 #[derive(Clone, Copy, Debug, PartialEq, Eq)]
 pub struct Limits {
@@ -194,6 +197,12 @@ impl<'a, R: Wait + Clock> Hub<'a, R> {
         *count = count.saturating_add(evicted);
     }
 
+    /// The mailbox of the loop that is the worker of that number; none where it is no loop.
+    fn box_of(&self, who: u32) -> Option<&Mailbox> {
+        let number = who.checked_sub(FIRST_LOOP)?;
+        self.boxes.get(number as usize)
+    }
+
     /// Counts a response that a client was given, by the worker of that number.
     pub(crate) fn count_response(&self, who: usize, told: Responded) {
         if let Some(tally) = self.responses.get(who) {
@@ -251,13 +260,13 @@ impl<'a, R: Wait + Clock> Hub<'a, R> {
         self.admission.lock(self.rt).admit_operator()
     }
 
-    /// Counts a connection out of the loop of that number.
-    pub(crate) fn let_out(&self, number: usize) {
+    /// Counts a connection out of the loop of that number, which was admitted or refused.
+    pub(crate) fn let_out(&self, number: usize, was_refused: bool) {
         let mut admission = self.admission.lock(self.rt);
         if self.is_of_operators(number) {
             admission.let_out_operator();
         } else {
-            admission.let_out();
+            admission.let_out(was_refused);
         }
     }
 
@@ -308,6 +317,12 @@ impl<R: Wait + Clock + Eprint> Gate for Hub<'_, R> {
 
     fn responded(&self, who: u32, told: Responded) {
         self.count_response(who as usize, told);
+    }
+
+    fn ended(&self, who: u32) {
+        if let Some(mailbox) = self.box_of(who) {
+            mailbox.end_early(self.rt);
+        }
     }
 
     fn responses(&self) -> Tally {

@@ -1,6 +1,7 @@
 //! A loop of a server: it polls its connections, and calls those for which there is something to do.
 ghost use Rattle.std.specs.Prelude.{◌≡◌, ◌≤◌, ◌+◌, ◌-◌, ◌^◌, ◌++◌, [], true, false, length, min};
 
+use crate::admission::SPARE;
 use crate::behind::drop_what_came;
 use crate::calls::{
     Call, NextStep, asks_still, call_anew, call_of, has_work, is_warming, moment_of_sweep,
@@ -53,6 +54,8 @@ pub struct Loop<'a, R: Wait + Clock> {
     ready: VecDeque<Call>,
     again: Vec<usize>,
     mail: Vec<Mail>,
+    /// The keys of those that are told that there is no room for them.
+    refused: Vec<usize>,
     began: Instant,
     now: u64,
     swept: u64,
@@ -120,6 +123,7 @@ impl<'a, R: Wait + Clock> Loop<'a, R> {
             ready: VecDeque::with_capacity(hub.alloc, most.saturating_add(MOST_EVENTS))?,
             again: Vec::with_capacity(hub.alloc, most)?,
             mail: Vec::with_capacity(hub.alloc, most)?,
+            refused: Vec::with_capacity(hub.alloc, SPARE as usize)?,
             began: Instant::now(hub.rt)?,
             now: 0,
             swept: 0,
@@ -142,10 +146,21 @@ impl<'a, R: Wait + Clock> Loop<'a, R> {
         }
     }
 
-    /// Counts a connection out that got no place.
-    fn turn_away(&self) {
-        self.hub.let_out(self.number);
+    /// Counts a connection out that got no place, and was admitted or refused.
+    fn turn_away(&self, was_refused: bool) {
+        self.hub.let_out(self.number, was_refused);
         self.end_session();
+    }
+
+    /// Forgets that the connection of that key was refused, and tells whether it was.
+    fn forget_refused(&mut self, key: usize) -> bool {
+        match self.refused.iter().position(|refused| *refused == key) {
+            Some(at) => {
+                self.refused.swap_remove(at);
+                true
+            }
+            None => false,
+        }
     }
 
     /// Frees the place of a connection of whose peer this was awaited, and closes what stands there.
@@ -153,9 +168,18 @@ impl<'a, R: Wait + Clock> Loop<'a, R> {
         if !self.hall.leave(key) {
             return;
         }
-        self.hub.let_out(self.number);
+        let was_refused = self.forget_refused(key);
+        self.hub.let_out(self.number, was_refused);
         if phase != Phase::Lingering {
             self.end_session();
+        }
+    }
+
+    /// Closes the connection that stands at that key.
+    fn close(&mut self, key: usize) {
+        if let Some((guest, awaited)) = self.hall.call(key) {
+            drop(guest);
+            self.leave(key, awaited.phase);
         }
     }
 
@@ -236,7 +260,7 @@ impl<'a, R: Wait + Clock> Loop<'a, R> {
             NextStep::ParksForMore(phase, happened) => {
                 self.park_after(visit, phase, happened);
                 if self.again.push(key).is_err() {
-                    self.leave(key, phase);
+                    self.close(key);
                 }
             }
             NextStep::GoesToPool => self.hand_over(visit),
@@ -296,12 +320,17 @@ impl<'a, R: Wait + Clock> Loop<'a, R> {
     }
 
     /// Gives a connection a place, and has it polled, which tells at once what has come of it. It is closed where that fails.
-    fn enter(&mut self, guest: Connection) {
+    fn enter(&mut self, guest: Connection, is_refused: bool) {
         let awaited = Awaited::begin(self.limits.patience, Phase::Idle, self.now);
         let Ok(key) = self.hall.enter(guest, awaited) else {
-            self.turn_away();
+            self.turn_away(is_refused);
             return;
         };
+        if is_refused && self.refused.push(key).is_err() {
+            self.hall.leave(key);
+            self.turn_away(is_refused);
+            return;
+        }
         let Some((mut guest, awaited)) = self.hall.call(key) else {
             return;
         };
@@ -324,14 +353,14 @@ impl<'a, R: Wait + Clock> Loop<'a, R> {
     /// Takes in a connection for which there is no room, to tell it so. It is closed where there is no memory for that.
     fn refuse(&mut self, socket: TcpStream) {
         let Ok(mut guest) = connection(self.hub.alloc, socket) else {
-            self.turn_away();
+            self.turn_away(true);
             return;
         };
         if end_by(guest.as_mut(), FULL) {
             self.count_told(503);
-            self.enter(guest);
+            self.enter(guest, true);
         } else {
-            self.turn_away();
+            self.turn_away(true);
         }
     }
 
@@ -370,7 +399,7 @@ impl<'a, R: Wait + Clock> Loop<'a, R> {
         } else if asks_still(left) {
             self.poll_anew(key);
         } else if self.ready.push_back(call_anew(key)).is_err() {
-            self.leave(key, Phase::Asking);
+            self.close(key);
         }
     }
 
@@ -378,8 +407,8 @@ impl<'a, R: Wait + Clock> Loop<'a, R> {
     fn take_one(&mut self, mail: Mail) {
         match mail {
             Mail::New(socket) => match connection(self.hub.alloc, socket) {
-                Ok(guest) => self.enter(guest),
-                Err(_) => self.turn_away(),
+                Ok(guest) => self.enter(guest, false),
+                Err(_) => self.turn_away(false),
             },
             Mail::Refused(socket) => self.refuse(socket),
             Mail::Back(visit, left) => self.come_back(visit, left),
@@ -459,8 +488,10 @@ impl<'a, R: Wait + Clock> Loop<'a, R> {
         Ok(is_woken)
     }
 
-    /// Has those visited that had all their turns, and may have more to do.
+    /// Has those visited that had all their turns, and may have more to do: each once, however often it was visited before.
     fn call_again(&mut self) -> Result<(), AllocError> {
+        self.again.sort_unstable();
+        self.again.dedup();
         for _key in 0..self.again.len() {
             if let Some(key) = self.again.pop() {
                 self.ready.push_back(call_anew(key))?;

@@ -1,4 +1,6 @@
 //! What a loop is handed by other threads.
+ghost use Rattle.std.specs.Prelude.{◌≡◌, ◌+◌, ◌-◌, ◌^◌, ◌==◌, if◌then◌else◌, min};
+
 use eu_hall::{Left, Visit};
 use eu_session::Talk;
 use mio::Waker;
@@ -18,11 +20,58 @@ pub(crate) enum Mail {
     Back(Visit<TcpStream, Talk>, Left),
 }
 
+/// The sessions that a loop was dealt.
+#[derive(Clone, Copy, Debug)]
+struct Sessions {
+    /// How many aren't over.
+    running: u32,
+    /// How many are over that the loop doesn't know of yet.
+    ended_early: u32,
+}
+
+impl Sessions {
+    /// None.
+    fn none() -> Sessions
+        ensures { result ≡ record { running = 0; ended_early = 0 } }
+    {
+        Sessions {
+            running: 0,
+            ended_early: 0,
+        }
+    }
+
+    /// Counts one that begins.
+    fn begin(&mut self)
+        ensures { self.new ≡ record self.old { running = min (self.old.running + 1) (2 ^ 32 - 1) } }
+    {
+        self.running = self.running.saturating_add(1);
+    }
+
+    /// Counts one out that is over, before the loop knows.
+    fn end_early(&mut self)
+        ensures { self.new ≡ record { running = self.old.running - 1; ended_early = min (self.old.ended_early + 1) (2 ^ 32 - 1) } }
+    {
+        self.running = self.running.saturating_sub(1);
+        self.ended_early = self.ended_early.saturating_add(1);
+    }
+
+    /// Notes that the loop knows of one that is over, which is counted out unless one was before.
+    fn end(&mut self)
+        ensures { self.new ≡ (if self.old.ended_early == 0 then record self.old { running = self.old.running - 1 } else record self.old { ended_early = self.old.ended_early - 1 }) }
+    {
+        if self.ended_early == 0 {
+            self.running = self.running.saturating_sub(1);
+        } else {
+            self.ended_early -= 1;
+        }
+    }
+}
+
 /// Where a loop is handed something. Its waker ends the loop's wait.
 #[derive(Drop)]
 pub struct Mailbox {
     mail: Mutex<Vec<Mail>>,
-    sessions: Mutex<u32>,
+    sessions: Mutex<Sessions>,
     waker: Waker,
 }
 
@@ -31,7 +80,7 @@ impl Mailbox {
     pub fn new(alloc: Global, most: usize, waker: Waker) -> Result<Mailbox, AllocError> {
         Ok(Mailbox {
             mail: Mutex::new(Vec::with_capacity(alloc, most)?),
-            sessions: Mutex::new(0),
+            sessions: Mutex::new(Sessions::none()),
             waker,
         })
     }
@@ -52,19 +101,22 @@ impl Mailbox {
 
     /// How many connections the loop was dealt whose sessions aren't over.
     pub(crate) fn sessions<R: Wait>(&self, rt: &R) -> u32 {
-        *self.sessions.lock(rt)
+        self.sessions.lock(rt).running
     }
 
     /// Counts a connection that the loop is dealt.
     pub(crate) fn begin_session<R: Wait>(&self, rt: &R) {
-        let mut sessions = self.sessions.lock(rt);
-        *sessions = sessions.saturating_add(1);
+        self.sessions.lock(rt).begin();
     }
 
-    /// Counts one out whose session is over.
+    /// Counts one out whose session is over, before its last response is sent: the loop calls `end_session` for it later.
+    pub(crate) fn end_early<R: Wait>(&self, rt: &R) {
+        self.sessions.lock(rt).end_early();
+    }
+
+    /// Counts one out whose session is over, unless `end_early` did.
     pub(crate) fn end_session<R: Wait>(&self, rt: &R) {
-        let mut sessions = self.sessions.lock(rt);
-        *sessions = sessions.saturating_sub(1);
+        self.sessions.lock(rt).end();
     }
 
     /// Takes all out, in place of an empty list.

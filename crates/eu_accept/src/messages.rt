@@ -33,6 +33,8 @@ pub enum Message {
     },
     /// So many connections were refused since this was told before.
     Refused(u64),
+    /// No more connections of operators are accepted, since that has failed for good.
+    NoOperators,
 }
 
 impl Message {
@@ -73,6 +75,9 @@ impl Message {
             }
             Message::Refused(count) => {
                 eprintln!(rt; "connections refused: {count}, as many are open as may be")
+            }
+            Message::NoOperators => {
+                eprintln!(rt; "operators: accepting their connections has failed for good")
             }
         };
     }

@@ -5,12 +5,12 @@ use Rattle.std.proofs.lemmas.Bool.Decides.{nat_tests}
 use Rattle.eu_model.specs.Machine.{Kind, durations}
 use Rattle.eu_model.specs.Machine.Kind.{Fresh, Renewed}
 use Rattle.eu_model.specs.Plain.{last_update}
-use Rattle.eu_admin.specs.declared.facts.Admission.{Admission}
-use Rattle.eu_admin.specs.declared.facts.Admission.TheVariants.{Off, NoThreshold, TooFew, Fine}
+use Rattle.eu_admin.specs.declared.facts.Permission.{Permission}
+use Rattle.eu_admin.specs.declared.facts.Permission.TheVariants.{Off, NoThreshold, TooFew, Fine}
 use Rattle.eu_admin.specs.Law.{Says, IsTouch, permitted_by}
 
 -- the reason by three tests: whether a threshold is there, whether more renewed, and whether it is 0
-abbrev reason : Bool → Bool → Bool → Admission
+abbrev reason : Bool → Bool → Bool → Permission
 reason preservation permitted none = cond (not preservation) Off (cond permitted Fine (cond none NoThreshold TooFew))
 
 abbrev IsRule : Bool → ℕ → ℕ → Bool → Bool → Bool → Type 0

@@ -4,13 +4,13 @@ use Rattle.std.specs.Fmt.{decimal}
 use Rattle.std.specs.List.{flat_map}
 use Rattle.eu_model.specs.declared.status_counts.StatusCounts.{StatusCounts}
 use Rattle.eu_model.specs.declared.views.Counts.{Counts}
-use Rattle.eu_admin.specs.declared.facts.Admission.{Admission}
-use Rattle.eu_admin.specs.declared.facts.Admission.TheVariants.{Off, NoThreshold, TooFew, Fine}
+use Rattle.eu_admin.specs.declared.facts.Permission.{Permission}
+use Rattle.eu_admin.specs.declared.facts.Permission.TheVariants.{Off, NoThreshold, TooFew, Fine}
 use Rattle.eu_admin.specs.declared.facts.Connections.{Connections}
 use Rattle.eu_admin.specs.declared.facts.Done.{Done}
 use Rattle.eu_admin.specs.declared.facts.Facts.{Facts}
 use Rattle.eu_admin.specs.declared.lines.AppLine.{AppLine}
-use Rattle.eu_admin.specs.Facts.{admission}
+use Rattle.eu_admin.specs.Facts.{permission}
 use Rattle.eu_admin.specs.Markup.{encoded, escaped}
 use Rattle.eu_admin.specs.Parts.{head, page_end, section, table_end, row}
 
@@ -32,14 +32,14 @@ enough last threshold =
     codes "<p class=\"banner fine\">Evictions are permitted: "
     ++ (decimal last ++ (codes " renewals in the last minute, above the threshold of " ++ (decimal threshold ++ codes ".</p>\n")))
 
-abbrev pub banner_of : Admission → ℕ → ℕ → List ℕ
+abbrev pub banner_of : Permission → ℕ → ℕ → List ℕ
 banner_of Off last threshold = off
 banner_of NoThreshold last threshold = no_threshold
 banner_of TooFew last threshold = too_few last threshold
 banner_of Fine last threshold = enough last threshold
 
 abbrev pub banner : Counts → List ℕ
-banner c = banner_of (admission c) c.last c.threshold
+banner c = banner_of (permission c) c.last c.threshold
 
 -- ---- the renewals of the last minute, on a meter
 

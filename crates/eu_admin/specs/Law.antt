@@ -4,22 +4,22 @@ use Rattle.eu_model.specs.Machine.{Machine, Record, Kind, is_expired, last, newe
 use Rattle.eu_model.specs.Machine.Kind.{Fresh, Renewed}
 use Rattle.eu_model.specs.Plain.{listed}
 use Rattle.eu_model.specs.View.{counts}
-use Rattle.eu_admin.specs.declared.facts.Admission.{Admission}
-use Rattle.eu_admin.specs.declared.facts.Admission.TheVariants.{Off, NoThreshold, TooFew, Fine}
+use Rattle.eu_admin.specs.declared.facts.Permission.{Permission}
+use Rattle.eu_admin.specs.declared.facts.Permission.TheVariants.{Off, NoThreshold, TooFew, Fine}
 use Rattle.eu_admin.specs.Apps.{heard, held_until}
-use Rattle.eu_admin.specs.Facts.{admission}
+use Rattle.eu_admin.specs.Facts.{permission}
 
 -- ---- why evictions are permitted
 
 -- what a reason says: whether self-preservation is on, and how the renewals of the last minute stand to the threshold
-abbrev pub Says : Bool → ℕ → ℕ → Admission → Type 0
+abbrev pub Says : Bool → ℕ → ℕ → Permission → Type 0
 Says preservation wanted renewed Off = preservation ≡ false
 Says preservation wanted renewed NoThreshold = (preservation ≡ true) × (wanted ≡ 0)
 Says preservation wanted renewed TooFew = (preservation ≡ true) × (0 < wanted) × (renewed ≤ wanted)
 Says preservation wanted renewed Fine = (preservation ≡ true) × (0 < wanted) × (wanted < renewed)
 
 -- and whether evictions are permitted by it
-abbrev pub permitted_by : Admission → Bool
+abbrev pub permitted_by : Permission → Bool
 permitted_by Off = true
 permitted_by NoThreshold = false
 permitted_by TooFew = false
@@ -28,7 +28,7 @@ permitted_by Fine = true
 -- so it is in each machine
 abbrev pub ReasonsAreTheRule : Type 0
 ReasonsAreTheRule = (s : Machine) →
-    Says s.config.preservation (threshold s.config s.expected) (last s.marks) (admission (counts s)) × (permits s ≡ permitted_by (admission (counts s)))
+    Says s.config.preservation (threshold s.config s.expected) (last s.marks) (permission (counts s)) × (permits s ≡ permitted_by (permission (counts s)))
 
 -- ---- when an instance was heard of, and until when its lease is held
 

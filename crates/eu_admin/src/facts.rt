@@ -1,6 +1,6 @@
 //! What is told of a registry and its server.
 ghost use Rattle.std.specs.Prelude.{◌≡◌};
-ghost use Rattle.eu_admin.specs.Facts.{admission};
+ghost use Rattle.eu_admin.specs.Facts.{permission};
 
 use eu_gate::Tally;
 use eu_model::{Counts, Gauges, StatusCounts};
@@ -50,7 +50,7 @@ pub struct Connections {
 
 /// Why leases that expire are evicted, or are held back.
 #[derive(Clone, Copy, Debug, PartialEq, Eq)]
-pub enum Admission {
+pub enum Permission {
     /// Self-preservation is off: they are evicted, however few renew.
     Off,
     /// Nothing is expected yet, so that the threshold is 0: they are held back.
@@ -63,17 +63,17 @@ pub enum Admission {
 
 /// Why evictions are permitted or held back in a registry with these counts (`PeerAwareInstanceRegistryImpl.isLeaseExpirationEnabled` in Eureka). Whether they are
 /// permitted is what the counts say; `reasons_are_the_rule` is the law that ties each reason to the numbers.
-pub fn why(counts: &Counts) -> Admission
-    ensures { result ≡ admission counts.now }
+pub fn why(counts: &Counts) -> Permission
+    ensures { result ≡ permission counts.now }
 {
     if !counts.preservation {
-        return Admission::Off;
+        return Permission::Off;
     }
     if counts.permitted {
-        return Admission::Fine;
+        return Permission::Fine;
     }
     if counts.threshold == 0 {
-        return Admission::NoThreshold;
+        return Permission::NoThreshold;
     }
-    Admission::TooFew
+    Permission::TooFew
 }

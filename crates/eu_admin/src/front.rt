@@ -3,7 +3,7 @@ ghost use Rattle.std.specs.Prelude.{◌≡◌, ◌++◌, IfOk, OnOk, string_byte
 ghost use Rattle.std.specs.List.{flat_map};
 ghost use Rattle.eu_admin.specs.Front as spec;
 
-use crate::facts::{Admission, Connections, Done, Facts, why};
+use crate::facts::{Connections, Done, Facts, Permission, why};
 use crate::lines::AppLine;
 use crate::markup::{push_encoded, push_escaped};
 use crate::parts::{push_end, push_head, push_row, push_section, push_table_end};
@@ -57,10 +57,10 @@ fn push_banner(text: &mut String, counts: &Counts) -> Result<(), AllocError>
     ensures { OnOk result (string_bytes text.new ≡ string_bytes text.old ++ spec.banner counts.now) }
 {
     match why(counts) {
-        Admission::Off => push_off(text),
-        Admission::NoThreshold => push_no_threshold(text),
-        Admission::TooFew => push_too_few(text, counts.last, counts.threshold),
-        Admission::Fine => push_enough(text, counts.last, counts.threshold),
+        Permission::Off => push_off(text),
+        Permission::NoThreshold => push_no_threshold(text),
+        Permission::TooFew => push_too_few(text, counts.last, counts.threshold),
+        Permission::Fine => push_enough(text, counts.last, counts.threshold),
     }
 }
 

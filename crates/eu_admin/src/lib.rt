@@ -15,7 +15,7 @@ mod requests;
 mod responses;
 
 pub use apps::app_page;
-pub use facts::{Admission, Connections, Done, Facts, why};
+pub use facts::{Connections, Done, Facts, Permission, why};
 pub use front::front_page;
 pub use law::{reasons_are_the_rule, silences_are_since_touches};
 pub use lines::{AppLine, lines_of};

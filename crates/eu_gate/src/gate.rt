@@ -74,6 +74,9 @@ pub trait Gate {
     /// Hears what a response told that the worker of that number gave a client. Nothing comes of it but where responses are counted.
     fn responded(&self, _who: u32, _told: Responded) {}
 
+    /// Hears that the session is over which the worker of that number serves. Its last response isn't sent yet, so its client can't come back before this is heard.
+    fn ended(&self, _who: u32) {}
+
     /// How many responses clients were given so far; none where they aren't counted.
     fn responses(&self) -> Tally {
         Tally::none()

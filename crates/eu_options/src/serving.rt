@@ -1,5 +1,5 @@
 //! What the options of a server say.
-ghost use Rattle.std.specs.Prelude.{◌≡◌, ◌≤◌, ◌-◌, min, max};
+ghost use Rattle.std.specs.Prelude.{◌≡◌, ◌≤◌, ◌-◌, if◌then◌else◌, min, max};
 
 use std::net::IpAddr;
 
@@ -57,13 +57,17 @@ pub enum Drawing {
 /// The descriptors of a process that are kept for what is no connection.
 const OTHER_DESCRIPTORS: u64 = 64;
 
-/// How many connections a server has at most that is asked to have so many, where the process may have so many descriptors: 64 of these are for
-/// the rest, and one connection there is always.
-pub fn connections_within(wanted: u32, descriptors: u64) -> u32
-    ensures value { result ≡ min wanted (max 1 (descriptors - 64)) }
+/// Those of operators' connections.
+const OF_OPERATORS: u64 = 64;
+
+/// How many connections of clients a server has at most that is asked to have so many, where the process may have so many descriptors: 64 of these are for
+/// the rest, 128 where operators connect, too, and one connection there is always.
+pub fn connections_within(wanted: u32, descriptors: u64, has_operators: bool) -> u32
+    ensures value { result ≡ min wanted (max 1 (descriptors - (if has_operators then 128 else 64))) }
     ensures few { result ≤ wanted }
 {
-    let most = descriptors.saturating_sub(OTHER_DESCRIPTORS).max(1);
+    let others = OTHER_DESCRIPTORS + if has_operators { OF_OPERATORS } else { 0 };
+    let most = descriptors.saturating_sub(others).max(1);
     match u32::try_from(most) {
         Ok(most) => wanted.min(most),
         Err(_) => wanted,

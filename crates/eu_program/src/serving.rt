@@ -81,13 +81,13 @@ fn descriptors() -> Option<u64> {
 
 /// How many connections a server has at most that is asked to have so many: fewer where the process may not have descriptors for all, which
 /// standard error is told.
-fn most_connections(rt: &impl Eprint, wanted: u32) -> u32
+fn most_connections(rt: &impl Eprint, wanted: u32, has_operators: bool) -> u32
     ensures { result ≤ wanted }
 {
     let Some(descriptors) = descriptors() else {
         return wanted;
     };
-    let most = connections_within(wanted, descriptors);
+    let most = connections_within(wanted, descriptors, has_operators);
     if most < wanted {
         let _ = eprintln!(rt;
             "at most {most} connections: the limit of descriptors is {descriptors}"
@@ -204,7 +204,7 @@ pub fn serve<
         clients: listener,
         operators,
     } = listeners;
-    let connections = most_connections(rt, serving.connections);
+    let connections = most_connections(rt, serving.connections, operators.is_some());
     let mut plan = plan_of(config, serving, connections, key, policy);
     plan.operators = operators;
     if let Some(path) = journal {

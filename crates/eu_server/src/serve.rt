@@ -126,7 +126,7 @@ fn loops_of(plan: &Plan) -> u32
 
 /// What a server by a plan counts at first.
 fn admission_of(plan: &Plan) -> Admission
-    ensures { result ≡ record { left = plan.now.sessions; came = 0; refused = 0; here = 0; operators = 0; loops = spec.loops_of plan.now; is_closed = false; is_stopping = false; has_failed = false } }
+    ensures { result ≡ record { left = plan.now.sessions; came = 0; refused = 0; here = 0; refused_here = 0; operators = 0; loops = spec.loops_of plan.now; is_closed = false; is_stopping = false; has_failed = false } }
 {
     Admission::new(plan.sessions, loops_of(plan))
 }
@@ -286,7 +286,7 @@ fn make_stations<'a, R: Wait + Clock + Net>(
         polls.len().saturating_add(OTHER_WORKERS as usize),
     )?;
     let operators = plan.operators.as_ref();
-    let door = Door::new(hub, hub.rt, listener, operators, plan.input)?;
+    let door = Door::new(hub, listener, operators, plan.input)?;
     stations.push(Station::Door(door))?;
     add_loops(&mut stations, hub, polls)?;
     stations.push(Station::Pool(Hand::new(hub, HandName::First)))?;
@@ -539,7 +539,7 @@ fn serve_new<R: Threads + Wait + Clock + Net + Eprint + Sync, H: Chooser + Send 
 /// Serves so many connections of a listener as the plan says, by its workers, and then writes `served N`, N being how many there were.
 ///
 /// Unless the plan is quiet, standard error is told of each eviction that took leases, of each turn of the evictor at which evictions are permitted and
-/// weren't before, or the other way round, and of connections that are refused, at most once a second (`eu_accept::Message`).
+/// weren't before, or the other way round, and of connections that are refused, at most once a second (`eu_accept::Message`). That no more operators are accepted is told in any case.
 ///
 /// A book is opened with the settings and the number expected, without peers. Each accepted connection is one session of
 /// HTTP/1.1 (`eu_session::take_turn`, turn by turn), at the machine's time; which requests are taken, the plan's policy says (`Policy::forbids`), and that no listing is

@@ -195,7 +195,11 @@ fn turn<K: Label, R: Wait, G: Gate, C: Clock, S: Read>(
     if asks.operator.is_none() {
         tell_gate(site.gate, who, &guest.unsent);
     }
-    judge(turned, halt, guest)
+    let progress = judge(turned, halt, guest);
+    if guest.has_ended {
+        site.gate.ended(who);
+    }
+    progress
 }
 
 /// How a visit left a connection, at which a request was answered before. Where the next one is left to others, it begins anew.

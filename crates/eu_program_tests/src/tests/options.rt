@@ -176,22 +176,27 @@ fn an_address_and_a_seed_are_judged(rt: HostRuntime) {
     assert_eq!(rt; first_wrong(rt.alloc(), &mut Options, WRONG), None);
 }
 
-/// How many connections are wanted, how many descriptors there may be, and how many connections there are at most then.
-const WITHIN: [(u32, u64, u32); 7] = [
-    (10_000, 1_024, 960),
-    (960, 1_024, 960),
-    (959, 1_024, 959),
-    (10_000, 65, 1),
-    (10_000, 64, 1),
-    (10_000, 0, 1),
-    (1_000_000, u64::MAX, 1_000_000),
+/// How many connections are wanted, how many descriptors there may be, whether operators connect, and how many connections there are at most then.
+const WITHIN: [(u32, u64, bool, u32); 9] = [
+    (10_000, 1_024, false, 960),
+    (10_000, 1_024, true, 896),
+    (960, 1_024, false, 960),
+    (959, 1_024, false, 959),
+    (10_000, 65, false, 1),
+    (10_000, 64, false, 1),
+    (10_000, 0, false, 1),
+    (10_000, 128, true, 1),
+    (1_000_000, u64::MAX, true, 1_000_000),
 ];
 
-/// Each descriptor but 64 may be a connection's.
+/// Each descriptor but 64 may be a connection's, or but 128 where operators connect.
 #[test]
 fn connections_are_as_many_as_descriptors_allow(rt: HostRuntime) {
-    for (wanted, descriptors, most) in WITHIN {
-        assert_eq!(rt; connections_within(wanted, descriptors), most);
+    for (wanted, descriptors, has_operators, most) in WITHIN {
+        assert_eq!(rt;
+            connections_within(wanted, descriptors, has_operators),
+            most
+        );
     }
 }
 

@@ -195,9 +195,13 @@ fn a_server_keeps_the_limits_of_its_options(rt: HostRuntime) {
     );
 }
 
-/// What a server tells that is asked for a million connections, where the process may have so many descriptors.
-fn told_of_a_million(alloc: Global, descriptors: u64) -> Result<String, AllocError> {
-    let most = connections_within(1_000_000, descriptors);
+/// What a server tells that is asked for a million connections, where the process may have so many descriptors, and operators connect or not.
+fn told_of_a_million(
+    alloc: Global,
+    descriptors: u64,
+    has_operators: bool,
+) -> Result<String, AllocError> {
+    let most = connections_within(1_000_000, descriptors, has_operators);
     if most == 1_000_000 {
         return Ok(String::new(alloc));
     }
@@ -215,11 +219,15 @@ fn is_limit_told<
     if getrlimit(RLIMIT_NOFILE, &mut limit) != 0 {
         return Ok(true);
     }
-    let told = told_of_a_million(alloc, limit.rlim_cur)?;
+    let told = told_of_a_million(alloc, limit.rlim_cur, false)?;
     let line = format!(in alloc;
         "eureka serve --port 0 --sessions 0 --connections 1000000 = 0 \"served 0\\n\" \"listening on 127.0.0.1:*\\n{told}\""
     )?;
-    Ok(plays(rt, alloc, &line, &[]).is_none())
+    let told = told_of_a_million(alloc, limit.rlim_cur, true)?;
+    let beside = format!(in alloc;
+        "eureka serve --port 0 --admin-port 0 --sessions 0 --connections 1000000 = 0 \"served 0\\n\" \"listening on 127.0.0.1:*\\nadmin on 127.0.0.1:*\\n{told}\""
+    )?;
+    Ok(plays(rt, alloc, &line, &[]).is_none() && plays(rt, alloc, &beside, &[]).is_none())
 }
 
 #[test]

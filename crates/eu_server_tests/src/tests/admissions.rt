@@ -4,7 +4,8 @@ use eu_gate::News;
 use std::test::Fail;
 use std::time::{Duration, Instant};
 
-/// Two are admitted where two may be open, the next ones are refused, as far as there is spare room, and then dropped. One that leaves makes room.
+/// Two are admitted where two may be open, the next ones are refused, as far as there is spare room, and then dropped. One of the two that leaves makes room for
+/// another, also while one is open that was refused.
 #[test]
 fn connections_are_admitted_refused_and_dropped(rt: HostRuntime) {
     let mut admission = Admission::new(5, 1);
@@ -23,11 +24,10 @@ fn connections_are_admitted_refused_and_dropped(rt: HostRuntime) {
         (3, 2, 65, 66)
     );
     for _ in 0..SPARE {
-        admission.let_out();
+        admission.let_out(true);
     }
     assert!(rt; admission.admit(2) == Entry::Refused);
-    admission.let_out();
-    admission.let_out();
+    admission.let_out(false);
     assert!(rt; admission.admit(2) == Entry::Admitted);
     assert_eq!(rt;
         (
@@ -36,8 +36,9 @@ fn connections_are_admitted_refused_and_dropped(rt: HostRuntime) {
             admission.refused,
             admission.here
         ),
-        (2, 3, 66, 2)
+        (2, 3, 66, 3)
     );
+    assert_eq!(rt; admission.refused_here, 1);
 }
 
 /// So many operators are let in beside clients as there is spare room, and counted as nothing else.

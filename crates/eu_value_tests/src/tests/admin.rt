@@ -1,6 +1,6 @@
 //! Metrics and pages for an operator, with what they say worked out by hand.
 use eu_admin::{
-    Admission, AppLine, Connections, Done, Facts, app_page, front_page, lines_of, metrics_text,
+    AppLine, Connections, Done, Facts, Permission, app_page, front_page, lines_of, metrics_text,
     push_encoded, push_escaped, why,
 };
 use eu_base::{App, Fault, Instance, LeaseSecs, RenewalSecs, Rest, SharedInstance, Stamp, Status};
@@ -53,13 +53,13 @@ pub fn counts(preservation: bool, permitted: bool, threshold: u64, last: u64) ->
 #[test]
 fn a_reason_is_told_for_each_of_the_four_cases(rt: HostRuntime) {
     for (preservation, permitted, threshold, last, reason) in [
-        (false, true, 17, 40, Admission::Off),
-        (false, true, 0, 0, Admission::Off),
-        (true, false, 0, 0, Admission::NoThreshold),
-        (true, false, 0, 3, Admission::NoThreshold),
-        (true, false, 17, 17, Admission::TooFew),
-        (true, false, 17, 0, Admission::TooFew),
-        (true, true, 17, 18, Admission::Fine),
+        (false, true, 17, 40, Permission::Off),
+        (false, true, 0, 0, Permission::Off),
+        (true, false, 0, 0, Permission::NoThreshold),
+        (true, false, 0, 3, Permission::NoThreshold),
+        (true, false, 17, 17, Permission::TooFew),
+        (true, false, 17, 0, Permission::TooFew),
+        (true, true, 17, 18, Permission::Fine),
     ] {
         let counts = counts(preservation, permitted, threshold, last);
         assert!(rt; why(&counts) == reason, "at {threshold} and {last}");

@@ -24,7 +24,11 @@ use std::thread::Threads;
 
 const LISTING: &[u8] = b"GET /eureka/apps/ HTTP/1.1\r\nHost: x\r\n\r\n";
 
-/// A gate that says `Stop` at one point, and counts who passes each, and the writes that came before it was passed for them.
+/// The same, behind which the session ends.
+const LAST: &[u8] = b"GET /eureka/apps/ HTTP/1.1\r\nHost: x\r\nConnection: close\r\n\r\n";
+
+/// A gate that says `Stop` at one point, and counts who passes each, and the writes that came before it was passed for them; and whose session is told as over, and
+/// the writes that came before that.
 #[derive(Drop)]
 struct Counting<'a> {
     stops: Option<Point>,
@@ -33,6 +37,8 @@ struct Counting<'a> {
     replies: AtomicU64,
     writes: &'a AtomicU64,
     early: AtomicU64,
+    over: AtomicU64,
+    before_end: AtomicU64,
 }
 
 /// A digit for each worker that is expected, so that a sum of them tells who passed and how often.
@@ -70,6 +76,12 @@ impl Gate for Counting<'_> {
         } else {
             Go::On
         }
+    }
+
+    fn ended(&self, who: u32) {
+        self.over.fetch_add(digit(who), Ordering::SeqCst);
+        let writes = self.writes.load(Ordering::SeqCst);
+        self.before_end.fetch_add(writes, Ordering::SeqCst);
     }
 }
 
@@ -154,24 +166,26 @@ struct Counts {
     sent: AtomicU64,
 }
 
-/// What stops or fails: all workers at one point of the gate, or what the session writes to.
+/// What stops or fails: all workers at one point of the gate, or what the session writes to; and what its client sends.
 #[derive(Clone, Copy)]
 struct Trouble {
     stops: Option<Point>,
     is_broken: bool,
+    request: &'static [u8],
 }
 
 /// Nothing does.
 const NONE: Trouble = Trouble {
     stops: None,
     is_broken: false,
+    request: LISTING,
 };
 
 /// The gate does, at that point.
 fn stops(point: Point) -> Trouble {
     Trouble {
         stops: Some(point),
-        is_broken: false,
+        ..NONE
     }
 }
 
@@ -187,6 +201,8 @@ struct Told {
     ended: u64,
     answered: u64,
     early: u64,
+    /// Whose session was told as over, and the writes that had come by then.
+    over: (u64, u64),
     sent: u64,
     /// The peers whose tasks were drained, in the order of the workers: a digit for each, which is its number and one.
     drained: u64,
@@ -210,14 +226,14 @@ fn push_replicators<'a, K: Label, R: Wait>(
 }
 
 /// One connection, whose writer may be broken.
-fn connection(alloc: Global, counts: &Counts, is_broken: bool) -> Once<'_> {
+fn connection(alloc: Global, counts: &Counts, trouble: Trouble) -> Once<'_> {
     let writer = Keeping {
         kept: Vec::new(alloc),
-        is_broken,
+        is_broken: trouble.is_broken,
         writes: &counts.writes,
     };
     let sides = Sides {
-        reader: LISTING,
+        reader: trouble.request,
         writer,
     };
     Once {
@@ -235,10 +251,10 @@ fn push_all<'a, K: Label, R: Wait>(
     shared: &Shared<K>,
     hands: &mut Vec<Hand<'a, K>>,
     counts: &'a Counts,
-    is_broken: bool,
+    trouble: Trouble,
 ) -> Result<(), Fault> {
     push_timers(rt, alloc, shared, hands)?;
-    let source = connection(alloc, counts, is_broken);
+    let source = connection(alloc, counts, trouble);
     push(rt, alloc, shared, hands, 1, Work::Sessions { source })?;
     push_replicators(rt, alloc, shared, hands, &counts.sent)
 }
@@ -284,9 +300,9 @@ fn run_hands<'a, K: Label + Send + Sync, R: Threads + Wait + Sync>(
     hands: &mut Vec<Hand<'a, K>>,
     gate: &Counting<'_>,
     counts: &'a Counts,
-    is_broken: bool,
+    trouble: Trouble,
 ) -> Result<(), Fault> {
-    push_all(rt, alloc, shared, hands, counts, is_broken)?;
+    push_all(rt, alloc, shared, hands, counts, trouble)?;
     work_through(rt, alloc, shared, gate, hands.as_mut_slice())
 }
 
@@ -299,6 +315,10 @@ fn counted(gate: &Counting<'_>, counts: &Counts) -> Told {
         taken: counts.taken.load(Ordering::SeqCst),
         ended: counts.ended.load(Ordering::SeqCst),
         early: gate.early.load(Ordering::SeqCst),
+        over: (
+            gate.over.load(Ordering::SeqCst),
+            gate.before_end.load(Ordering::SeqCst),
+        ),
         answered: counts.answered.load(Ordering::SeqCst),
         sent: counts.sent.load(Ordering::SeqCst),
         drained: 0,
@@ -313,10 +333,10 @@ fn work<K: Label + Send + Sync, R: Threads + Wait + Sync>(
     shared: &Shared<K>,
     gate: &Counting<'_>,
     counts: &Counts,
-    is_broken: bool,
+    trouble: Trouble,
 ) -> Result<Told, Fault> {
     let mut workers = Vec::new(alloc);
-    let ran = run_hands(rt, alloc, shared, &mut workers, gate, counts, is_broken);
+    let ran = run_hands(rt, alloc, shared, &mut workers, gate, counts, trouble);
     let mut told = counted(gate, counts);
     for worker in workers {
         tell(&mut told, worker);
@@ -363,8 +383,10 @@ fn work_after<K: Label + Send + Sync, R: Threads + Wait + Sync>(
         replies: AtomicU64::new(0),
         writes: &counts.writes,
         early: AtomicU64::new(0),
+        over: AtomicU64::new(0),
+        before_end: AtomicU64::new(0),
     };
-    work(rt, alloc, shared, &gate, &counts, trouble.is_broken)
+    work(rt, alloc, shared, &gate, &counts, trouble)
 }
 
 /// The same of a server with as many peers as there may be.
@@ -388,7 +410,7 @@ fn ran<R: Threads + Wait + Sync>(rt: &R, alloc: Global, trouble: Trouble) -> Res
 }
 
 /// What they do where nothing stops them: each passes the gate before its turn, the session before each of its two reads, of which the
-/// second finds the end, and once before its response is sent, before which no write came.
+/// second finds the end, and once before its response is sent, before which no write came. Behind it the session is told as over.
 const ALL: Told = Told {
     turns: 111_111,
     reads: 2,
@@ -397,6 +419,7 @@ const ALL: Told = Told {
     ended: 1,
     answered: 1,
     early: 0,
+    over: (1, 1),
     sent: 2,
     drained: 81,
     all: Ended {
@@ -423,6 +446,7 @@ fn who_is_stopped_before_a_turn_has_none(rt: HostRuntime) -> Result<(), Fail> {
         ended: 0,
         answered: 0,
         early: 0,
+        over: (0, 0),
         sent: 0,
         drained: 0,
         all: Ended {
@@ -441,6 +465,7 @@ fn a_read_that_is_stopped_ends_the_session(rt: HostRuntime) -> Result<(), Fail> 
         reads: 1,
         replies: 0,
         answered: 0,
+        over: (0, 0),
         all: Ended {
             turns: 6,
             refused: 1,
@@ -462,13 +487,14 @@ fn a_flush_is_not_stopped(rt: HostRuntime) -> Result<(), Fail> {
 #[test]
 fn a_write_that_fails_is_refused(rt: HostRuntime) -> Result<(), Fail> {
     let broken = Trouble {
-        stops: None,
         is_broken: true,
+        ..NONE
     };
     let told = ran(&rt, rt.alloc(), broken)?;
     let failed = Told {
         reads: 1,
         answered: 0,
+        over: (0, 0),
         all: Ended {
             turns: 6,
             refused: 1,
@@ -476,6 +502,23 @@ fn a_write_that_fails_is_refused(rt: HostRuntime) -> Result<(), Fail> {
         ..ALL
     };
     assert!(rt; told == failed);
+    Ok(())
+}
+
+/// So that its client, which may come back at once, is dealt to the loop that it left.
+#[test]
+fn a_session_is_told_as_over_before_its_last_response_is_sent(rt: HostRuntime) -> Result<(), Fail> {
+    let last = Trouble {
+        request: LAST,
+        ..NONE
+    };
+    let told = ran(&rt, rt.alloc(), last)?;
+    let over = Told {
+        reads: 1,
+        over: (1, 0),
+        ..ALL
+    };
+    assert!(rt; told == over);
     Ok(())
 }
 
@@ -493,7 +536,7 @@ impl Gate for Register {
     }
 }
 
-/// Adds as many session workers as a server may have, to which no connection comes.
+/// Adds as many session workers as a server may have loops of clients, to which no connection comes.
 fn push_sixteen<'a, K: Label, R: Wait>(
     rt: &R,
     alloc: Global,

@@ -4,6 +4,7 @@ pub mod Calls
 pub mod Hands
 pub mod Limits
 pub mod Messages
+pub mod Outlets
 pub mod Passing
 pub mod Queues
 pub mod Shares

@@ -7,6 +7,7 @@ use crate::admission::Entry;
 use crate::hub::Hub;
 use crate::mail::Mail;
 use crate::messages::Message;
+use crate::outlet::takes_line_now;
 use mio::net::{TcpListener, TcpStream};
 use mio::unix::SourceFd;
 use mio::{Events, Interest, Poll, Token};
@@ -274,7 +275,9 @@ impl<'a, R: Wait + Clock + Eprint> Door<'a, R> {
             Ok(more) => self.is_behind = self.is_behind || more,
             Err(()) => {
                 self.operators = None;
-                Message::NoOperators.tell(self.hub.rt);
+                if takes_line_now() {
+                    Message::NoOperators.tell(self.hub.rt);
+                }
             }
         }
         Ok(())

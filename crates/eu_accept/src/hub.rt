@@ -7,6 +7,7 @@ use crate::admission::{Admission, Entry, SPARE};
 use crate::loops::WAKER;
 use crate::mail::Mailbox;
 use crate::messages::{Message, Told};
+use crate::outlet::takes_line_now;
 use crate::pace::Pace;
 use crate::pool::Pool;
 use crate::queue::Queue;
@@ -281,11 +282,14 @@ impl<'a, R: Wait + Clock> Hub<'a, R> {
 }
 
 impl<R: Wait + Clock + Eprint> Hub<'_, R> {
-    /// Tells how many connections were refused since that was told before, at that time, in milliseconds: at most once a second.
+    /// Tells how many connections were refused since that was told before, at that time, in milliseconds: at most once a second, and once standard error takes a line.
     pub(crate) fn tell_refusals(&self, now: u64) {
         let Some(told) = &self.told else {
             return;
         };
+        if !takes_line_now() {
+            return;
+        }
         let refused = self.counts().refused;
         let message = told.lock(self.rt).refusals(refused, now);
         self.tell(message);
@@ -310,6 +314,9 @@ impl<R: Wait + Clock + Eprint> Gate for Hub<'_, R> {
         let Some(told) = &self.told else {
             return;
         };
+        if !takes_line_now() {
+            return;
+        }
         let change = told.lock(self.rt).change(&news);
         self.tell(change);
         self.tell(Message::of_pass(&news));

@@ -12,6 +12,7 @@ mod hub;
 mod loops;
 mod mail;
 mod messages;
+mod outlet;
 mod pace;
 mod pool;
 mod queue;

@@ -187,6 +187,7 @@ impl<'a, R: Wait + Clock> Loop<'a, R> {
     fn park(&mut self, key: usize, guest: Connection, awaited: Awaited) {
         let mut guest = guest;
         guest.talk.inbox.release(self.hub.alloc);
+        guest.unsent.release();
         let bytes = held_by(guest.as_ref());
         if self.hall.come_back(key, guest, awaited, bytes).is_err() {
             self.leave(key, awaited.phase);

@@ -48,6 +48,8 @@ impl<'a, R: Wait + Clock> Hand<'a, R> {
     }
 
     fn take_back(&mut self, visit: Visit<TcpStream, Talk>, left: Left) {
+        let mut visit = visit;
+        visit.guest.unsent.release();
         if let Some(mailbox) = self.hub.boxes.get(self.number) {
             let _ = mailbox.put(self.hub.rt, Mail::Back(visit, left));
         }

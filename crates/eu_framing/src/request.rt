@@ -131,12 +131,12 @@ impl Begun {
     }
 }
 
-/// A text of these bytes.
+/// A text of these bytes, which aren't looked at once more.
 fn text_of(alloc: Global, bytes: &[u8]) -> Result<String, AllocError>
     requires { IsUtf8 bytes.now }
     ensures { IfOk result (λ text. string_bytes text ≡ bytes.now) }
 {
-    String::from_str(alloc, str::from_utf8(bytes).unwrap())
+    String::from_str(alloc, unsafe { str::from_utf8_unchecked(bytes) })
 }
 
 /// What the head says that the spans cover, or the first fault of its fields.

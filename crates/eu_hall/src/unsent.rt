@@ -87,6 +87,15 @@ impl Unsent {
         self.bytes.capacity()
     }
 
+    /// Lets go of the room behind the bytes, where it is more than `MOST_KEPT`: for bytes that wait for their peer.
+    pub fn release(&mut self)
+        ensures { self.new ≡ self.old }
+    {
+        if self.bytes.capacity() - self.bytes.len() > MOST_KEPT {
+            self.bytes.shrink_to_fit();
+        }
+    }
+
     /// Sends until nothing is left, or the writer would wait, and tells which of the two it was. What the writer took is unsent no more, and everything
     /// else stays, in every case.
     ///
@@ -188,6 +197,16 @@ impl Sink for Unsent {
     {
         self.append(bytes)?;
         Ok(bytes.len())
+    }
+
+    /// Keeps the bytes as they are, where none are unsent; else appends them.
+    fn write_owned(&mut self, bytes: Vec<u8>, start: usize) -> Result<(), WriteFault> {
+        if self.len() > 0 || start == bytes.len() {
+            return self.append(&bytes[start..]);
+        }
+        self.bytes = bytes;
+        self.sent = start;
+        Ok(())
     }
 
     fn flush(&mut self) -> Result<(), WriteFault> {

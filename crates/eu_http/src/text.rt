@@ -1,10 +1,12 @@
 //! A response as it is written.
-ghost use Rattle.std.specs.Prelude.{◌≡◌, ◌≤◌, ◌++◌, codes, false, true, drop, length, IfOk, IfSome, OnOk, string_bytes};
+ghost use Rattle.std.specs.Prelude.{◌≡◌, ◌≤◌, ◌++◌, ℕ, codes, false, true, drop, length, take, IfOk, IfSome, OnErr, OnOk, string_bytes};
+ghost use Rattle.std.specs.Io.KnownBytes.{Appends};
 ghost use Rattle.http.specs.StatusCode.{status_text};
 ghost use Rattle.eu_http.specs.Response.{content_of, response_of};
 ghost use Rattle.eu_http.specs.Response as spec;
 
 use crate::response::{Content, HEAD_ROOM, Response};
+use eu_stream::{Sink, WriteFault, write_whole};
 use http::StatusCode;
 use std::alloc::{AllocError, Global};
 use std::marker::Model;
@@ -44,6 +46,23 @@ impl ResponseBytes {
         match &self.bytes {
             Bytes::Ready(text) => &text.as_bytes()[self.start..],
             Bytes::Made(buffer) => &buffer[self.start..],
+        }
+    }
+
+    /// Writes them, in order. Those in memory of their own go to the writer as they are.
+    ///
+    /// A `WriteFault` comes only where a write or a flush of it failed, now or before. Some front of them is written then.
+    pub fn write_to<W: Sink>(self, writer: &mut W) -> Result<(), WriteFault>
+        ensures ok { OnOk result (Appends (W.contents writer.old) (W.contents writer.new) self) }
+        ensures err { OnErr result ((len : ℕ) × Appends (W.contents writer.old) (W.contents writer.new) (take len self)) }
+        ensures sound { OnOk result (W.failed writer.new ≡ W.failed writer.old) }
+        ensures failed { OnErr result (W.failed writer.new ≡ true) }
+        ensures same_stream { W.stream writer.new ≡ W.stream writer.old }
+    {
+        let start = self.start;
+        match self.bytes {
+            Bytes::Ready(text) => write_whole(writer, &text.as_bytes()[start..]),
+            Bytes::Made(buffer) => writer.write_owned(buffer, start),
         }
     }
 }

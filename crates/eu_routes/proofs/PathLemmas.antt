@@ -6,7 +6,7 @@ use Rattle.std.proofs.lemmas.Bool.Decides.{nat_tests, Decides-eqb}
 use Rattle.std.proofs.Math.ListN.{get_or-map}
 use Rattle.std.proofs.Math.Seq.{take-append_seam}
 use Rattle.std.proofs.lemmas.List.{get_or-drop, length-map}
-use Rattle.std.proofs.lemmas.List.Elements.{All-drop, All-take}
+use Rattle.std.proofs.lemmas.List.Elements.{All-drop, All-head, All-tail, All-take}
 use Rattle.std.proofs.lemmas.Slice.Eq.{bytes_eq-Decides, ends_is}
 use Rattle.std.specs.Option.{MatchOption, unwrap_or}
 use Rattle.std.proofs.lemmas.List.Sums.{position_or_len_is, suffix_len_is}
@@ -18,6 +18,7 @@ use Rattle.std.specs.Prelude.{if◌then◌else◌}
 use Rattle.std.specs.Str.{str_to_ascii_uppercase, is_utf8, IsUtf8, IsAscii, IsCharBoundary, NoCharPasses}
 use Rattle.std.specs.Str.Pattern.{HasCharAt}
 use Rattle.percent_encoding.specs.Percent.{percent_decode}
+use Rattle.percent_encoding.proofs.PercentLemmas.{percent_decode-nil, percent_decode_not_percent}
 use Rattle.eu_base.specs.declared.faults.Fault.{Fault}
 use Rattle.eu_base.specs.declared.faults.Fault.TheVariants.{BadPath}
 use Rattle.eu_base.specs.declared.names.Key.{Key}
@@ -83,6 +84,15 @@ unfolding parent
 uncut_before path none =
     let place : 0 ≡ length path - last_len path - 1 = omega (arith, none_behind path none) in
     ap (λ n. take n path) place
+
+-- a segment in which nothing is encoded stands for itself
+decodes_to_itself : (text : List ℕ) → IsUncoded text → percent_decode text ≡ text
+decodes_to_itself [] h = percent_decode-nil
+decodes_to_itself (b ∷ bs) h = percent_decode_not_percent b bs (All-head (λ c. c ≢ 37) b bs h) ∙ ap (λ rest. b ∷ rest) (decodes_to_itself bs (All-tail (λ c. c ≢ 37) b bs h))
+
+pub uncoded_text : (segment : List ℕ) → IsUncoded segment → IsUtf8 segment → text_at segment ≡ Ok segment
+unfolding text_at
+uncoded_text segment h utf8 = rw (decodes_to_itself segment h, is_utf8-from_IsUtf8 _ utf8) refl
 
 -- a segment of UTF-8 stands for its text, and no other does
 pub utf8_text : (segment text : List ℕ) → text ≡ percent_decode segment → IsUtf8 (percent_decode segment) → text_at segment ≡ Ok text

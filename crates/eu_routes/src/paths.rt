@@ -69,12 +69,27 @@ pub fn cut(path: &str) -> (&str, &str)
     }
 }
 
+/// Whether nothing in a segment is encoded.
+fn is_uncoded(segment: &str) -> bool
+    ensures { result ≡ true → spec.IsUncoded segment.now }
+{
+    for byte in segment.as_bytes() {
+        if *byte == b'%' {
+            return false;
+        }
+    }
+    true
+}
+
 /// The text that a segment stands for. `BadPath` where it isn't UTF-8 once it is decoded; `OutOfMemory`, where something is encoded.
 #[tactic(auto, unfolding(crate::specs::Path::text_at))]
 fn text_at(alloc: Global, segment: &str) -> Result<CowStr<'_, Global>, Fault>
     ensures said { Gives (result_map cow_str_bytes result) (spec.text_at segment.now) }
     ensures memory { spec.IsUncoded segment.now → result ≢ Err Fault.OutOfMemory }
 {
+    if is_uncoded(segment) {
+        return Ok(CowStr::Borrowed(segment));
+    }
     match percent_decode_str(segment).decode_utf8(alloc) {
         Ok(text) => Ok(text),
         Err(DecodeError::OutOfMemory) => Err(Fault::OutOfMemory),

@@ -11,7 +11,7 @@ use crate::SessionFault;
 use eu_base::{Fault, Moment};
 use eu_clock::Clock;
 use eu_framing::Request;
-use eu_http::{Asked, Outcome, Policy, answer, answer_without_memory, asks};
+use eu_http::{Asked, Outcome, Policy, ResponseBytes, answer, answer_without_memory, asks};
 use eu_model::{Answer, Ask, Desk};
 use eu_routes::Routes;
 use eu_stream::{Sink, WriteFault, write_whole};
@@ -26,6 +26,18 @@ fn put<W: Sink>(writer: &mut W, text: &[u8]) -> Result<(), WriteFault>
     ensures same_stream { W.stream writer.new ≡ W.stream writer.old }
 {
     write_whole(writer, text)?;
+    writer.flush()
+}
+
+/// Writes a response and flushes it.
+fn put_response<W: Sink>(writer: &mut W, response: ResponseBytes) -> Result<(), WriteFault>
+    ensures ok { OnOk result (Appends (W.contents writer.old) (W.contents writer.new) response) }
+    ensures sound { OnOk result (W.failed writer.new ≡ W.failed writer.old) }
+    ensures err { OnErr result ((len : ℕ) × Appends (W.contents writer.old) (W.contents writer.new) (take len response)) }
+    ensures failed { OnErr result (W.failed writer.new ≡ true) }
+    ensures same_stream { W.stream writer.new ≡ W.stream writer.old }
+{
+    response.write_to(writer)?;
     writer.flush()
 }
 
@@ -147,7 +159,7 @@ pub fn answer_request<D: Desk, C: Clock, W: Sink>(
     let Ok(response) = answer(alloc, &outcome, close) else {
         return Err(leave_unanswered(writer, &outcome));
     };
-    Ok(put(writer, response.as_slice())?)
+    Ok(put_response(writer, response)?)
 }
 
 /// Answers bytes that begin with no request by this fault, where the fault is theirs. Where there is no memory it tells so instead.
@@ -166,5 +178,5 @@ pub fn refuse<W: Sink>(alloc: Global, writer: &mut W, fault: Fault) -> Result<()
     let Ok(response) = answer(alloc, &Outcome::Refused(fault), true) else {
         return Err(tell_no_memory(writer));
     };
-    Ok(put(writer, response.as_slice())?)
+    Ok(put_response(writer, response)?)
 }

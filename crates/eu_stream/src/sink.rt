@@ -1,5 +1,5 @@
 //! Where bytes go.
-ghost use Rattle.std.specs.Prelude.{◌≡◌, ◌≤◌, ◌<◌, ℕ, List, Option, Bool, None, Ok, true, false, length, take, OnOk, OnErr, IfOk, IsErr, IsOk};
+ghost use Rattle.std.specs.Prelude.{◌≡◌, ◌≤◌, ◌<◌, ℕ, List, Option, Bool, None, Ok, true, false, drop, length, take, OnOk, OnErr, IfOk, IsErr, IsOk};
 ghost use Rattle.std.specs.Io.KnownBytes.{Appends, Keeps};
 
 use crate::MOST_TRIES;
@@ -35,6 +35,26 @@ pub trait Sink {
         ensures kept { OnErr result (Keeps (contents self.old) (contents self.new)) }
         ensures failed { OnErr result (failed self.new ≡ true) }
         ensures same_stream { stream self.new ≡ stream self.old };
+
+    /// Writes all of the bytes but the first `start`, which nobody else needs any more: who keeps what is written may keep them as they are, where another
+    /// copies them.
+    ///
+    /// A `WriteFault` comes only where a write or a flush failed, now or before. Some front of those bytes is written then.
+    fn write_owned(&mut self, bytes: Vec<u8>, start: usize) -> Result<(), WriteFault>
+        requires { start ≤ length bytes.items }
+        ensures ok { OnOk result (Appends (contents self.old) (contents self.new) (drop start bytes.items)) }
+        ensures err { OnErr result ((k : ℕ) × Appends (contents self.old) (contents self.new) (take k (drop start bytes.items))) }
+        ensures sound { OnOk result (failed self.new ≡ failed self.old) }
+        ensures failed { OnErr result (failed self.new ≡ true) }
+        ensures same_stream { stream self.new ≡ stream self.old }
+    {
+        let rest = &bytes[start..];
+        let mut written = 0;
+        'writes: while written < rest.len() {
+            written += self.write_some(&rest[written..])?;
+        }
+        Ok(())
+    }
 
     /// Has what was written passed on to where it goes. That adds nothing to it.
     ///

@@ -3,3 +3,4 @@ pub mod Crossing
 pub mod AllLemmas
 pub mod TurnLemmas
 pub mod PlaceLemmas
+pub mod PutLemmas

@@ -1,5 +1,5 @@
 -- How a visit leaves a connection
-use Rattle.std.specs.Prelude.{ℕ, List, [], ◌∷◌, Bool, true, false, Result, Ok, Err, ◌||◌}
+use Rattle.std.specs.Prelude.{ℕ, List, [], ◌∷◌, Bool, true, false, Option, Some, None, Result, Ok, Err, ◌||◌}
 use Rattle.eu_hall.specs.declared.guest.Left.{Left}
 use Rattle.eu_hall.specs.declared.guest.Left.TheVariants.{Waits, GoesOn, SendsOn, Long, Gone}
 use Rattle.eu_hall.specs.declared.phase.Happened.TheVariants as happened
@@ -26,6 +26,13 @@ after_answers GoesOn = GoesOn
 after_answers (SendsOn what) = SendsOn happened.Answered
 after_answers Long = GoesOn
 after_answers Gone = Gone
+
+-- the same, where a request was just answered and nothing more has come; none where the visit goes on, since more may be there or the session has ended
+abbrev pub rests : Bool → List ℕ → Bool → Option Left
+rests true [] false = Some (Waits Idle happened.Answered)
+rests true [] true = None
+rests true (byte ∷ bytes) has_ended = None
+rests false inbox has_ended = None
 
 -- what a read that failed tells: the gate stopped it; so much came that others are to read on; it would have waited; or the connection has failed
 abbrev pub halt_of : Bool → Bool → Bool → Halt

@@ -159,6 +159,10 @@ impl<'a, W: Sink, G: Gate> Sink for GatedSink<'a, W, G> {
         self.sink.write_some(bytes)
     }
 
+    fn write_owned(&mut self, bytes: Vec<u8>, start: usize) -> Result<(), WriteFault> {
+        self.sink.write_owned(bytes, start)
+    }
+
     fn flush(&mut self) -> Result<(), WriteFault> {
         let _go = self.gate.pass(self.who, Point::Replied);
         self.sink.flush()

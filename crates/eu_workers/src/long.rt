@@ -16,6 +16,9 @@ const BATCH: &[u8] = b"POST /eureka/peerreplication";
 /// The other such path.
 const BATCH_2: &[u8] = b"POST /eureka/v2/peerreplication";
 
+/// What a heartbeat begins by, and whatever else is put under a path.
+const PUT: &[u8] = b"PUT /";
+
 /// What a request with a body begins by.
 const POST: &[u8] = b"POST ";
 
@@ -151,10 +154,13 @@ fn is_unusual(bytes: &[u8]) -> bool
 }
 
 /// Whether these bytes begin like a request that takes long: a listing, of all or of an application, a peer's batch, or a body that isn't short; or like one
-/// of which that isn't known. It only tells who takes the turn: a wrong answer costs time alone.
+/// of which that isn't known. It only tells who takes the turn: a wrong answer costs time alone. Most requests are heartbeats, which are told at once.
 pub(crate) fn is_long(bytes: &[u8]) -> bool
     ensures { result ≡ spec.is_long bytes.now }
 {
+    if bytes.starts_with(PUT) {
+        return false;
+    }
     lists(bytes, LISTING)
         || lists(bytes, LISTING_2)
         || bytes.starts_with(BATCH)

@@ -1,5 +1,6 @@
 //! What a response told a client, by its text.
 
+use eu_base::read_digits;
 use eu_gate::Responded;
 
 /// Where the status of a response stands, behind `HTTP/1.1 ` (RFC 9112, section 4).
@@ -11,7 +12,7 @@ const SHORT: usize = 256;
 /// The status that a response tells. None where that isn't three digits.
 fn status_in(response: &[u8]) -> Option<u16> {
     let digits = response.get(STATUS..STATUS + 3)?;
-    str::from_utf8(digits).ok()?.parse().ok()
+    u16::try_from(read_digits(digits)?).ok()
 }
 
 /// The fault that a response tells, where it tells one: its content is that alone.

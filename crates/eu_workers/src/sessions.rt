@@ -331,8 +331,20 @@ fn step<K: Label, R: Wait, G: Gate, C: Clock, S: Read + Write>(
     }
 }
 
+/// How a visit leaves a connection of which a request was just answered, where nothing more has come, so that a further turn would find nothing to read.
+fn rests<S>(visit: &Visit<S, Talk>) -> Option<Left>
+    ensures { result ≡ spec.rests visit.now.is_drained visit.now.guest.value.talk.inbox visit.now.guest.value.has_ended }
+{
+    let guest = visit.guest.as_ref();
+    if visit.is_drained && guest.talk.inbox.as_slice().is_empty() && !guest.has_ended {
+        Some(Left::Waits(Phase::Idle, Happened::Answered))
+    } else {
+        None
+    }
+}
+
 /// Sends what is to be sent of a connection, and then takes one turn of its session after another, each once the response before is sent, until a
-/// read or a write would wait, the session has ended, or it had its turns. Tells how that left the connection.
+/// read or a write would wait, all that came is answered, the session has ended, or it had its turns. Tells how that left the connection.
 fn serve<K: Label, R: Wait, G: Gate, C: Clock, S: Read + Write>(
     site: &Site<'_, K, R, G>,
     who: u32,
@@ -349,7 +361,12 @@ fn serve<K: Label, R: Wait, G: Gate, C: Clock, S: Read + Write>(
     let mut has_answered = false;
     for _turn in 0..visit.most_turns {
         match step(site, who, room, seat, clock, visit) {
-            Progress::Answered => has_answered = true,
+            Progress::Answered => {
+                if let Some(left) = rests(visit) {
+                    return left;
+                }
+                has_answered = true;
+            }
             Progress::Over(left) if has_answered => return after_answers(left),
             Progress::Over(left) => return left,
         }

@@ -1,7 +1,10 @@
 use mathlib.Core.Logic.{inr}
 use Rattle.std.proofs.Common.{◌∙◌}
-use Rattle.eu_routes.proofs.PathLemmas.{utf8_text, other_text}
+use Rattle.eu_routes.proofs.PathLemmas.{utf8_text, other_text, uncoded_text}
 use Rattle.eu_routes.proofs.paths.text_at.Goals as goal
+
+pub returns-then-is_uncoded-clause-said : goal.returns-then-is_uncoded-clause-said
+returns-then-is_uncoded-clause-said c = uncoded_text c.args.segment.now (c.is_uncoded.ensures c.if-is_uncoded.true) c.utf8.segment
 
 pub returns-in-Ok-clause-said : goal.returns-in-Ok-clause-said
 returns-in-Ok-clause-said c =

@@ -9,3 +9,6 @@ returns-in-Over-2 g c = asked_more _ _ _ c.loop-turn.invariant.asked c.step.ensu
 
 pub loop-turn-preserved : goal.loop-turn-preserved
 loop-turn-preserved g c = record { asked = asked_more _ _ _ c.loop-turn.invariant.asked c.step.ensures.asked; sent = c.step.ensures.sent c.in-Answered.is }
+
+pub returns-in-Some-rests : goal.returns-in-Some-rests
+returns-in-Some-rests g c = asked_more _ _ _ c.loop-turn.invariant.asked c.step.ensures.asked

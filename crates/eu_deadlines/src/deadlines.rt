@@ -3,6 +3,7 @@ ghost use Rattle.std.specs.Prelude.{◌≡◌, ℕ, ◌+◌, ◌*◌, ◌^◌, �
 ghost use Rattle.std.specs.List.{swap_remove};
 ghost use Rattle.eu_deadlines.specs.Indexed.{AreBefore};
 
+use crate::DeadlineList;
 use crate::reading::Counted;
 use crate::remove::unlink;
 use crate::sift::{reorder, rise};
@@ -49,6 +50,13 @@ impl Deadlines {
         ensures { result ≡ length self.now.list }
     {
         self.places.len()
+    }
+
+    /// The list, as it is now. It takes a copy of what is kept, and looks at no position. `AllocError` where no memory is left.
+    pub fn list(&self, alloc: Global) -> Result<DeadlineList, AllocError>
+        ensures { IfOk result (λ list. list ≡ self.now.list) }
+    {
+        DeadlineList::of(alloc, &self.deadlines, &self.places)
     }
 
     /// Makes room for so many more. Where there is no memory for it, no deadline changes.

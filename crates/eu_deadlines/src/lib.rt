@@ -2,9 +2,11 @@
 #![tactic(auto)]
 
 mod deadlines;
+mod list;
 mod reading;
 mod remove;
 mod sift;
 mod walk;
 
 pub use deadlines::Deadlines;
+pub use list::DeadlineList;

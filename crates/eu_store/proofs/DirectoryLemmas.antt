@@ -1,89 +1,78 @@
 -- What is kept for readers stays right where keys and instances stay, and what it says is the listing
-use Rattle.std.proofs.Common.{◌≡◌, ℕ, zero, suc, ◌+◌, ◌<◌, true, List, [], ◌∷◌, ◌++◌, filter, map, length, get_or, take, slice_get, refl, sym, ap, ◌∙◌, Option, None, Some, is_some, arith, Bor}
+use Rattle.std.proofs.Common.{◌≡◌, ℕ, suc, ◌+◌, ◌-◌, ◌<◌, true, List, [], ◌∷◌, ◌++◌, filter, map, length, get_or, take, slice_get, slice_index, refl, sym, ap, ◌∙◌, Option, None, Some, is_some, arith, Bor}
 use Rattle.std.specs.List.{IsDistinct}
 use Rattle.std.specs.FinMap.{entries}
 use Rattle.std.specs.Map.{keys_of, lookup, values_of}
 use Rattle.std.specs.Map.Iter.{deref_pair}
 use Rattle.std.specs.Option.{option_map, option_map_or}
 use Rattle.std.proofs.lemmas.List.{length-map, map-append, map_more, take_more}
-use Rattle.std.proofs.lemmas.Option.{slice_get-get_or, slice_get-map, slice_get_within}
-use Rattle.eu_base.specs.declared.instances.Instance.{Instance}
+use Rattle.std.proofs.lemmas.Option.{get_or_from_slice_get, slice_get-get_or, slice_get-map}
 use Rattle.eu_base.specs.declared.names.Key.{Key}
 use Rattle.eu_base.specs.Values.{key_eq}
+use Rattle.eu_model.specs.Machine.{duration}
 use Rattle.eu_model.specs.View.{is_of}
 use Rattle.eu_model.specs.declared.views.Listed.{Listed}
-use Rattle.eu_model.specs.declared.views.Times.{Times}
-use Rattle.eu_store.specs.Order.{at_places, instance_at, instances_in, instances_of, keys_held, snapped, timed, times_of, AreWhole, IsInOrder, Part}
-use Rattle.eu_store.specs.Stored.{listing_of, rows_of}
+use Rattle.eu_store.specs.Order.{at_places, begun, begun_at, begun_in, begun_of, keys_held, lasting, snapped, AreWhole, IsInOrder, Part}
+use Rattle.eu_store.specs.Stored.{deadline_of, deadlines, listing_of, rows_of}
 use Rattle.eu_model.proofs.ListingLemmas.{filter_true}
 use Rattle.eu_store.proofs.OrderLemmas.{Entries, held, listing_at, row_held}
 use Rattle.eu_store.proofs.FoundLemmas.{entry_there}
 use Rattle.eu_store.proofs.PartLemmas.{part_lookup}
-use Rattle.eu_store.proofs.PlaceLemmas.{same_all}
+use Rattle.eu_store.proofs.PlaceLemmas.{place_within, same_all}
 use Rattle.eu_store.proofs.RowLemmas.{keys_shown}
 
 -- ---- what is listed
 
-listed_at : (es : Entries) (p : ℕ) (i : Instance) (t : Times) → slice_get (instances_of es) p ≡ Some i → slice_get (times_of es) p ≡ Some t → slice_get (values_of es) p ≡ Some (record { instance = i; times = t })
-listed_at [] p i t at_i at_t = absurd (nothing at_i)
+-- a lease that lasts until its deadline is that lease
+lasting_begun : (l : Listed) → lasting (deadline_of l) (begun l) ≡ l
+lasting_begun l = λ j. record l { times = record l.times { updated = less j } }
   where
-    nothing : ◌≡◌ {A = Option Instance} None (Some i) → ⊥
-    nothing e = cc
-listed_at (e ∷ es) zero i t at_i at_t = λ j. Some (record { instance = of_instance at_i j; times = of_times at_t j })
-  where
-    of_instance : ◌≡◌ {A = Option Instance} (Some e.1.instance) (Some i) → e.1.instance ≡ i
-    of_instance h = cc
+    less : l.times.updated + duration l.instance - duration l.instance ≡ l.times.updated
+    less = omega arith
 
-    of_times : ◌≡◌ {A = Option Times} (Some e.1.times) (Some t) → e.1.times ≡ t
-    of_times h = cc
-listed_at (e ∷ es) (suc p) i t at_i at_t = listed_at es p i t at_i at_t
+both_at : (es : Entries) (parts : List (List Listed)) (places : List ℕ) → ((p : ℕ) → p < length es → begun_at parts p ≡ slice_get (begun_of es) p)
+    → ((i : ℕ) → i < length places → get_or places i 0 < length es) → at_places (values_of es) places ≡ map Some (snapped parts (deadlines es) places)
+both_at es parts [] whole within = refl
+both_at es parts (p ∷ ps) whole within =
+    let low = within 0 (omega arith) in
+    let entry = entry_there es p low in
+    let l = entry.0.1 in
+    let begins = whole p low ∙ slice_get-map (λ e. begun e.1) es p ∙ ap (option_map (λ (e : Key × Listed). begun e.1)) entry.1 in
+    let value = slice_get-map (λ e. e.1) es p ∙ ap (option_map (λ (e : Key × Listed). e.1)) entry.1 in
+    let ends : slice_index (deadlines es) p ≡ deadline_of l = get_or_from_slice_get (deadlines es) p (deadline_of l) 0 (slice_get-map (λ e. deadline_of e.1) es p ∙ ap (option_map (λ (e : Key × Listed). deadline_of e.1)) entry.1) in
+    let here = value ∙ ap (λ (x : Listed). Some x) (sym (ap (λ d. lasting d (begun l)) ends ∙ lasting_begun l)) in
+    (λ j. here j ∷ both_at es parts ps whole (λ i under. within (suc i) (omega (arith, under))) j)
+    ∙ ap (λ o. map (λ (x : Listed). Some x) (option_map_or (λ x. lasting (slice_index (deadlines es) p) x ∷ snapped parts (deadlines es) ps) o (snapped parts (deadlines es) ps))) (sym begins)
 
-both_at : (es : Entries) (parts : List (List Instance)) (rows : List (ℕ × Times)) → ((p : ℕ) → p < length es → instance_at parts p ≡ slice_get (instances_of es) p)
-    → at_places (times_of es) (map (λ r. r.0) rows) ≡ map Some (map (λ r. r.1) rows) → at_places (values_of es) (map (λ r. r.0) rows) ≡ map Some (snapped parts rows)
-both_at es parts [] whole h = refl
-both_at es parts (r ∷ rows) whole h =
-    let at_t = head h in
-    let entry = entry_there es r.0 (omega (arith, slice_get_within (times_of es) r.0 r.1 at_t, length-map es (λ e. e.1.times))) in
-    let at_i = slice_get-map (λ e. e.1.instance) es r.0 ∙ ap (option_map (λ (e : Key × Listed). e.1.instance)) entry.1 in
-    let here = whole r.0 (omega (arith, slice_get_within (times_of es) r.0 r.1 at_t, length-map es (λ e. e.1.times))) ∙ at_i in
-    (λ j. listed_at es r.0 entry.0.1.instance r.1 at_i at_t j ∷ both_at es parts rows whole (tail h) j)
-    ∙ ap (λ o. map (λ (l : Listed). Some l) (option_map_or (λ i. timed r.1 i ∷ snapped parts rows) o (snapped parts rows))) (sym here)
-  where
-    head : ◌≡◌ {A = List (Option Times)} (slice_get (times_of es) r.0 ∷ at_places (times_of es) (map (λ q. q.0) rows)) (Some r.1 ∷ map Some (map (λ q. q.1) rows)) → slice_get (times_of es) r.0 ≡ Some r.1
-    head h = cc
-
-    tail : ◌≡◌ {A = List (Option Times)} (slice_get (times_of es) r.0 ∷ at_places (times_of es) (map (λ q. q.0) rows)) (Some r.1 ∷ map Some (map (λ q. q.1) rows)) → at_places (times_of es) (map (λ q. q.0) rows) ≡ map Some (map (λ q. q.1) rows)
-    tail h = cc
-
-pub snapshot_is : (es : Entries) (places : List ℕ) (parts : List Part) (rows : List (ℕ × Times)) → IsDistinct key_eq (keys_of es) → IsInOrder es places → AreWhole es parts → map (λ r. r.0) rows ≡ places
-    → map Some (map (λ r. r.1) rows) ≡ at_places (times_of es) places → snapped (instances_in parts) rows ≡ listing_of None (held es)
-snapshot_is es places parts rows apart order whole at times =
+pub snapshot_is : (es : Entries) (places : List ℕ) (parts : List Part) → IsDistinct key_eq (keys_of es) → IsInOrder es places → AreWhole es parts → snapped (begun_in parts) (deadlines es) places ≡ listing_of None (held es)
+snapshot_is es places parts apart order whole =
     let in_order : at_places (keys_of es) places ≡ map Some (filter (is_of None) (keys_held es)) = order ∙ ap (map (λ (k : Key). Some k)) (sym (filter_true (keys_held es))) in
-    same_all (snapped (instances_in parts) rows) (listing_of None (held es)) (
-    sym (both_at es (instances_in parts) rows (part_lookup es parts whole) (ap (at_places (times_of es)) at ∙ sym times))
-    ∙ ap (at_places (values_of es)) at ∙ listing_at None es places apart in_order)
+    same_all (snapped (begun_in parts) (deadlines es) places) (listing_of None (held es)) (
+    sym (both_at es (begun_in parts) places (part_lookup es parts whole) (λ i low. omega (arith, place_within (keys_of es) places (keys_held es) i order low, length-map es (λ e. e.0))))
+    ∙ listing_at None es places apart in_order)
 
 -- what was found, as a list
 abbrev pub found : Option Listed → List Listed
 found o = option_map_or (λ l. l ∷ []) o []
 
--- one row more
-pub one_more_snapped : (parts : List (List Instance)) (rows : List (ℕ × Times)) (n : ℕ) (d : ℕ × Times) → n < length rows
-    → snapped parts (take n rows) ++ found (option_map (timed (get_or rows n d).1) (instance_at parts (get_or rows n d).0)) ≡ snapped parts (take (n + 1) rows)
-one_more_snapped parts rows n d low = sym (ap (snapped parts) (take_more rows n d low) ∙ pushed (take n rows) (get_or rows n d))
+-- one place more
+pub one_more_snapped : (parts : List (List Listed)) (until : List ℕ) (places : List ℕ) (n : ℕ) → n < length places
+    → snapped parts until (take n places) ++ found (option_map (lasting (slice_index until (get_or places n 0))) (begun_at parts (get_or places n 0))) ≡ snapped parts until (take (n + 1) places)
+one_more_snapped parts until places n low = sym (ap (snapped parts until) (take_more places n 0 low) ∙ pushed (take n places) (get_or places n 0))
   where
-    alone : (x : ℕ × Times) (o : Option Instance) → option_map_or (λ i. timed x.1 i ∷ []) o [] ≡ found (option_map (timed x.1) o)
-    alone x None = refl
-    alone x (Some i) = refl
+    alone : (d : ℕ) (o : Option Listed) → option_map_or (λ l. lasting d l ∷ []) o [] ≡ found (option_map (lasting d) o)
+    alone d None = refl
+    alone d (Some l) = refl
 
-    behind : (x : ℕ × Times) (o : Option Instance) (ls ms : List Listed) → option_map_or (λ i. timed x.1 i ∷ (ls ++ ms)) o (ls ++ ms) ≡ option_map_or (λ i. timed x.1 i ∷ ls) o ls ++ ms
-    behind x None ls ms = refl
-    behind x (Some i) ls ms = refl
+    behind : (d : ℕ) (o : Option Listed) (ls ms : List Listed) → option_map_or (λ l. lasting d l ∷ (ls ++ ms)) o (ls ++ ms) ≡ option_map_or (λ l. lasting d l ∷ ls) o ls ++ ms
+    behind d None ls ms = refl
+    behind d (Some l) ls ms = refl
 
-    pushed : (xs : List (ℕ × Times)) (x : ℕ × Times) → snapped parts (xs ++ x ∷ []) ≡ snapped parts xs ++ found (option_map (timed x.1) (instance_at parts x.0))
-    pushed [] x = alone x (instance_at parts x.0)
-    pushed (y ∷ ys) x =
-        ap (λ ls. option_map_or (λ i. timed y.1 i ∷ ls) (instance_at parts y.0) ls) (pushed ys x) ∙ behind y (instance_at parts y.0) (snapped parts ys) (found (option_map (timed x.1) (instance_at parts x.0)))
+    pushed : (ps : List ℕ) (p : ℕ) → snapped parts until (ps ++ p ∷ []) ≡ snapped parts until ps ++ found (option_map (lasting (slice_index until p)) (begun_at parts p))
+    pushed [] p = alone (slice_index until p) (begun_at parts p)
+    pushed (q ∷ qs) p =
+        ap (λ ls. option_map_or (λ l. lasting (slice_index until q) l ∷ ls) (begun_at parts q) ls) (pushed qs p)
+        ∙ behind (slice_index until q) (begun_at parts q) (snapped parts until qs) (found (option_map (lasting (slice_index until p)) (begun_at parts p)))
 
 -- ---- a row that is found by its key
 

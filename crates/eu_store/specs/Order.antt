@@ -1,5 +1,5 @@
 -- Leases in key order, as a table's places, and what is kept of them for who reads
-use Rattle.std.specs.Prelude.{◌≡◌, ℕ, Bool, false, List, [], ◌∷◌, Option, Some, ◌≢◌, ◌*◌, ◌-◌, ◌≤◌, ◌/◌, ◌%◌, length, take, drop, map, slice_get, MatchOption, ⊤}
+use Rattle.std.specs.Prelude.{◌≡◌, ℕ, Bool, false, List, [], ◌∷◌, Option, Some, ◌≢◌, ◌*◌, ◌-◌, ◌≤◌, ◌/◌, ◌%◌, length, take, drop, map, slice_get, slice_index, MatchOption, ⊤}
 use Rattle.std.specs.Arc.{arc_value}
 use Rattle.std.specs.FinMap.{FinMap, from_entries, keys}
 use Rattle.std.specs.Map.{keys_of}
@@ -9,15 +9,14 @@ use Rattle.std.specs.declared.sync.Arc.{Arc}
 use Rattle.std.specs.declared.vec.Vec.{Vec}
 use Rattle.std.specs.Ordering.{is_lt, is_le}
 use Rattle.eu_base.specs.Limits.{most_leases}
-use Rattle.eu_base.specs.declared.instances.Instance.{Instance}
 use Rattle.eu_base.specs.declared.names.Key.{Key}
 use Rattle.eu_base.specs.Values.{name_cmp, key_cmp}
 use Rattle.eu_model.specs.declared.views.Listed.{Listed}
-use Rattle.eu_model.specs.declared.views.Times.{Times}
+use Rattle.eu_model.specs.Machine.{duration}
 use Rattle.eu_store.specs.declared.directory.Directory.{Directory}
 
 abbrev pub Part : Type 0
-Part = Arc (Vec Instance Global) Global
+Part = Arc (Vec Listed Global) Global
 
 -- what stands at places of a list
 abbrev pub at_places : {A : Type 0} → List A → List ℕ → List (Option A)
@@ -49,12 +48,13 @@ is_through app x = is_le (name_cmp x.app app)
 abbrev pub at_place : (Key → Bool) → List (Key × Listed) → ℕ → Bool
 at_place test es place = option_map_or test (slice_get (keys_of es) place) false
 
--- the instances of a table's entries, and the moments of their leases
-abbrev pub instances_of : List (Key × Listed) → List Instance
-instances_of es = map (λ e. e.1.instance) es
+-- a lease as it began: without its last update, which each heartbeat moves
+abbrev pub begun : Listed → Listed
+begun l = record l { times = record l.times { updated = 0 } }
 
-abbrev pub times_of : List (Key × Listed) → List Times
-times_of es = map (λ e. e.1.times) es
+-- those of a table's entries
+abbrev pub begun_of : List (Key × Listed) → List Listed
+begun_of es = map (λ e. begun e.1) es
 
 -- how many neighbours are in a part, and those of the n-th part
 abbrev pub part_room : ℕ
@@ -65,11 +65,11 @@ window n xs = take part_room (drop (n * part_room) xs)
 
 -- parts that were gathered are those of the table
 abbrev pub AreParts : List (Key × Listed) → List (Option Part) → Type 0
-AreParts es parts = (n : ℕ) (c : Part) → slice_get parts n ≡ Some (Some c) → (arc_value c).items ≡ window n (instances_of es)
+AreParts es parts = (n : ℕ) (c : Part) → slice_get parts n ≡ Some (Some c) → (arc_value c).items ≡ window n (begun_of es)
 
 -- and so are these, which are all of them
 abbrev pub AreWhole : List (Key × Listed) → List Part → Type 0
-AreWhole es parts = ((n : ℕ) (c : Part) → slice_get parts n ≡ Some c → (arc_value c).items ≡ window n (instances_of es)) × (length es ≤ length parts * part_room)
+AreWhole es parts = ((n : ℕ) (c : Part) → slice_get parts n ≡ Some c → (arc_value c).items ≡ window n (begun_of es)) × (length es ≤ length parts * part_room)
 
 -- parts of before, but for that of a place
 abbrev pub IsForgotten : ℕ → List (Option Part) → List (Option Part) → Type 0
@@ -89,18 +89,18 @@ room_in d = d.places.cap - length d.places.items
 abbrev pub room_of : Option Directory → ℕ
 room_of kept = option_map_or (λ d. room_in d) kept most_leases
 
--- the instances of parts, and the one of a place
-abbrev pub instances_in : List Part → List (List Instance)
-instances_in parts = map (λ (p : Part). (arc_value p).items) parts
+-- the leases of parts, and the one of a place
+abbrev pub begun_in : List Part → List (List Listed)
+begun_in parts = map (λ (p : Part). (arc_value p).items) parts
 
-abbrev pub instance_at : List (List Instance) → ℕ → Option Instance
-instance_at parts place = option_and_then (λ p. slice_get p (place % part_room)) (slice_get parts (place / part_room))
+abbrev pub begun_at : List (List Listed) → ℕ → Option Listed
+begun_at parts place = option_and_then (λ p. slice_get p (place % part_room)) (slice_get parts (place / part_room))
 
--- an instance with the moments of its lease
-abbrev pub timed : Times → Instance → Listed
-timed t i = record { instance = i; times = t }
+-- a lease that lasts until then: its last update is one duration before
+abbrev pub lasting : ℕ → Listed → Listed
+lasting deadline l = record l { times = record l.times { updated = deadline - duration l.instance } }
 
--- what places and moments list
-abbrev pub snapped : List (List Instance) → List (ℕ × Times) → List Listed
-snapped parts [] = []
-snapped parts (r ∷ rows) = option_map_or (λ i. timed r.1 i ∷ snapped parts rows) (instance_at parts r.0) (snapped parts rows)
+-- what places list, where a lease of each place began and until when it lasts
+abbrev pub snapped : List (List Listed) → List ℕ → List ℕ → List Listed
+snapped parts deadlines [] = []
+snapped parts deadlines (p ∷ ps) = option_map_or (λ l. lasting (slice_index deadlines p) l ∷ snapped parts deadlines ps) (begun_at parts p) (snapped parts deadlines ps)

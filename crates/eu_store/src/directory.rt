@@ -6,20 +6,18 @@ ghost use Rattle.std.specs.List.{prefix_len};
 ghost use Rattle.std.specs.List.Sorted.{IsPartitionedBy};
 ghost use Rattle.std.specs.Map.{keys_of};
 ghost use Rattle.std.specs.Option.{option_copied};
-ghost use Rattle.indexmap.specs.IndexMap.{IsUnique};
 ghost use Rattle.eu_base.specs.Limits.{most_leases};
-ghost use Rattle.eu_base.specs.Values.{key_eq};
 ghost use Rattle.eu_model.specs.View.{is_of};
 ghost use Rattle.eu_store.specs.Brief.{IsBrief};
 ghost use Rattle.eu_store.specs.Limit.{within};
-ghost use Rattle.eu_store.specs.Order.{at_place, at_places, instances_of, is_below, keys_held, room_in, times_of, window, AreParts, AreWhole, IsDirectory, IsForgotten};
+ghost use Rattle.eu_store.specs.Order.{at_place, at_places, begun_of, is_below, keys_held, room_in, window, AreParts, AreWhole, IsDirectory, IsForgotten};
 ghost use Rattle.eu_store.specs.Stored.{listing_of};
 ghost use Rattle.std.specs.FinMap as map;
 
 use crate::rows::rows;
 use crate::table::Table;
-use eu_base::{App, Key, SharedInstance};
-use eu_model::{Listed, Times};
+use eu_base::{App, Key};
+use eu_model::Listed;
 use std::alloc::{AllocError, Global};
 use std::sync::Arc;
 
@@ -29,11 +27,11 @@ pub(crate) const PART_ROOM: usize = 512;
 /// How many parts the largest table has.
 const MOST_PARTS: usize = 128;
 
-/// The instances of some neighbours in a table.
-pub(crate) type Part = Arc<Vec<SharedInstance>, Global>;
+/// Some neighbours in a table, each as it began: without its last update.
+pub(crate) type Part = Arc<Vec<Listed>, Global>;
 
-/// The places of a table's leases in the order of their keys; and its instances, in parts that readers share, as far as they were
-/// gathered since the last step that changed one of the part. A place has 16 bits, since at most 65,536 leases are held: so a lease
+/// The places of a table's leases in the order of their keys; and how these began, in parts that readers share, as far as they were
+/// gathered since the last step that changed more than the last update of one of the part. A place has 16 bits, since at most 65,536 leases are held: so a lease
 /// that comes or goes moves at most 128 KB.
 #[derive(Debug, Drop)]
 pub(crate) struct Directory {
@@ -180,25 +178,13 @@ impl Directory {
         Ok(leases)
     }
 
-    /// The places in key order, each with the moments of its lease. `AllocError` where no memory is left.
-    pub(crate) fn rows(
-        &self,
-        alloc: Global,
-        table: &Table,
-    ) -> Result<Vec<(usize, Times)>, AllocError>
-        requires { IsDirectory table.now.entries self.now }
-        ensures places { IfOk result (λ rows. map (λ r. r.0) rows.items ≡ self.now.places.items) }
-        ensures times { IfOk result (λ rows. map Some (map (λ r. r.1) rows.items) ≡ at_places (times_of table.now.entries) self.now.places.items) }
-        ensures unique { IsUnique key_eq table.now }
+    /// The places in key order, copied. `AllocError` where no memory is left.
+    pub(crate) fn order(&self, alloc: Global) -> Result<Vec<u16>, AllocError>
+        ensures { IfOk result (λ order. order.items ≡ self.now.places.items) }
     {
-        let entries = table.as_slice();
-        let mut rows = Vec::with_capacity(alloc, self.places.len())?;
-        for place in &self.places {
-            let place = usize::from(*place);
-            let (_key, held) = entries.get_index(place).unwrap();
-            rows.push((place, held.times()))?;
-        }
-        Ok(rows)
+        let mut order = Vec::new(alloc);
+        order.extend_from_slice(&self.places)?;
+        Ok(order)
     }
 
     /// All parts of the table. Those that are missing are gathered. `AllocError` where no memory is left.
@@ -225,7 +211,7 @@ impl Directory {
         requires there { number * PART_ROOM < length table.now.entries }
         ensures places { self.new.places ≡ self.old.places }
         ensures parts { AreParts table.now.entries self.new.parts.items }
-        ensures part { IfOk result (λ p. (arc_value p).items ≡ window number (instances_of table.now.entries)) }
+        ensures part { IfOk result (λ p. (arc_value p).items ≡ window number (begun_of table.now.entries)) }
     {
         if let Some(part) = self.kept(number)? {
             return Ok(part);
@@ -268,20 +254,20 @@ fn no_parts(alloc: Global) -> Result<Vec<Option<Part>>, AllocError>
     Ok(parts)
 }
 
-/// The instances of the part of that number. `AllocError` where no memory is left.
-fn gathered(alloc: Global, table: &Table, number: usize) -> Result<Vec<SharedInstance>, AllocError>
+/// How the leases of the part of that number began. `AllocError` where no memory is left.
+fn gathered(alloc: Global, table: &Table, number: usize) -> Result<Vec<Listed>, AllocError>
     requires { number * PART_ROOM < length table.now.entries }
-    ensures { IfOk result (λ v. v.items ≡ window number (instances_of table.now.entries)) }
+    ensures { IfOk result (λ v. v.items ≡ window number (begun_of table.now.entries)) }
 {
     let entries = table.as_slice();
     let begin = number * PART_ROOM;
     let end = entries.len().min(begin.saturating_add(PART_ROOM));
-    let mut instances = Vec::with_capacity(alloc, PART_ROOM)?;
+    let mut neighbours = Vec::with_capacity(alloc, PART_ROOM)?;
     for place in begin..end {
         let (_key, held) = entries.get_index(place).unwrap();
-        instances.push(held.instance().share()?)?;
+        neighbours.push(held.begun()?)?;
     }
-    Ok(instances)
+    Ok(neighbours)
 }
 
 /// Where keys end that are looked for: before a key, before those of an application, or behind them.

@@ -4,6 +4,7 @@ ghost use Rattle.eu_lease.specs.Term.{listed_with};
 ghost use Rattle.eu_model.specs.Change.{stamped};
 ghost use Rattle.eu_model.specs.PlainSteps.{plain_expired};
 ghost use Rattle.eu_store.specs.Brief.{IsShort};
+ghost use Rattle.eu_store.specs.Order.{begun};
 ghost use Rattle.eu_store.specs.Stored.{amended, deadline_of, term_of};
 
 use eu_base::{Moment, SharedInstance, Stamp, Status};
@@ -82,6 +83,19 @@ impl HeldLease {
         Ok(Listed {
             instance: self.instance.share()?,
             times: self.times(),
+        })
+    }
+
+    /// Both, without the last update. `AllocError` where 2^63 share the instance.
+    pub(crate) fn begun(&self) -> Result<Listed, AllocError>
+        ensures { IfOk result (λ l. l ≡ begun self.now) }
+    {
+        Ok(Listed {
+            instance: self.instance.share()?,
+            times: Times {
+                updated: 0,
+                ..self.times()
+            },
         })
     }
 
@@ -215,8 +229,7 @@ pub enum Amendment {
 }
 
 impl Amendment {
-    /// Whether an instance stays as it is, as a heartbeat leaves it: then a listing need not gather it anew. Where this is `false`
-    /// the instance may be the same nonetheless, and is gathered once more.
+    /// Whether an instance stays as it is, as a heartbeat leaves it. Where this is `false` it may be the same nonetheless.
     pub fn keeps(&self, instance: &SharedInstance) -> bool
         ensures { IsTrue result → (l : Listed) → l.instance ≡ instance.now → (amended self.now l).instance ≡ l.instance }
     {
@@ -235,6 +248,18 @@ impl Amendment {
                         None => true,
                     }
             }
+            _ => false,
+        }
+    }
+
+    /// Whether a lease stays as it began, as a heartbeat leaves it: no more than its last update moves. Where this is `false` the same
+    /// may hold nonetheless.
+    pub(crate) fn renews(&self, held: &HeldLease) -> bool
+        ensures { IsTrue result → begun (amended self.now held.now) ≡ begun held.now }
+    {
+        match self {
+            Amendment::Renewed { .. } => true,
+            Amendment::InStatuses { comes_up, .. } => !*comes_up && self.keeps(&held.instance),
             _ => false,
         }
     }

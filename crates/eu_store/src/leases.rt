@@ -219,7 +219,7 @@ impl Leases {
             drop(amendment);
             return false;
         };
-        let is_kept = amendment.keeps(self.table[place].instance());
+        let is_kept = amendment.renews(&self.table[place]);
         kept::change(&mut self.directory, &self.table, place, is_kept);
         let held = &mut self.table[place];
         let before = held.instance().status();
@@ -326,8 +326,8 @@ impl Leases {
         Ok(copy)
     }
 
-    /// Everything that is held, for who holds a lock. The first one sorts what is held; each other looks at no instance, but at those that
-    /// stand near one that changed, came or went. What is held stays as it is. `AllocError` where no memory is left.
+    /// Everything that is held, for who holds a lock. The first one sorts what is held; each other looks at no lease, but at those that
+    /// stand near one that came, went, or changed by more than a heartbeat. What is held stays as it is. `AllocError` where no memory is left.
     pub fn snapshot(&mut self, alloc: Global) -> Result<Snapshot, AllocError>
         ensures listing { IfOk result (λ s. s ≡ listing_of None self.old.held) }
         ensures held { self.new.held ≡ self.old.held }
@@ -335,8 +335,10 @@ impl Leases {
         kept::make(&mut self.directory, alloc, &self.table)?;
         let directory = self.directory.as_mut().unwrap();
         let parts = directory.parts(alloc, &self.table)?;
-        let rows = directory.rows(alloc, &self.table)?;
-        Ok(Snapshot::new(parts, rows))
+        let order = directory.order(alloc)?;
+        let deadlines = self.index.list(alloc)?;
+        let _entries = self.table.as_slice();
+        Ok(Snapshot::new(parts, deadlines, order))
     }
 }
 

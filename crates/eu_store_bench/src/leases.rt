@@ -98,3 +98,22 @@ pub fn count_expired(alloc: Global, count: u64, expired: u64, times: u64) -> Res
     }
     Ok(found)
 }
+
+/// How many leases the last one of so many snapshots lists, where so many are held, and one is renewed before each. 0 where none is taken. `Full` where
+/// they are more than 65,536; `OutOfMemory`.
+pub fn count_in_snapshots(alloc: Global, count: u64, times: u64) -> Result<u64, Fault> {
+    let keys = keys(alloc, count)?;
+    let mut leases = Leases::new(alloc, HashKey::new(0, 0));
+    for key in &keys {
+        put(alloc, &mut leases, key, at(0)?)?;
+    }
+    let mut last = None;
+    for _ in 0..times {
+        renew(&mut leases, &keys, 1)?;
+        last = Some(leases.snapshot(alloc)?);
+    }
+    match last {
+        Some(snapshot) => Ok(snapshot.listed(alloc)?.len() as u64),
+        None => Ok(0),
+    }
+}

@@ -2,12 +2,14 @@ use Rattle.std.proofs.Common.{◌-◌, ◌≤◌, ◌<◌, subst, refl, is_some,
 use Rattle.eu_base.specs.declared.instances.Instance.{Instance}
 use Rattle.indexmap.specs.IndexMap.{spare, set_value_at}
 use Rattle.std.specs.FinMap as map
+use Rattle.eu_model.specs.declared.views.Listed.{Listed}
 use Rattle.eu_model.specs.View.{in_status, with_one_more, with_one_fewer}
+use Rattle.eu_store.specs.Order.{begun}
 use Rattle.eu_store.specs.Stored.{amended, counts_of}
 use Rattle.eu_store.proofs.CountLemmas.{counts_changed, counts_most, counted_there}
 use Rattle.eu_store.proofs.MapLemmas.{none_from_is_some}
 use Rattle.eu_store.proofs.TableLemmas.{by_key, get_at, get_in, inserted, changed_in, unchanged_in}
-use Rattle.eu_store.proofs.PartLemmas.{instance_of_value}
+use Rattle.eu_store.proofs.PartLemmas.{begun_of_value}
 use Rattle.eu_store.proofs.PlaceLemmas.{same_some}
 use Rattle.eu_store.proofs.IndexLemmas.{deadlines-set, length-set_value_at, written_at}
 use Rattle.eu_store.proofs.leases.Leases.amend.Goals as goal
@@ -25,7 +27,7 @@ pub recount-requires-clause-before : goal.recount-requires-clause-before
 recount-requires-clause-before c =
     let es = c.self.inside.table.entries in
     let there = get_at by_key es c.args.key.now ∙ sym c.in-Some.ensures.value ∙ c.index_mut-held.ensures.value in
-    subst (λ n. 0 < n) (λ i. in_status (sym c.self.invariant.2 i) (sym (c.status-before.ensures ∙ ap (λ (j : Instance). j.status) c.instance-2.ensures) i)) (counted_there (map.from_entries es) c.args.key.now c.index_mut-held.result.now there)
+    subst (λ n. 0 < n) (λ i. in_status (sym c.self.invariant.2 i) (sym (c.status-before.ensures ∙ ap (λ (j : Instance). j.status) c.instance.ensures) i)) (counted_there (map.from_entries es) c.args.key.now c.index_mut-held.result.now there)
 
 pub recount-requires-clause-after : goal.recount-requires-clause-after
 recount-requires-clause-after c =
@@ -38,13 +40,14 @@ invariant_of-self c =
     let k = c.args.key.now in
     let value = c.index_mut-held.ensures.value in
     let there = get_at by_key es k ∙ sym c.in-Some.ensures.value ∙ value in
+    let same = same_some _ _ (sym value ∙ c.index.ensures) in
     let now = inserted by_key es (set_value_at es c.in-Some.place c.amend.new.self) k c.amend.new.self
     (written_at c.self.inside.table k c.in-Some.place c.index_mut-held.result.now c.amend.new.self c.in-Some.ensures.unique (sym c.in-Some.ensures.index) value) in (
       short,
       c.set.ensures.list ∙ (λ i. set (c.self.invariant.1 i) c.in-Some.place (c.deadline.ensures i)) ∙ sym (deadlines-set es c.in-Some.place c.amend.new.self),
-      c.recount.ensures ∙ (λ i. with_one_more (with_one_fewer (c.self.invariant.2 i) ((c.status-before.ensures ∙ ap (λ (j : Instance). j.status) c.instance-2.ensures) i)) ((c.status.ensures ∙ ap (λ (j : Instance). j.status) c.instance-3.ensures) i))
+      c.recount.ensures ∙ (λ i. with_one_more (with_one_fewer (c.self.invariant.2 i) ((c.status-before.ensures ∙ ap (λ (j : Instance). j.status) c.instance.ensures) i)) ((c.status.ensures ∙ ap (λ (j : Instance). j.status) c.instance-2.ensures) i))
           ∙ counts_changed (map.from_entries es) k c.index_mut-held.result.now c.amend.new.self there ∙ sym (ap counts_of now),
-      c.change.ensures.ordered c.amend.new.self (λ is_kept. sym (instance_of_value es c.in-Some.place c.index_mut-held.result.now value ∙ ap (λ (i : Instance). Some i) (sym (ap (λ l. l.instance) c.amend.ensures ∙ c.keeps-is_kept.ensures is_kept c.index_mut-held.result.now (ap (λ l. l.instance) (same_some _ _ (sym value ∙ c.index.ensures)) ∙ sym c.instance.ensures))))),
+      c.change.ensures.ordered c.amend.new.self (λ is_kept. sym (begun_of_value es c.in-Some.place c.index_mut-held.result.now value ∙ ap (λ (l : Listed). Some l) (sym (ap begun c.amend.ensures ∙ ap (λ (l : Listed). begun (amended c.args.amendment l)) same ∙ c.renews-is_kept.ensures is_kept ∙ ap begun (sym same))))),
     )
 
 pub returns-clause-found : goal.returns-clause-found

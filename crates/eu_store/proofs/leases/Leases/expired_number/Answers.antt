@@ -1,4 +1,4 @@
-use Rattle.std.proofs.Common.{◌≡◌, ◌-◌, length, ap, subst, ◌∙◌, arith}
+use Rattle.std.proofs.Common.{◌-◌, length, ap, subst, ◌∙◌, arith}
 use Rattle.eu_deadlines.specs.Indexed.{AreBefore}
 use Rattle.eu_store.specs.Stored.{expired_keys, deadlines}
 use Rattle.eu_store.proofs.MapLemmas.{expired_many}

@@ -112,7 +112,7 @@ fn times_left<K: Label, R: Wait>(
         reader: sent,
         writer: Vec::new(site.alloc),
     };
-    let mut visit = visit(site.alloc, sides, 8)?;
+    let mut visit = visit(site.alloc, sides, 8, true)?;
     visit.leaves_long = true;
     let mut line = Line {
         connection: Some(visit),

@@ -13,7 +13,7 @@ use eu_model::Command;
 use eu_peer::{ItemAnswer, Lost, Peer};
 use eu_session::Talk;
 use eu_shared::{Blanks, Label, PARTS, Pass, Shared};
-use eu_workers::{Ended, Gate, Go, Incoming, Left, Point, Visit, Work, Worker};
+use eu_workers::{Ended, Gate, Go, Happened, Incoming, Left, Phase, Point, Visit, Work, Worker};
 use std::alloc::Global;
 use std::io::{self, ErrorKind, Write};
 use std::marker::Brand;
@@ -108,13 +108,15 @@ impl Write for Keeping<'_> {
     }
 }
 
-/// One connection, on which a listing is asked for; counts of those that were taken, of those that ended, and of those that were answered.
+/// One connection, on which a listing is asked for; counts of those that were taken, of those that ended, of those that were answered, and of those that wait
+/// for a request behind that.
 #[derive(Drop)]
 struct Once<'a> {
     connection: Option<Visit<Sides<&'static [u8], Keeping<'a>>, Talk>>,
     taken: &'a AtomicU64,
     ended: &'a AtomicU64,
     answered: &'a AtomicU64,
+    waiting: &'a AtomicU64,
 }
 
 impl<'a> Incoming for Once<'a> {
@@ -125,8 +127,11 @@ impl<'a> Incoming for Once<'a> {
         self.connection.take()
     }
 
-    fn take_back(&mut self, visit: Visit<Sides<&'static [u8], Keeping<'a>>, Talk>, _left: Left) {
+    fn take_back(&mut self, visit: Visit<Sides<&'static [u8], Keeping<'a>>, Talk>, left: Left) {
         self.ended.fetch_add(1, Ordering::SeqCst);
+        if left == Left::Waits(Phase::Idle, Happened::Answered) {
+            self.waiting.fetch_add(1, Ordering::SeqCst);
+        }
         if visit
             .guest
             .socket
@@ -162,16 +167,19 @@ struct Counts {
     taken: AtomicU64,
     ended: AtomicU64,
     answered: AtomicU64,
+    waiting: AtomicU64,
     writes: AtomicU64,
     sent: AtomicU64,
 }
 
-/// What stops or fails: all workers at one point of the gate, or what the session writes to; and what its client sends.
+/// What stops or fails: all workers at one point of the gate, or what the session writes to; what its client sends; and whether the connection is read on,
+/// once all that came is answered.
 #[derive(Clone, Copy)]
 struct Trouble {
     stops: Option<Point>,
     is_broken: bool,
     request: &'static [u8],
+    reads_on: bool,
 }
 
 /// Nothing does.
@@ -179,6 +187,7 @@ const NONE: Trouble = Trouble {
     stops: None,
     is_broken: false,
     request: LISTING,
+    reads_on: true,
 };
 
 /// The gate does, at that point.
@@ -200,6 +209,7 @@ struct Told {
     taken: u64,
     ended: u64,
     answered: u64,
+    waiting: u64,
     early: u64,
     /// Whose session was told as over, and the writes that had come by then.
     over: (u64, u64),
@@ -237,10 +247,11 @@ fn connection(alloc: Global, counts: &Counts, trouble: Trouble) -> Once<'_> {
         writer,
     };
     Once {
-        connection: visit(alloc, sides, 8).ok(),
+        connection: visit(alloc, sides, 8, trouble.reads_on).ok(),
         taken: &counts.taken,
         ended: &counts.ended,
         answered: &counts.answered,
+        waiting: &counts.waiting,
     }
 }
 
@@ -320,6 +331,7 @@ fn counted(gate: &Counting<'_>, counts: &Counts) -> Told {
             gate.before_end.load(Ordering::SeqCst),
         ),
         answered: counts.answered.load(Ordering::SeqCst),
+        waiting: counts.waiting.load(Ordering::SeqCst),
         sent: counts.sent.load(Ordering::SeqCst),
         drained: 0,
         all: Ended::default(),
@@ -373,6 +385,7 @@ fn work_after<K: Label + Send + Sync, R: Threads + Wait + Sync>(
         taken: AtomicU64::new(0),
         ended: AtomicU64::new(0),
         answered: AtomicU64::new(0),
+        waiting: AtomicU64::new(0),
         writes: AtomicU64::new(0),
         sent: AtomicU64::new(0),
     };
@@ -418,6 +431,7 @@ const ALL: Told = Told {
     taken: 1,
     ended: 1,
     answered: 1,
+    waiting: 0,
     early: 0,
     over: (1, 1),
     sent: 2,
@@ -445,6 +459,7 @@ fn who_is_stopped_before_a_turn_has_none(rt: HostRuntime) -> Result<(), Fail> {
         taken: 0,
         ended: 0,
         answered: 0,
+        waiting: 0,
         early: 0,
         over: (0, 0),
         sent: 0,
@@ -522,6 +537,24 @@ fn a_session_is_told_as_over_before_its_last_response_is_sent(rt: HostRuntime) -
     Ok(())
 }
 
+/// One read has it all: the session isn't over, and waits for its next request.
+#[test]
+fn a_connection_is_not_read_on_once_all_that_came_is_answered(rt: HostRuntime) -> Result<(), Fail> {
+    let resting = Trouble {
+        reads_on: false,
+        ..NONE
+    };
+    let told = ran(&rt, rt.alloc(), resting)?;
+    let rests = Told {
+        reads: 1,
+        waiting: 1,
+        over: (0, 0),
+        ..ALL
+    };
+    assert!(rt; told == rests);
+    Ok(())
+}
+
 /// A gate that lets nobody through, and keeps who came, a bit for each number.
 #[derive(Drop)]
 struct Register {
@@ -550,6 +583,7 @@ fn push_sixteen<'a, K: Label, R: Wait>(
             taken: answered,
             ended: answered,
             answered,
+            waiting: answered,
         };
         push(rt, alloc, shared, hands, 1, Work::Sessions { source })?;
     }

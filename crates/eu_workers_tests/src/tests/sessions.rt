@@ -136,7 +136,7 @@ fn serving<'a>(
     };
     Work::Sessions {
         source: Once {
-            connection: visit(alloc, sides, 8).ok(),
+            connection: visit(alloc, sides, 8, true).ok(),
             answer,
             answered,
         },

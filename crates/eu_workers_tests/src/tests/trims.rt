@@ -128,7 +128,7 @@ impl<K: Label, R: Wait> Incoming for Renewing<'_, K, R> {
             reader: RENEWAL.as_bytes(),
             writer: Vec::new(self.alloc),
         };
-        visit(self.alloc, sides, 8).ok()
+        visit(self.alloc, sides, 8, true).ok()
     }
 
     fn take_back(

@@ -29,11 +29,12 @@ impl<R, W: Write> Write for Sides<R, W> {
     }
 }
 
-/// A visit of a connection that has just come, with so many turns. `AllocError` where no memory is left for it.
+/// A visit of a connection that has just come, with so many turns; it may be read on once all that came is answered. `AllocError` where no memory is left for it.
 pub fn visit<S: Drop>(
     alloc: Global,
     socket: S,
     most_turns: u32,
+    reads_on: bool,
 ) -> Result<Visit<S, Talk>, AllocError> {
     let guest = Guest {
         socket,
@@ -48,7 +49,7 @@ pub fn visit<S: Drop>(
         awaited: Awaited::begin(PATIENCE, Phase::Idle, 0),
         most_turns,
         leaves_long: false,
-        reads_on: true,
+        reads_on,
         is_drained: false,
         sends_on: true,
         is_warming: false,

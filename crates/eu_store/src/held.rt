@@ -260,7 +260,7 @@ impl Amendment {
         match self {
             Amendment::Renewed { .. } => true,
             Amendment::InStatuses { comes_up, .. } => !*comes_up && self.keeps(&held.instance),
-            _ => false,
+            Amendment::Rejoined { .. } | Amendment::Replaced(_) => false,
         }
     }
 }

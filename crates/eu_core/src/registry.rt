@@ -392,7 +392,7 @@ impl Registry {
         self.leases.is_brief(app, few, short)
     }
 
-    /// Everything that is held, for who holds a lock: it copies no instance, but where a lease came or went, or an instance changed, since
+    /// Everything that is held, for who holds a lock: it looks at no lease, but near those that came, went, or changed by more than their last update since
     /// it was called last. The registry stays as it is. `AllocError` where no memory is left.
     pub fn snapshot(&mut self, alloc: Global) -> Result<Snapshot, AllocError>
         ensures listing { IfOk result (λ s. Shows self.old (listing None) s) }

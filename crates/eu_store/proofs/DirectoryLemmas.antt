@@ -12,7 +12,7 @@ use Rattle.eu_base.specs.Values.{key_eq}
 use Rattle.eu_model.specs.Machine.{duration}
 use Rattle.eu_model.specs.View.{is_of}
 use Rattle.eu_model.specs.declared.views.Listed.{Listed}
-use Rattle.eu_store.specs.Order.{at_places, begun, begun_at, begun_in, begun_of, keys_held, lasting, snapped, AreWhole, IsInOrder, Part}
+use Rattle.eu_store.specs.Order.{at_places, undated, undated_at, undated_in, undated_of, keys_held, lasting, snapped, AreWhole, IsInOrder, Part}
 use Rattle.eu_store.specs.Stored.{deadline_of, deadlines, listing_of, rows_of}
 use Rattle.eu_model.proofs.ListingLemmas.{filter_true}
 use Rattle.eu_store.proofs.OrderLemmas.{Entries, held, listing_at, row_held}
@@ -24,31 +24,31 @@ use Rattle.eu_store.proofs.RowLemmas.{keys_shown}
 -- ---- what is listed
 
 -- a lease that lasts until its deadline is that lease
-lasting_begun : (l : Listed) → lasting (deadline_of l) (begun l) ≡ l
-lasting_begun l = λ j. record l { times = record l.times { updated = less j } }
+lasting_undated : (l : Listed) → lasting (deadline_of l) (undated l) ≡ l
+lasting_undated l = λ j. record l { times = record l.times { updated = less j } }
   where
     less : l.times.updated + duration l.instance - duration l.instance ≡ l.times.updated
     less = omega arith
 
-both_at : (es : Entries) (parts : List (List Listed)) (places : List ℕ) → ((p : ℕ) → p < length es → begun_at parts p ≡ slice_get (begun_of es) p)
+both_at : (es : Entries) (parts : List (List Listed)) (places : List ℕ) → ((p : ℕ) → p < length es → undated_at parts p ≡ slice_get (undated_of es) p)
     → ((i : ℕ) → i < length places → get_or places i 0 < length es) → at_places (values_of es) places ≡ map Some (snapped parts (deadlines es) places)
 both_at es parts [] whole within = refl
 both_at es parts (p ∷ ps) whole within =
     let low = within 0 (omega arith) in
     let entry = entry_there es p low in
     let l = entry.0.1 in
-    let begins = whole p low ∙ slice_get-map (λ e. begun e.1) es p ∙ ap (option_map (λ (e : Key × Listed). begun e.1)) entry.1 in
+    let there = whole p low ∙ slice_get-map (λ e. undated e.1) es p ∙ ap (option_map (λ (e : Key × Listed). undated e.1)) entry.1 in
     let value = slice_get-map (λ e. e.1) es p ∙ ap (option_map (λ (e : Key × Listed). e.1)) entry.1 in
     let ends : slice_index (deadlines es) p ≡ deadline_of l = get_or_from_slice_get (deadlines es) p (deadline_of l) 0 (slice_get-map (λ e. deadline_of e.1) es p ∙ ap (option_map (λ (e : Key × Listed). deadline_of e.1)) entry.1) in
-    let here = value ∙ ap (λ (x : Listed). Some x) (sym (ap (λ d. lasting d (begun l)) ends ∙ lasting_begun l)) in
+    let here = value ∙ ap (λ (x : Listed). Some x) (sym (ap (λ d. lasting d (undated l)) ends ∙ lasting_undated l)) in
     (λ j. here j ∷ both_at es parts ps whole (λ i under. within (suc i) (omega (arith, under))) j)
-    ∙ ap (λ o. map (λ (x : Listed). Some x) (option_map_or (λ x. lasting (slice_index (deadlines es) p) x ∷ snapped parts (deadlines es) ps) o (snapped parts (deadlines es) ps))) (sym begins)
+    ∙ ap (λ o. map (λ (x : Listed). Some x) (option_map_or (λ x. lasting (slice_index (deadlines es) p) x ∷ snapped parts (deadlines es) ps) o (snapped parts (deadlines es) ps))) (sym there)
 
-pub snapshot_is : (es : Entries) (places : List ℕ) (parts : List Part) → IsDistinct key_eq (keys_of es) → IsInOrder es places → AreWhole es parts → snapped (begun_in parts) (deadlines es) places ≡ listing_of None (held es)
+pub snapshot_is : (es : Entries) (places : List ℕ) (parts : List Part) → IsDistinct key_eq (keys_of es) → IsInOrder es places → AreWhole es parts → snapped (undated_in parts) (deadlines es) places ≡ listing_of None (held es)
 snapshot_is es places parts apart order whole =
     let in_order : at_places (keys_of es) places ≡ map Some (filter (is_of None) (keys_held es)) = order ∙ ap (map (λ (k : Key). Some k)) (sym (filter_true (keys_held es))) in
-    same_all (snapped (begun_in parts) (deadlines es) places) (listing_of None (held es)) (
-    sym (both_at es (begun_in parts) places (part_lookup es parts whole) (λ i low. omega (arith, place_within (keys_of es) places (keys_held es) i order low, length-map es (λ e. e.0))))
+    same_all (snapped (undated_in parts) (deadlines es) places) (listing_of None (held es)) (
+    sym (both_at es (undated_in parts) places (part_lookup es parts whole) (λ i low. omega (arith, place_within (keys_of es) places (keys_held es) i order low, length-map es (λ e. e.0))))
     ∙ listing_at None es places apart in_order)
 
 -- what was found, as a list
@@ -57,7 +57,7 @@ found o = option_map_or (λ l. l ∷ []) o []
 
 -- one place more
 pub one_more_snapped : (parts : List (List Listed)) (until : List ℕ) (places : List ℕ) (n : ℕ) → n < length places
-    → snapped parts until (take n places) ++ found (option_map (lasting (slice_index until (get_or places n 0))) (begun_at parts (get_or places n 0))) ≡ snapped parts until (take (n + 1) places)
+    → snapped parts until (take n places) ++ found (option_map (lasting (slice_index until (get_or places n 0))) (undated_at parts (get_or places n 0))) ≡ snapped parts until (take (n + 1) places)
 one_more_snapped parts until places n low = sym (ap (snapped parts until) (take_more places n 0 low) ∙ pushed (take n places) (get_or places n 0))
   where
     alone : (d : ℕ) (o : Option Listed) → option_map_or (λ l. lasting d l ∷ []) o [] ≡ found (option_map (lasting d) o)
@@ -68,11 +68,11 @@ one_more_snapped parts until places n low = sym (ap (snapped parts until) (take_
     behind d None ls ms = refl
     behind d (Some l) ls ms = refl
 
-    pushed : (ps : List ℕ) (p : ℕ) → snapped parts until (ps ++ p ∷ []) ≡ snapped parts until ps ++ found (option_map (lasting (slice_index until p)) (begun_at parts p))
-    pushed [] p = alone (slice_index until p) (begun_at parts p)
+    pushed : (ps : List ℕ) (p : ℕ) → snapped parts until (ps ++ p ∷ []) ≡ snapped parts until ps ++ found (option_map (lasting (slice_index until p)) (undated_at parts p))
+    pushed [] p = alone (slice_index until p) (undated_at parts p)
     pushed (q ∷ qs) p =
-        ap (λ ls. option_map_or (λ l. lasting (slice_index until q) l ∷ ls) (begun_at parts q) ls) (pushed qs p)
-        ∙ behind (slice_index until q) (begun_at parts q) (snapped parts until qs) (found (option_map (lasting (slice_index until p)) (begun_at parts p)))
+        ap (λ ls. option_map_or (λ l. lasting (slice_index until q) l ∷ ls) (undated_at parts q) ls) (pushed qs p)
+        ∙ behind (slice_index until q) (undated_at parts q) (snapped parts until qs) (found (option_map (lasting (slice_index until p)) (undated_at parts p)))
 
 -- ---- a row that is found by its key
 

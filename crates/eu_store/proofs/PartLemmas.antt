@@ -1,4 +1,4 @@
--- Parts of a table stay right where each of their leases stays as it began, and what they show is the table
+-- Parts of a table stay right where no more than last updates moves in them, and what they show is the table
 use Rattle.std.proofs.Common.{◌≡◌, ◌≢◌, ℕ, zero, suc, ◌+◌, ◌-◌, ◌*◌, ◌/◌, ◌%◌, ◌<◌, ◌≤◌, ◌⊎◌, inl, inr, List, [], ◌∷◌, ◌++◌, length, get_or, set, take, drop, slice_get, refl, sym, ap, ◌∙◌, Option, None, Some, arith}
 use Rattle.std.specs.Arc.{arc_value}
 use Rattle.std.specs.List.{swap_remove}
@@ -13,7 +13,7 @@ use Rattle.indexmap.specs.IndexMap.{set_value_at}
 use Rattle.eu_base.specs.declared.names.Key.{Key}
 use Rattle.eu_model.specs.declared.views.Listed.{Listed}
 use Rattle.eu_store.specs.declared.directory.Directory.{Directory}
-use Rattle.eu_store.specs.Order.{begun, begun_at, begun_in, begun_of, window, AreOrdered, AreParts, AreWhole, IsForgotten, Part}
+use Rattle.eu_store.specs.Order.{undated, undated_at, undated_in, undated_of, window, AreOrdered, AreParts, AreWhole, IsForgotten, Part}
 use Rattle.eu_store.proofs.FoundLemmas.{entry_there}
 use Rattle.eu_store.proofs.OrderLemmas.{order_kept}
 use Rattle.eu_store.proofs.PlaceLemmas.{get_take, map_swapped, swapped_other}
@@ -111,43 +111,43 @@ abbrev Entries : Type 0
 Entries = List (Key × Listed)
 
 -- a step that changes what stands at two places
-step : (es fs : Entries) (parts after : List (Option Part)) (p q : ℕ) → AreParts es parts → ((x : ℕ) → x ≢ p → x ≢ q → slice_get (begun_of fs) x ≡ slice_get (begun_of es) x)
+step : (es fs : Entries) (parts after : List (Option Part)) (p q : ℕ) → AreParts es parts → ((x : ℕ) → x ≢ p → x ≢ q → slice_get (undated_of fs) x ≡ slice_get (undated_of es) x)
     → ((n : ℕ) (c : Part) → slice_get after n ≡ Some (Some c) → (slice_get parts n ≡ Some (Some c)) × (p / 512 ≢ n) × (q / 512 ≢ n)) → AreParts fs after
 step es fs parts after p q right same left n c at =
     let before = left n c at in
-    right n c before.0 ∙ sym (slices_alike 512 (n * 512) (begun_of es) (begun_of fs)
+    right n c before.0 ∙ sym (slices_alike 512 (n * 512) (undated_of es) (undated_of fs)
     (λ x from to. same x (λ e. before.1 (ap (λ y. y / 512) (sym e) ∙ in_window n x from to)) (λ e. before.2 (ap (λ y. y / 512) (sym e) ∙ in_window n x from to))))
 
 pub parts_put : (es fs : Entries) (k : Key) (v : Listed) (parts after : List (Option Part)) → AreParts es parts → IsForgotten (length es) parts after → fs ≡ es ++ (k, v) ∷ [] → AreParts fs after
 parts_put es fs k v parts after right left made =
     step es fs parts after (length es) (length es) right
-    (λ x apart _. ap (λ (l : Entries). slice_get (begun_of l) x) made ∙ ap (λ l. slice_get l x) (pushed es) ∙ get_more (begun_of es) (begun v) x (λ e. apart (e ∙ length-map es (λ f. begun f.1))))
+    (λ x apart _. ap (λ (l : Entries). slice_get (undated_of l) x) made ∙ ap (λ l. slice_get l x) (pushed es) ∙ get_more (undated_of es) (undated v) x (λ e. apart (e ∙ length-map es (λ f. undated f.1))))
     (λ n c at. let before = left n c at in (before.0, before.1, before.1))
   where
-    pushed : (es : Entries) → begun_of (es ++ (k, v) ∷ []) ≡ begun_of es ++ begun v ∷ []
+    pushed : (es : Entries) → undated_of (es ++ (k, v) ∷ []) ≡ undated_of es ++ undated v ∷ []
     pushed [] = refl
-    pushed (e ∷ es) = ap (λ is. begun e.1 ∷ is) (pushed es)
+    pushed (e ∷ es) = ap (λ is. undated e.1 ∷ is) (pushed es)
 
 pub parts_taken : (es fs : Entries) (p : ℕ) (d : Key × Listed) (parts after : List (Option Part)) → AreParts es parts → 0 < length es
     → ((n : ℕ) (c : Part) → slice_get after n ≡ Some (Some c) → (slice_get parts n ≡ Some (Some c)) × (p / 512 ≢ n) × ((length es - 1) / 512 ≢ n)) → fs ≡ swap_remove es p d → AreParts fs after
 parts_taken es fs p d parts after right some left made =
     step es fs parts after p (length es - 1) right
-    (λ x not_p not_last. ap (λ (l : Entries). slice_get (begun_of l) x) made ∙ ap (λ l. slice_get l x) (map_swapped (λ e. begun e.1) es p d (begun d.1) some)
-    ∙ get_swapped (begun_of es) p x (begun d.1) not_p (λ e. not_last (e ∙ ap (λ n. n - 1) (length-map es (λ f. begun f.1)))))
+    (λ x not_p not_last. ap (λ (l : Entries). slice_get (undated_of l) x) made ∙ ap (λ l. slice_get l x) (map_swapped (λ e. undated e.1) es p d (undated d.1) some)
+    ∙ get_swapped (undated_of es) p x (undated d.1) not_p (λ e. not_last (e ∙ ap (λ n. n - 1) (length-map es (λ f. undated f.1)))))
     left
 
 pub parts_set : (es : Entries) (i : ℕ) (v : Listed) (parts after : List (Option Part)) → AreParts es parts → IsForgotten i parts after → AreParts (set_value_at es i v) after
 parts_set es i v parts after right left =
     step es (set_value_at es i v) parts after i i right (λ x apart _. elsewhere es i x apart) (λ n c at. let before = left n c at in (before.0, before.1, before.1))
   where
-    elsewhere : (es : Entries) (i x : ℕ) → x ≢ i → slice_get (begun_of (set_value_at es i v)) x ≡ slice_get (begun_of es) x
+    elsewhere : (es : Entries) (i x : ℕ) → x ≢ i → slice_get (undated_of (set_value_at es i v)) x ≡ slice_get (undated_of es) x
     elsewhere [] i x apart = refl
     elsewhere (e ∷ es) zero zero apart = absurd (apart refl)
     elsewhere (e ∷ es) zero (suc x) apart = refl
     elsewhere (e ∷ es) (suc i) zero apart = refl
     elsewhere (e ∷ es) (suc i) (suc x) apart = elsewhere es i x (λ same. apart (ap suc same))
 
-pub parts_stay : (es fs : Entries) (parts : List (Option Part)) → AreParts es parts → begun_of fs ≡ begun_of es → AreParts fs parts
+pub parts_stay : (es fs : Entries) (parts : List (Option Part)) → AreParts es parts → undated_of fs ≡ undated_of es → AreParts fs parts
 parts_stay es fs parts right same n c at = right n c at ∙ ap (window n) (sym same)
 
 -- what another value at a place leaves
@@ -156,41 +156,41 @@ keys_set [] i v = refl
 keys_set (e ∷ es) zero v = refl
 keys_set (e ∷ es) (suc i) v = ap (λ ks. e.0 ∷ ks) (keys_set es i v)
 
-pub set_alike : (es : Entries) (i : ℕ) (v : Listed) → Some (begun v) ≡ slice_get (begun_of es) i → begun_of (set_value_at es i v) ≡ begun_of es
+pub set_alike : (es : Entries) (i : ℕ) (v : Listed) → Some (undated v) ≡ slice_get (undated_of es) i → undated_of (set_value_at es i v) ≡ undated_of es
 set_alike [] i v same = refl
-set_alike (e ∷ es) zero v same = ap (λ x. x ∷ begun_of es) (first same)
+set_alike (e ∷ es) zero v same = ap (λ x. x ∷ undated_of es) (first same)
   where
-    first : ◌≡◌ {A = Option Listed} (Some (begun v)) (Some (begun e.1)) → begun v ≡ begun e.1
+    first : ◌≡◌ {A = Option Listed} (Some (undated v)) (Some (undated e.1)) → undated v ≡ undated e.1
     first h = cc
-set_alike (e ∷ es) (suc i) v same = ap (λ xs. begun e.1 ∷ xs) (set_alike es i v same)
+set_alike (e ∷ es) (suc i) v same = ap (λ xs. undated e.1 ∷ xs) (set_alike es i v same)
 
-pub begun_of_value : (es : Entries) (i : ℕ) (l : Listed) → slice_get (values_of es) i ≡ Some l → slice_get (begun_of es) i ≡ Some (begun l)
-begun_of_value [] i l there = absurd (nothing there)
+pub undated_of_value : (es : Entries) (i : ℕ) (l : Listed) → slice_get (values_of es) i ≡ Some l → slice_get (undated_of es) i ≡ Some (undated l)
+undated_of_value [] i l there = absurd (nothing there)
   where
     nothing : ◌≡◌ {A = Option Listed} None (Some l) → ⊥
     nothing e = cc
-begun_of_value (e ∷ es) zero l there = ap (option_map begun) there
-begun_of_value (e ∷ es) (suc i) l there = begun_of_value es i l there
+undated_of_value (e ∷ es) zero l there = ap (option_map undated) there
+undated_of_value (e ∷ es) (suc i) l there = undated_of_value es i l there
 
--- a change that keeps each key, and how each lease began
-pub ordered_alike : (es fs : Entries) (kept : Option Directory) → keys_of fs ≡ keys_of es → begun_of fs ≡ begun_of es → AreOrdered es kept → AreOrdered fs kept
+-- a change that keeps each key, and each lease but for its last update
+pub ordered_alike : (es fs : Entries) (kept : Option Directory) → keys_of fs ≡ keys_of es → undated_of fs ≡ undated_of es → AreOrdered es kept → AreOrdered fs kept
 ordered_alike es fs None keys same is = tt
 ordered_alike es fs (Some d) keys same is = (order_kept es fs d.places.items is.0 keys, parts_stay es fs d.parts.items is.1 same)
 
-pub kept_part : (es : Entries) (parts after : List (Option Part)) (number : ℕ) (part : Part) → AreParts es parts → (arc_value part).items ≡ window number (begun_of es)
+pub kept_part : (es : Entries) (parts after : List (Option Part)) (number : ℕ) (part : Part) → AreParts es parts → (arc_value part).items ≡ window number (undated_of es)
     → ((n : ℕ) (c : Part) → slice_get after n ≡ Some (Some c) → (slice_get parts n ≡ Some (Some c)) ⊎ ((n ≡ number) × (c ≡ part))) → AreParts es after
 kept_part es parts after number part right made left n c at = by (left n c at)
   where
-    by : (slice_get parts n ≡ Some (Some c)) ⊎ ((n ≡ number) × (c ≡ part)) → (arc_value c).items ≡ window n (begun_of es)
+    by : (slice_get parts n ≡ Some (Some c)) ⊎ ((n ≡ number) × (c ≡ part)) → (arc_value c).items ≡ window n (undated_of es)
     by (inl before) = right n c before
-    by (inr now) = ap (λ (q : Part). (arc_value q).items) now.1 ∙ made ∙ ap (λ m. window m (begun_of es)) (sym now.0)
+    by (inr now) = ap (λ (q : Part). (arc_value q).items) now.1 ∙ made ∙ ap (λ m. window m (undated_of es)) (sym now.0)
 
 -- ---- what all parts show
 
-pub part_lookup : (es : Entries) (parts : List Part) → AreWhole es parts → (p : ℕ) → p < length es → begun_at (begun_in parts) p ≡ slice_get (begun_of es) p
+pub part_lookup : (es : Entries) (parts : List Part) → AreWhole es parts → (p : ℕ) → p < length es → undated_at (undated_in parts) p ≡ slice_get (undated_of es) p
 part_lookup es parts whole p low =
     let at = parted p in
     let c = entry_there parts (p / 512) (omega (arith, at.0, low, whole.1)) in
     ap (λ o. option_and_then (λ w. slice_get w (p % 512)) o) (slice_get-map (λ (q : Part). (arc_value q).items) parts (p / 512) ∙ ap (option_map (λ (q : Part). (arc_value q).items)) c.1)
     ∙ ap (λ w. slice_get w (p % 512)) (whole.0 (p / 512) c.0 c.1)
-    ∙ get_window (begun_of es) p
+    ∙ get_window (undated_of es) p

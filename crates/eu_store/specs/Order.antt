@@ -48,13 +48,13 @@ is_through app x = is_le (name_cmp x.app app)
 abbrev pub at_place : (Key → Bool) → List (Key × Listed) → ℕ → Bool
 at_place test es place = option_map_or test (slice_get (keys_of es) place) false
 
--- a lease as it began: without its last update, which each heartbeat moves
-abbrev pub begun : Listed → Listed
-begun l = record l { times = record l.times { updated = 0 } }
+-- a lease without its last update
+abbrev pub undated : Listed → Listed
+undated l = record l { times = record l.times { updated = 0 } }
 
 -- those of a table's entries
-abbrev pub begun_of : List (Key × Listed) → List Listed
-begun_of es = map (λ e. begun e.1) es
+abbrev pub undated_of : List (Key × Listed) → List Listed
+undated_of es = map (λ e. undated e.1) es
 
 -- how many neighbours are in a part, and those of the n-th part
 abbrev pub part_room : ℕ
@@ -65,11 +65,11 @@ window n xs = take part_room (drop (n * part_room) xs)
 
 -- parts that were gathered are those of the table
 abbrev pub AreParts : List (Key × Listed) → List (Option Part) → Type 0
-AreParts es parts = (n : ℕ) (c : Part) → slice_get parts n ≡ Some (Some c) → (arc_value c).items ≡ window n (begun_of es)
+AreParts es parts = (n : ℕ) (c : Part) → slice_get parts n ≡ Some (Some c) → (arc_value c).items ≡ window n (undated_of es)
 
 -- and so are these, which are all of them
 abbrev pub AreWhole : List (Key × Listed) → List Part → Type 0
-AreWhole es parts = ((n : ℕ) (c : Part) → slice_get parts n ≡ Some c → (arc_value c).items ≡ window n (begun_of es)) × (length es ≤ length parts * part_room)
+AreWhole es parts = ((n : ℕ) (c : Part) → slice_get parts n ≡ Some c → (arc_value c).items ≡ window n (undated_of es)) × (length es ≤ length parts * part_room)
 
 -- parts of before, but for that of a place
 abbrev pub IsForgotten : ℕ → List (Option Part) → List (Option Part) → Type 0
@@ -89,18 +89,18 @@ room_in d = d.places.cap - length d.places.items
 abbrev pub room_of : Option Directory → ℕ
 room_of kept = option_map_or (λ d. room_in d) kept most_leases
 
--- the leases of parts, and the one of a place
-abbrev pub begun_in : List Part → List (List Listed)
-begun_in parts = map (λ (p : Part). (arc_value p).items) parts
+-- the leases of parts, without their last updates, and the one of a place
+abbrev pub undated_in : List Part → List (List Listed)
+undated_in parts = map (λ (p : Part). (arc_value p).items) parts
 
-abbrev pub begun_at : List (List Listed) → ℕ → Option Listed
-begun_at parts place = option_and_then (λ p. slice_get p (place % part_room)) (slice_get parts (place / part_room))
+abbrev pub undated_at : List (List Listed) → ℕ → Option Listed
+undated_at parts place = option_and_then (λ p. slice_get p (place % part_room)) (slice_get parts (place / part_room))
 
 -- a lease that lasts until then: its last update is one duration before
 abbrev pub lasting : ℕ → Listed → Listed
 lasting deadline l = record l { times = record l.times { updated = deadline - duration l.instance } }
 
--- what places list, where a lease of each place began and until when it lasts
+-- what places list, by the leases without their last updates and the deadlines of all
 abbrev pub snapped : List (List Listed) → List ℕ → List ℕ → List Listed
 snapped parts deadlines [] = []
-snapped parts deadlines (p ∷ ps) = option_map_or (λ l. lasting (slice_index deadlines p) l ∷ snapped parts deadlines ps) (begun_at parts p) (snapped parts deadlines ps)
+snapped parts deadlines (p ∷ ps) = option_map_or (λ l. lasting (slice_index deadlines p) l ∷ snapped parts deadlines ps) (undated_at parts p) (snapped parts deadlines ps)

@@ -10,7 +10,7 @@ ghost use Rattle.eu_base.specs.Limits.{most_leases};
 ghost use Rattle.eu_model.specs.View.{is_of};
 ghost use Rattle.eu_store.specs.Brief.{IsBrief};
 ghost use Rattle.eu_store.specs.Limit.{within};
-ghost use Rattle.eu_store.specs.Order.{at_place, at_places, begun_of, is_below, keys_held, room_in, window, AreParts, AreWhole, IsDirectory, IsForgotten};
+ghost use Rattle.eu_store.specs.Order.{at_place, at_places, undated_of, is_below, keys_held, room_in, window, AreParts, AreWhole, IsDirectory, IsForgotten};
 ghost use Rattle.eu_store.specs.Stored.{listing_of};
 ghost use Rattle.std.specs.FinMap as map;
 
@@ -27,11 +27,11 @@ pub(crate) const PART_ROOM: usize = 512;
 /// How many parts the largest table has.
 const MOST_PARTS: usize = 128;
 
-/// Some neighbours in a table, each as it began: without its last update.
+/// Some neighbours in a table, each without its last update.
 pub(crate) type Part = Arc<Vec<Listed>, Global>;
 
-/// The places of a table's leases in the order of their keys; and how these began, in parts that readers share, as far as they were
-/// gathered since the last step that changed more than the last update of one of the part. A place has 16 bits, since at most 65,536 leases are held: so a lease
+/// The places of a table's leases in the order of their keys; and the leases without their last updates, in parts that readers share, as far as
+/// they were gathered since the last step that changed more than the last update of one of the part. A place has 16 bits, since at most 65,536 leases are held: so a lease
 /// that comes or goes moves at most 128 KB.
 #[derive(Debug, Drop)]
 pub(crate) struct Directory {
@@ -211,7 +211,7 @@ impl Directory {
         requires there { number * PART_ROOM < length table.now.entries }
         ensures places { self.new.places ≡ self.old.places }
         ensures parts { AreParts table.now.entries self.new.parts.items }
-        ensures part { IfOk result (λ p. (arc_value p).items ≡ window number (begun_of table.now.entries)) }
+        ensures part { IfOk result (λ p. (arc_value p).items ≡ window number (undated_of table.now.entries)) }
     {
         if let Some(part) = self.kept(number)? {
             return Ok(part);
@@ -254,10 +254,10 @@ fn no_parts(alloc: Global) -> Result<Vec<Option<Part>>, AllocError>
     Ok(parts)
 }
 
-/// How the leases of the part of that number began. `AllocError` where no memory is left.
+/// The leases of the part of that number, without their last updates. `AllocError` where no memory is left.
 fn gathered(alloc: Global, table: &Table, number: usize) -> Result<Vec<Listed>, AllocError>
     requires { number * PART_ROOM < length table.now.entries }
-    ensures { IfOk result (λ v. v.items ≡ window number (begun_of table.now.entries)) }
+    ensures { IfOk result (λ v. v.items ≡ window number (undated_of table.now.entries)) }
 {
     let entries = table.as_slice();
     let begin = number * PART_ROOM;
@@ -265,7 +265,7 @@ fn gathered(alloc: Global, table: &Table, number: usize) -> Result<Vec<Listed>, 
     let mut neighbours = Vec::with_capacity(alloc, PART_ROOM)?;
     for place in begin..end {
         let (_key, held) = entries.get_index(place).unwrap();
-        neighbours.push(held.begun()?)?;
+        neighbours.push(held.undated()?)?;
     }
     Ok(neighbours)
 }

@@ -4,7 +4,7 @@ ghost use Rattle.eu_lease.specs.Term.{listed_with};
 ghost use Rattle.eu_model.specs.Change.{stamped};
 ghost use Rattle.eu_model.specs.PlainSteps.{plain_expired};
 ghost use Rattle.eu_store.specs.Brief.{IsShort};
-ghost use Rattle.eu_store.specs.Order.{begun};
+ghost use Rattle.eu_store.specs.Order.{undated};
 ghost use Rattle.eu_store.specs.Stored.{amended, deadline_of, term_of};
 
 use eu_base::{Moment, SharedInstance, Stamp, Status};
@@ -87,8 +87,8 @@ impl HeldLease {
     }
 
     /// Both, without the last update. `AllocError` where 2^63 share the instance.
-    pub(crate) fn begun(&self) -> Result<Listed, AllocError>
-        ensures { IfOk result (λ l. l ≡ begun self.now) }
+    pub(crate) fn undated(&self) -> Result<Listed, AllocError>
+        ensures { IfOk result (λ l. l ≡ undated self.now) }
     {
         Ok(Listed {
             instance: self.instance.share()?,
@@ -252,10 +252,10 @@ impl Amendment {
         }
     }
 
-    /// Whether a lease stays as it began, as a heartbeat leaves it: no more than its last update moves. Where this is `false` the same
+    /// Whether no more of a lease moves than its last update, as where a heartbeat leaves its instance as it was. Where this is `false` the same
     /// may hold nonetheless.
     pub(crate) fn renews(&self, held: &HeldLease) -> bool
-        ensures { IsTrue result → begun (amended self.now held.now) ≡ begun held.now }
+        ensures { IsTrue result → undated (amended self.now held.now) ≡ undated held.now }
     {
         match self {
             Amendment::Renewed { .. } => true,

@@ -8,7 +8,7 @@ ghost use Rattle.eu_base.specs.Limits.{most_leases};
 ghost use Rattle.eu_base.specs.Values.{key_eq};
 ghost use Rattle.eu_base.specs.declared.names.Key.{Key};
 ghost use Rattle.eu_model.specs.declared.views.Listed.{Listed};
-ghost use Rattle.eu_store.specs.Order.{at_places, begun, begun_of, AreOrdered, map_by, room_of};
+ghost use Rattle.eu_store.specs.Order.{at_places, undated, undated_of, AreOrdered, map_by, room_of};
 ghost use Rattle.eu_store.specs.Sweep.{AreBelow, ArePartsOf, ArePlacesOf, places_in};
 
 use crate::directory::Directory;
@@ -105,7 +105,7 @@ pub(crate) fn renumber(directory: &mut Option<Directory>, origins: &[u16], moved
 /// What is left of it where the lease of a place changes: its part goes, unless only the last update moves.
 pub(crate) fn change(directory: &mut Option<Directory>, table: &Table, place: usize, is_kept: bool)
     requires ordered { AreOrdered table.now.entries directory.old }
-    ensures ordered { (v : Listed) → (IsTrue is_kept → Some (begun v) ≡ slice_get (begun_of table.now.entries) place) → AreOrdered (set_value_at table.now.entries place v) directory.new }
+    ensures ordered { (v : Listed) → (IsTrue is_kept → Some (undated v) ≡ slice_get (undated_of table.now.entries) place) → AreOrdered (set_value_at table.now.entries place v) directory.new }
     ensures room { room_of directory.new ≡ room_of directory.old }
 {
     if is_kept {

@@ -327,7 +327,7 @@ impl Leases {
     }
 
     /// Everything that is held, for who holds a lock. The first one sorts what is held; each other looks at no lease, but at those that
-    /// stand near one that came, went, or changed by more than a heartbeat. What is held stays as it is. `AllocError` where no memory is left.
+    /// stand near one that came, went, or changed by more than its last update. What is held stays as it is. `AllocError` where no memory is left.
     pub fn snapshot(&mut self, alloc: Global) -> Result<Snapshot, AllocError>
         ensures listing { IfOk result (λ s. s ≡ listing_of None self.old.held) }
         ensures held { self.new.held ≡ self.old.held }
@@ -337,6 +337,7 @@ impl Leases {
         let parts = directory.parts(alloc, &self.table)?;
         let order = directory.order(alloc)?;
         let deadlines = self.index.list(alloc)?;
+        // for the prover: so its keys are known to be distinct
         let _entries = self.table.as_slice();
         Ok(Snapshot::new(parts, deadlines, order))
     }

@@ -99,7 +99,7 @@ pub fn count_expired(alloc: Global, count: u64, expired: u64, times: u64) -> Res
     Ok(found)
 }
 
-/// How many leases the last one of so many snapshots lists, where so many are held, and one is renewed before each. 0 where none is taken. `Full` where
+/// How many leases the last one of so many snapshots lists, where so many are held, and the same one is renewed before each. 0 where none is taken. `Full` where
 /// they are more than 65,536; `OutOfMemory`.
 pub fn count_in_snapshots(alloc: Global, count: u64, times: u64) -> Result<u64, Fault> {
     let keys = keys(alloc, count)?;

@@ -6,7 +6,7 @@ use Rattle.std.proofs.lemmas.List.{length-map}
 use Rattle.std.proofs.lemmas.Option.{slice_get-map}
 use Rattle.eu_base.specs.declared.names.Key.{Key}
 use Rattle.eu_model.specs.declared.views.Listed.{Listed}
-use Rattle.eu_store.specs.Order.{begun, begun_of}
+use Rattle.eu_store.specs.Order.{undated, undated_of}
 use Rattle.eu_store.proofs.PartLemmas.{gathered_all, gathered_more}
 use Rattle.eu_store.proofs.directory.gathered.Goals as goal
 
@@ -16,11 +16,11 @@ loop-place-preserved c =
     let p = c.loop-place.place in
     let b = c.args.number * 512 in
     let entry = sym c.get_index.ensures.entry ∙ ap (option_map deref_pair) c.unwrap.ensures in
-    let there = slice_get-map (λ e. begun e.1) es p ∙ ap (option_map (λ (e : Key × Listed). begun e.1)) entry ∙ ap (λ (l : Listed). Some l) (sym c.in_ok-begun.ensures) in
-    let more = gathered_more (begun_of es) b p c.in_ok-begun.field-0 c.loop-place.invariant.from there in
+    let there = slice_get-map (λ e. undated e.1) es p ∙ ap (option_map (λ (e : Key × Listed). undated e.1)) entry ∙ ap (λ (l : Listed). Some l) (sym c.in_ok-undated.ensures) in
+    let more = gathered_more (undated_of es) b p c.in_ok-undated.field-0 c.loop-place.invariant.from there in
     record {
-      items = c.in_ok-push.ensures.items ∙ ap (λ is. is ++ c.in_ok-begun.field-0 ∷ []) (c.loop-place.invariant.items ∙ ap (λ (l : List (Key × Listed)). take (p - b) (drop b (begun_of l))) (sym c.as_slice-entries.ensures.entries))
-          ∙ sym more ∙ ap (λ (l : List (Key × Listed)). take (p + 1 - b) (drop b (begun_of l))) c.as_slice-entries.ensures.entries;
+      items = c.in_ok-push.ensures.items ∙ ap (λ is. is ++ c.in_ok-undated.field-0 ∷ []) (c.loop-place.invariant.items ∙ ap (λ (l : List (Key × Listed)). take (p - b) (drop b (undated_of l))) (sym c.as_slice-entries.ensures.entries))
+          ∙ sym more ∙ ap (λ (l : List (Key × Listed)). take (p + 1 - b) (drop b (undated_of l))) c.as_slice-entries.ensures.entries;
       from = omega (arith, c.loop-place.invariant.from);
       to = omega (arith, c.loop-place-test.true);
     }
@@ -29,13 +29,13 @@ pub returns : goal.returns
 returns c = c.loop-place.invariant.items ∙ gathered_all is c.args.number e c.loop-place.invariant.from high up (by (cases_lt (length is) (c.args.number * 512 + 512)))
   where
     is : List Listed
-    is = begun_of c.args.table.now.entries
+    is = undated_of c.args.table.now.entries
 
     e : ℕ
     e = c.loop-place.place
 
     many : length is ≡ length c.as_slice-entries.result
-    many = length-map c.args.table.now.entries (λ f. begun f.1) ∙ sym (ap length c.as_slice-entries.ensures.entries)
+    many = length-map c.args.table.now.entries (λ f. undated f.1) ∙ sym (ap length c.as_slice-entries.ensures.entries)
 
     high : e ≤ length is
     high = omega (arith, c.loop-place.invariant.to, c.min-end.ensures, many, c.len.ensures)

@@ -4,12 +4,12 @@ use Rattle.indexmap.specs.IndexMap.{spare, set_value_at}
 use Rattle.std.specs.FinMap as map
 use Rattle.eu_model.specs.declared.views.Listed.{Listed}
 use Rattle.eu_model.specs.View.{in_status, with_one_more, with_one_fewer}
-use Rattle.eu_store.specs.Order.{begun}
+use Rattle.eu_store.specs.Order.{undated}
 use Rattle.eu_store.specs.Stored.{amended, counts_of}
 use Rattle.eu_store.proofs.CountLemmas.{counts_changed, counts_most, counted_there}
 use Rattle.eu_store.proofs.MapLemmas.{none_from_is_some}
 use Rattle.eu_store.proofs.TableLemmas.{by_key, get_at, get_in, inserted, changed_in, unchanged_in}
-use Rattle.eu_store.proofs.PartLemmas.{begun_of_value}
+use Rattle.eu_store.proofs.PartLemmas.{undated_of_value}
 use Rattle.eu_store.proofs.PlaceLemmas.{same_some}
 use Rattle.eu_store.proofs.IndexLemmas.{deadlines-set, length-set_value_at, written_at}
 use Rattle.eu_store.proofs.leases.Leases.amend.Goals as goal
@@ -47,7 +47,7 @@ invariant_of-self c =
       c.set.ensures.list ∙ (λ i. set (c.self.invariant.1 i) c.in-Some.place (c.deadline.ensures i)) ∙ sym (deadlines-set es c.in-Some.place c.amend.new.self),
       c.recount.ensures ∙ (λ i. with_one_more (with_one_fewer (c.self.invariant.2 i) ((c.status-before.ensures ∙ ap (λ (j : Instance). j.status) c.instance.ensures) i)) ((c.status.ensures ∙ ap (λ (j : Instance). j.status) c.instance-2.ensures) i))
           ∙ counts_changed (map.from_entries es) k c.index_mut-held.result.now c.amend.new.self there ∙ sym (ap counts_of now),
-      c.change.ensures.ordered c.amend.new.self (λ is_kept. sym (begun_of_value es c.in-Some.place c.index_mut-held.result.now value ∙ ap (λ (l : Listed). Some l) (sym (ap begun c.amend.ensures ∙ ap (λ (l : Listed). begun (amended c.args.amendment l)) same ∙ c.renews-is_kept.ensures is_kept ∙ ap begun (sym same))))),
+      c.change.ensures.ordered c.amend.new.self (λ is_kept. sym (undated_of_value es c.in-Some.place c.index_mut-held.result.now value ∙ ap (λ (l : Listed). Some l) (sym (ap undated c.amend.ensures ∙ ap (λ (l : Listed). undated (amended c.args.amendment l)) same ∙ c.renews-is_kept.ensures is_kept ∙ ap undated (sym same))))),
     )
 
 pub returns-clause-found : goal.returns-clause-found

@@ -1,7 +1,7 @@
 use Rattle.std.proofs.Common.{◌++◌, List, take, Option, slice_index, ap, ◌∙◌}
 use Rattle.std.specs.Option.{option_map}
 use Rattle.eu_model.specs.declared.views.Listed.{Listed}
-use Rattle.eu_store.specs.Order.{begun_at, begun_in, lasting, snapped}
+use Rattle.eu_store.specs.Order.{undated_at, undated_in, lasting, snapped}
 use Rattle.eu_store.proofs.DirectoryLemmas.{found, one_more_snapped}
 use Rattle.eu_store.proofs.snapshot.Snapshot.listed.Goals as goal
 
@@ -12,6 +12,6 @@ loop-place-preserved c =
     let parts = c.self.inside.parts.items in
     let until = c.self.inside.deadlines in
     c.in_ok-append.ensures ∙ ap (λ (ls : List Listed). ls ++ found c.in_ok-found.found) c.loop-place.invariant
-    ∙ ap (λ (o : Option Listed). snapped (begun_in parts) until (take n places) ++ found o)
-    (c.in_ok-found.ensures ∙ (λ j. option_map (lasting (slice_index until (c.from.ensures j))) (begun_at (begun_in (c.deref.ensures.value j)) (c.from.ensures j))))
-    ∙ one_more_snapped (begun_in parts) until places n c.loop-place-test.true
+    ∙ ap (λ (o : Option Listed). snapped (undated_in parts) until (take n places) ++ found o)
+    (c.in_ok-found.ensures ∙ (λ j. option_map (lasting (slice_index until (c.from.ensures j))) (undated_at (undated_in (c.deref.ensures.value j)) (c.from.ensures j))))
+    ∙ one_more_snapped (undated_in parts) until places n c.loop-place-test.true

@@ -1,5 +1,5 @@
 #!/usr/bin/env bash
-# Times the leases by themselves: renewals of drawn leases, and looks for the expired ones, each less the time in which the leases
+# Times the leases by themselves: renewals of drawn leases, snapshots, and looks for the expired ones, each less the time in which the leases
 # are put. Prints nanoseconds of processor time for each. BEFORE may name another build of the program, which is timed in turn with it.
 set -euo pipefail
 top=$(cd "$(dirname "${BASH_SOURCE[0]}")/.." && pwd)
@@ -32,6 +32,9 @@ each() {
 
 for count in 50 1000 10000 60000; do
     echo "renewal of one of $count:$(each renew "$count")"
+done
+for count in 1000 20000 60000; do
+    echo "snapshot of $count:$(each snapshot "$count")"
 done
 for task in "1000 0" "60000 0" "60000 10" "60000 100" "60000 1000" "60000 10000" "60000 60000"; do
     read -r count expired <<< "$task"
